@@ -8,7 +8,7 @@ use Rattle.csv.specs.declared.reader.Reader.{Reader}
 use Rattle.bsi_reading.specs.Sources.{max_records, Counts, End, GivesFirst, GivesFirstRows, HasEnded, HasEndedBy, HasGivenRows, HasStopped, HasTaken, IsWithoutFault, Layout, Source}
 use Rattle.bsi_reading.specs.declared.rows.SourceFault.{SourceFault}
 use Rattle.bsi_feeding.specs.declared.feeding.FeedEnd.{FeedEnd}
-use Rattle.bsi_feeding.specs.Feeding.{FailsNow, GivesNext, GivesNone, GivesRows, HasFailed, HasFed, HasOnly, IsReadOut, StopsAfter}
+use Rattle.bsi_feeding.specs.Feeding.{CountsBad, FailsNow, GivesNext, GivesNone, GivesRows, HasFailed, HasFed, HasOnly, IsReadOut, StopsAfter, TakesOn}
 
 -- what follows for each value follows for one that is there
 pub of_some : {A : Type 0} {P Q : A → Type 0} (found : Option A) → IfSome found P → ((x : A) → P x → Q x) → IfSome found Q
@@ -41,6 +41,20 @@ module _ {R : Type 0} (rem : R → Option (List ℕ)) where
     behind = gave.behind;
   }
 
+  -- all that was taken of a reader that gave rows
+  taken_in_all : JoinsTaken → (layout : Layout) (old new : Reader R) (before after : Counts) (rows : List Entries) (end : End)
+      → HasGivenRows rem layout old new before after rows end → (at : Reader R) × HasTaken rem layout old at before after rows
+  taken_in_all join layout old new before after rows end gave = by end gave.behind
+    where
+      and_none : (at : Reader R) → HasTaken rem layout gave.at at gave.middle after [] → HasTaken rem layout old at before after rows
+      and_none at none =
+          subst (λ xs. HasTaken rem layout old at before after xs) (append-nil rows) (join layout old gave.at at before gave.middle after rows [] gave.taken none)
+
+      by : (end : End) → Behind layout gave.at new gave.middle after end → (at : Reader R) × HasTaken rem layout old at before after rows
+      by None behind = (gave.at, subst (λ (counts : Counts). HasTaken rem layout old gave.at before counts rows) behind.1 gave.taken)
+      by (Some (Ok done)) behind = (behind.at, and_none behind.at behind.taken)
+      by (Some (Err fault)) behind = (behind.at, and_none behind.at behind.taken)
+
   -- a source has given these rows, and may go on or has ended
   pub record HasGone (old new : Source R) (rows : List Entries) : Type 0 where
     pub layout : new.layout ≡ old.layout
@@ -69,6 +83,21 @@ module _ {R : Type 0} (rem : R → Option (List ℕ)) where
             let same = subst (λ end. MatchOption end (HasGivenRows rem old.layout old.input new.input old.counts new.counts rows new.end) (λ e. (rows ≡ []) × (new ≡ old))) is gone.given in
             absurd (cc (is, going, ap (λ (s : Source R). s.end) same.1))
 
+    -- the records were counted
+    pub took_on : JoinsTaken → TakesOn rem old new
+    took_on join = by old.end refl
+      where
+        takes : End → Type 0
+        takes end =
+            MatchOption end ((xs : List Entries) × (at : Reader R) × HasTaken rem old.layout old.input at old.counts new.counts xs) (λ e. new.counts ≡ old.counts)
+
+        by : (end : End) → old.end ≡ end → TakesOn rem old new
+        by None is =
+            let all = taken_in_all join old.layout old.input new.input old.counts new.counts rows new.end (was_open is) in subst takes (sym is) (rows, all.0, all.1)
+        by (Some e) is =
+            let same = subst (λ end. MatchOption end (HasGivenRows rem old.layout old.input new.input old.counts new.counts rows new.end) (λ e. (rows ≡ []) × (new ≡ old))) is gone.given in
+            subst takes (sym is) (ap (λ (s : Source R). s.counts) same.1)
+
     -- a source that goes on gave rows more
     gone_on : JoinsTaken → (next : Source R) (more : List Entries) → GivesNext rem new next more → HasGone old next (rows ++ more)
     gone_on join next more gives =
@@ -92,6 +121,40 @@ module _ {R : Type 0} (rem : R → Option (List ℕ)) where
   pub record HasPassed (old new : Source R) (rows : List Entries) : Type 0 where
     pub gives : GivesFirstRows rem old new rows
     pub gone : HasGone old new rows
+
+  -- a source that gave rows counted the bad ones among them
+  pub next_taken : JoinsTaken → (old new : Source R) (rows : List Entries) → GivesNext rem old new rows → TakesOn rem old new
+  next_taken join old new rows gives =
+      let all = taken_in_all join old.layout old.input new.input old.counts new.counts rows new.end gives.given in
+      subst (λ (end : End). MatchOption end ((xs : List Entries) × (at : Reader R) × HasTaken rem old.layout old.input at old.counts new.counts xs) (λ e. new.counts ≡ old.counts))
+      (sym gives.before) (rows, all.0, all.1)
+
+  -- a source that gave no row more counted the bad ones of all records that were left
+  pub none_taken : (old new : Source R) → GivesNone rem old new → TakesOn rem old new
+  none_taken old new none = by old.end refl
+    where
+      takes : End → Type 0
+      takes end =
+          MatchOption end ((xs : List Entries) × (at : Reader R) × HasTaken rem old.layout old.input at old.counts new.counts xs) (λ e. new.counts ≡ old.counts)
+
+      given : End → Type 0
+      given end = MatchOption end (HasEnded rem old.layout old.input old.counts new.counts) (λ e. (e ≡ Ok tt) × (new ≡ old))
+
+      by : (end : End) → old.end ≡ end → TakesOn rem old new
+      by None is = (let ended = subst given is none.ended in subst takes (sym is) ([], ended.at, ended.taken))
+      by (Some e) is = subst takes (sym is) (ap (λ (s : Source R). s.counts) (subst given is none.ended).1)
+
+  -- a source of which nothing more was taken
+  pub none_more : (source : Source R) → HasTaken rem source.layout source.input source.input source.counts source.counts [] → TakesOn rem source source
+  none_more source none = by source.end refl
+    where
+      takes : End → Type 0
+      takes end =
+          MatchOption end ((xs : List Entries) × (at : Reader R) × HasTaken rem source.layout source.input at source.counts source.counts xs) (λ e. source.counts ≡ source.counts)
+
+      by : (end : End) → source.end ≡ end → TakesOn rem source source
+      by None is = subst takes (sym is) ([], source.input, none)
+      by (Some e) is = subst takes (sym is) refl
 
   module _ (source : Source R) where
     gone_none : HasTaken rem source.layout source.input source.input source.counts source.counts [] → HasGone source source []
@@ -246,16 +309,49 @@ module _ {R : Type 0} (rem : R → Option (List ℕ)) where
               let ended = subst (λ end. MatchOption end (HasEnded rem after.layout after.input after.counts rest.counts) (λ e. (e ≡ Ok tt) × (rest ≡ after))) ends none.ended in
               absurd (cc (ends, failed, ended.0))
 
+      -- the bad ones of all records that were taken, also of rows that were not sent
+      counts_bad : JoinsTaken → (rest : Source R) (bad : ℕ) → TakesOn rem after rest → bad ≡ rest.counts.bad → source.end ≡ None → CountsBad rem source has.rows bad
+      counts_bad join rest bad takes is going = by after.end refl
+        where
+          by : (end : End) → after.end ≡ end → CountsBad rem source has.rows bad
+          by None ends =
+              let more = subst (λ end. MatchOption end ((xs : List Entries) × (at : Reader R) × HasTaken rem after.layout after.input at after.counts rest.counts xs) (λ e. rest.counts ≡ after.counts))
+              ends takes in
+              let on = subst (λ (l : Layout). HasTaken rem l after.input more.1 after.counts rest.counts more.0) has.passed.gone.layout more.2 in (
+                more.0,
+                record {
+                  at = more.1;
+                  end = rest.counts;
+                  taken = join source.layout source.input after.input more.1 source.counts after.counts rest.counts has.rows more.0
+                      (is_open source after has.rows has.passed.gone ends).1 on;
+                  bad_is = is;
+                },
+              )
+          by (Some e) ends =
+              let same = subst (λ end. MatchOption end ((xs : List Entries) × (at : Reader R) × HasTaken rem after.layout after.input at after.counts rest.counts xs) (λ e. rest.counts ≡ after.counts))
+              ends takes in
+              let taken = taken_in_all join source.layout source.input after.input source.counts after.counts has.rows after.end (was_open source after has.rows has.passed.gone going) in (
+                [],
+                record {
+                  at = taken.0;
+                  end = after.counts;
+                  taken = subst (λ xs. HasTaken rem source.layout source.input taken.0 source.counts after.counts xs) (sym (append-nil has.rows)) taken.1;
+                  bad_is = is ∙ ap (λ (counts : Counts). counts.bad) same;
+                },
+              )
+
       -- a feeder that sends no more has sent the first rows, and all of them where the source gives none more
       pub fed_first : JoinsTaken → (end : FeedEnd) → IfSome end.closing (λ closing. closing.rows ≡ now.sent) → end.accepted ≡ n
+          → (last : Source R) → TakesOn rem after last → end.bad ≡ last.counts.bad
           → (end.stopped ≡ false → end.fault ≡ None → (rest : Source R) × GivesFirst rem after rest None × GivesNone rem after rest × (end.bad ≡ rest.counts.bad))
           → HasFed rem source feeder.sent end
-      fed_first join end sent many over = record {
+      fed_first join end sent many last takes bad over = record {
         rows = has.rows;
         sent = of_some end.closing sent (λ closing is. is ∙ has.sent);
         many = has.many ∙ sym many;
         first = λ all others still. (let was = has.passed.gives all others still in (was.0, sym was.1));
         given = gave_few source after has.rows has.passed.gone;
+        counted = counts_bad join last end.bad takes bad;
         all = λ going fine. (let none = over going fine in sent_all none.0 end.bad none.1 none.2 none.3);
         out = λ going fine. (let none = over going fine in read_out join none.0 end.bad none.2 none.3);
       }

@@ -1,13 +1,14 @@
 -- What a source gives at once: a row, or the rows of blocks.
-use Rattle.std.proofs.Common.{◌≡◌, ℕ, ◌<◌, ◌≤◌, List, [], ◌∷◌, ◌++◌, Option, Some, None, OnOk, IfErr, length, refl, sym, ap, ap₂, ◌∙◌, subst, arith}
+use Rattle.std.proofs.Common.{◌≡◌, ℕ, ◌<◌, ◌≤◌, List, [], ◌∷◌, ◌++◌, Option, Some, None, OnOk, OnErr, IfErr, length, refl, sym, ap, ap₂, ◌∙◌, subst, arith}
 use Rattle.std.specs.Prelude.{◌≢◌, Result, Ok, Err, MatchOption}
 use Rattle.std.proofs.lemmas.List.{append-nil, length-map, map-append}
+use Rattle.csv.specs.declared.reader.Reader.{Reader}
 use Rattle.bsi_rows.specs.RowBlocks.{entries_of, fed_as, RowBlock}
 use Rattle.bsi_rows.specs.Rows.{Entries, FedRow}
 use Rattle.bsi_reading.specs.Sources.{max_records, Counts, End, Fills, GivesFirst, HasEnded, HasGivenRows, HasLeft, HasStopped, HasTaken, Source}
 use Rattle.bsi_reading.specs.declared.rows.SourceFault.{SourceFault}
 use Rattle.bsi_reading.specs.declared.rows.SourceFault.TheVariants.{NoMemory}
-use Rattle.bsi_feeding.specs.Feeding.{FailsNow, GivesNext, GivesNone}
+use Rattle.bsi_feeding.specs.Feeding.{FailsNow, GivesNext, GivesNone, TakesOn}
 use Rattle.bsi_feeding.proofs.Feeds.{is_open, passed_more, was_open, Behind, HasPassed, JoinsTaken}
 
 -- the entries of rows, each of which is a feeder's
@@ -39,6 +40,25 @@ module _ {R : Type 0} (rem : R → Option (List ℕ)) (old new : Source R) where
       }
       by (Some (Ok done)) is = absurd (cc (ended is).0)
       by (Some (Err fault)) is = absurd (cc (failed fault is).0)
+
+  -- or a fault in its place
+  pub one_fails : (fault : SourceFault) → ((f : SourceFault) → old.end ≡ Some (Err f) → (◌≡◌ {A = Result (Option Entries) SourceFault} (Err fault) (Err f)) × (new ≡ old))
+      → (old.end ≡ Some (Ok tt) → (◌≡◌ {A = Result (Option Entries) SourceFault} (Err fault) (Ok None)) × (new ≡ old))
+      → (old.end ≡ None → HasStopped rem old.layout old.input old.counts new.counts fault × (new.end ≡ Some (Err fault))) → FailsNow rem old fault × TakesOn rem old new
+  one_fails fault failed ended stopped = by old.end refl
+    where
+      fails : End → Type 0
+      fails end = MatchOption end ((t : Counts) × HasStopped rem old.layout old.input old.counts t fault) (λ e. e ≡ Err fault)
+
+      takes : End → Type 0
+      takes end = MatchOption end ((xs : List Entries) × (at : Reader R) × HasTaken rem old.layout old.input at old.counts new.counts xs) (λ e. new.counts ≡ old.counts)
+
+      by : (end : End) → old.end ≡ end → FailsNow rem old fault × TakesOn rem old new
+      by None is =
+          let stops = (stopped is).0 in
+          (subst fails (sym is) (new.counts, stops), subst takes (sym is) ([], stops.at, stops.taken))
+      by (Some (Ok done)) is = absurd (cc (ended is).0)
+      by (Some (Err e)) is = (subst fails (sym is) (cc ((failed e is).0)), subst takes (sym is) (ap (λ (s : Source R). s.counts) (failed e is).1))
 
   -- the rows of a block that had none
   module _ (feeder : ℕ) (start full : RowBlock) (empty : start.rows ≡ []) (r : Result (Unit {0}) SourceFault)
@@ -209,6 +229,11 @@ pub refused_now : {R : Type 0} (rem : R → Option (List ℕ)) (source : Source 
 refused_now rem source none going =
     subst (λ end. MatchOption end ((t : Counts) × HasStopped rem source.layout source.input source.counts t NoMemory) (λ e. e ≡ Err NoMemory)) (sym going)
     (source.counts, record { at = source.input; taken = none; later = λ is. absurd (cc is); too_long = λ is. absurd (cc is) })
+
+-- what holds anyway holds where there is an error
+pub so_err : {A B P : Type 0} (r : Result A B) → P → OnErr r P
+so_err (Ok x) is = tt
+so_err (Err x) is = is
 
 -- the entries of rows and of others behind them
 pub entries_append : (xs ys : List FedRow) → entries_of (xs ++ ys) ≡ entries_of xs ++ entries_of ys

@@ -37,6 +37,17 @@ pub record GivesRows {R : Type 0} (rem : R → Option (List ℕ)) (source : Sour
   pub taken : HasTaken rem source.layout source.input at source.counts end rows
   pub few : source.counts.taken ≤ max_records → end.taken ≤ max_records
 
+-- of the records that were taken of a source, of which the good ones have these rows, and those before so many are bad
+pub record IsCounted {R : Type 0} (rem : R → Option (List ℕ)) (source : Source R) (rows : List Entries) (bad : ℕ) : Type 0 where
+  pub at : Reader R
+  pub end : Counts
+  pub taken : HasTaken rem source.layout source.input at source.counts end rows
+  pub bad_is : bad ≡ end.bad
+
+-- so many are bad of the records of these rows, and of others behind them that were taken too
+abbrev pub CountsBad : {R : Type 0} → (R → Option (List ℕ)) → Source R → List Entries → ℕ → Type 0
+CountsBad rem source rows bad = (unsent : List Entries) × IsCounted rem source (rows ++ unsent) bad
+
 -- the rows that a feeder read of a source and sent after others, and how it says that it ended. A closing carries them
 pub record HasFed {R : Type 0} (rem : R → Option (List ℕ)) (source : Source R) (before : List Entries) (end : FeedEnd)
     : Type 0 where
@@ -45,6 +56,7 @@ pub record HasFed {R : Type 0} (rem : R → Option (List ℕ)) (source : Source 
   pub many : length rows ≡ end.accepted
   pub first : BeginsWith rem source rows
   pub given : source.end ≡ None → GivesRows rem source rows
+  pub counted : source.end ≡ None → CountsBad rem source rows end.bad
   pub all : end.stopped ≡ false → end.fault ≡ None → HasOnly rem source rows end.bad
   pub out : end.stopped ≡ false → end.fault ≡ None → source.end ≡ None → IsReadOut rem source rows end.bad
 
@@ -77,16 +89,24 @@ FailsNow rem source fault =
     MatchOption source.end ((end : Counts) × HasStopped rem source.layout source.input source.counts end fault)
     (λ end. end ≡ Err fault)
 
+-- some next records of a source were taken and counted, or it had ended and counts no more
+abbrev pub TakesOn : {R : Type 0} → (R → Option (List ℕ)) → Source R → Source R → Type 0
+TakesOn {R} rem old new =
+    MatchOption old.end
+    ((rows : List Entries) × (at : Reader R) × HasTaken rem old.layout old.input at old.counts new.counts rows)
+    (λ end. new.counts ≡ old.counts)
+
 -- a source gave no row more: all records that were left are bad, or it had ended with all that there is
 pub record GivesNone {R : Type 0} (rem : R → Option (List ℕ)) (old new : Source R) : Type 0 where
   pub ended : MatchOption old.end (HasEnded rem old.layout old.input old.counts new.counts)
       (λ end. (end ≡ Ok tt) × (new ≡ old))
   pub few : new.counts.taken ≤ max_records
 
--- what was gathered in a batch: the next rows of a source. Where there is none, none is left, or the source answered
--- the fault
+-- what was gathered in a batch: the next rows of a source, of which the records are counted. Where there is none, none
+-- is left, or the source answered the fault
 pub record IsGathered {R : Type 0} (rem : R → Option (List ℕ)) (old new : Source R) (rows : List Entries)
     (fault : Option SourceFault) : Type 0 where
+  pub taken : TakesOn rem old new
   pub some : 0 < length rows → GivesNext rem old new rows
   pub none : length rows ≡ 0 → MatchOption fault (GivesFirst rem old new None × GivesNone rem old new) (FailsNow rem old)
 
@@ -95,12 +115,13 @@ abbrev pub max_batch_rows : ℕ
 max_batch_rows = 1024
 
 -- what came of feeding the next rows: the first rows that the source still had were sent, at most a batch, or nothing
--- was, and there is then none left where it is over
+-- was, and there is then none left where it is over. The records that were taken are counted.
 abbrev pub IsProgress : {R : Type 0} → (R → Option (List ℕ)) → Sending → Source R → Progress → Sending → Source R → Type 0
 IsProgress rem feeder source (progress.Sent many) after rest =
     (rows : List Entries) × (length rows ≡ many) × (many ≤ max_batch_rows)
     × (after ≡ with_look (with_sent_rows feeder rows) after.look) × GivesNext rem source rest rows
 IsProgress rem feeder source progress.Over after rest = (after ≡ feeder) × GivesFirst rem source rest None
     × GivesNone rem source rest
-IsProgress rem feeder source progress.Stopped after rest = after ≡ with_look feeder after.look
+IsProgress rem feeder source progress.Stopped after rest = (after ≡ with_look feeder after.look) × TakesOn rem source rest
 IsProgress rem feeder source (progress.Failed fault) after rest = (after ≡ feeder) × FailsNow rem source fault
+    × TakesOn rem source rest

@@ -6,7 +6,7 @@
 ghost use Rattle.std.specs.Prelude.{◌≡◌, ◌<◌, ◌≤◌, ◌*◌, [], IfOk, IfSome, None, OnErr, length, true, false};
 ghost use Rattle.bsi_rings.specs.Rings.{with_look, with_sent, with_sent_rows, Closes};
 ghost use Rattle.bsi_rows.specs.RowBlocks.{entries_of, max_block_rows, no_block_rows, HaveSameLimits};
-ghost use Rattle.bsi_feeding.specs.Feeding.{HasFailed, HasFed, IsProgress, IsGathered};
+ghost use Rattle.bsi_feeding.specs.Feeding.{HasFailed, HasFed, IsProgress, IsGathered, TakesOn};
 
 use crate::{Gate, Pause};
 use bsi_reading::{RowSource, SourceFault};
@@ -29,7 +29,8 @@ const MAX_YIELDS: u32 = 16;
 pub struct FeedEnd {
     /// How many rows were accepted.
     pub accepted: u64,
-    /// How many records of the source were bad.
+    /// How many records of the source were bad, of those that were taken. After a stop or a fault some of them may stand
+    /// behind rows that were not sent.
     pub bad: u64,
     /// Whether a row was not sent, because the gate stopped the feeder or because the row does not fit the feeder's
     /// schema.
@@ -73,9 +74,10 @@ pub fn feed<R: Wait, I: Read + Drop, G: Gate>(
     ensures number { IfSome result.closing (λ closing. closing.number ≡ feeder.number) }
     ensures channel { IfSome result.closing (λ closing. closing.channel ≡ feeder.channel) }
 
-    // The rows that were accepted are the first good ones that the source still had. Where nothing stopped the feeder
-    // and there is no fault, they are all of them, and the bad records are all others. A closing carries what was sent
-    // before, and then them.
+    // The rows that were accepted are the first good ones that the source still had. The bad records are those that were
+    // taken up to them, and with rows behind them that were not sent. Where nothing stopped the feeder and there is no
+    // fault, the rows are all good ones, and the bad records all others. A closing carries what was sent before, and
+    // then the rows.
     ensures fed { HasFed I.remaining source feeder.sent result }
 
     // A fault is one at which the source stops once it has given so many rows. Refused memory may stop it anywhere.
@@ -183,7 +185,8 @@ fn fill_batch<I: Read + Drop>(
     ensures few { length batch.new.rows ≤ max_block_rows * blocks }
     ensures given { IfOk result
         (IsGathered I.remaining source.old source.new (entries_of batch.new.rows)) }
-    ensures refused { OnErr result (source.old.end ≡ None) }
+    ensures refused { OnErr result
+        ((source.old.end ≡ None) × TakesOn I.remaining source.old source.new) }
 {
     'fills: for _ in 0..blocks {
         block.clear();

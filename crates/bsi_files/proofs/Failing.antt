@@ -181,7 +181,7 @@ module _ {R : Type 0} (rem : R → Option (List ℕ)) where
       subst (λ (end : End). MatchOption end (StopsAfter rem source many fault) (λ e. e ≡ Err fault)) begins.end_is failed
 
   -- the header was read
-  begun_header : (source : Source R) (text : List ℕ) → StandsAfter rem source.layout source.input (strip_bom text)
+  pub begun_header : (source : Source R) (text : List ℕ) → StandsAfter rem source.layout source.input (strip_bom text)
       → HasReadFirst text (reader_state source.input) (source_of rem source.input) (source.layout.header ∷ [])
   unfolding Reached
   begun_header source text stands = by (next_record default_config st.StartRecord [] [] (strip_bom text)) refl stands
@@ -281,7 +281,7 @@ module _ {R : Type 0} (rem : R → Option (List ℕ)) where
       let file : RowFile = record { rows = here.0; bad = here.1 } in
       (file ∷ rest.0, (row_file rem law schema reader s text here.0 here.1 begun.0 (cc (is)) here.2, rest.1))
 
-  texts_many : (schema : Declared) (readers : List R) (sources : List (Source R)) (texts : List (List ℕ)) → AreMatched (Begins rem schema) readers sources
+  pub texts_many : (schema : Declared) (readers : List R) (sources : List (Source R)) (texts : List (List ℕ)) → AreMatched (Begins rem schema) readers sources
       → map rem readers ≡ map (λ text. Some text) texts → length texts ≡ length sources
   texts_many schema readers sources texts begun is =
       sym (map_long (λ text. Some text) texts) ∙ (sym (ap (λ (os : List (Option (List ℕ))). length os) is)

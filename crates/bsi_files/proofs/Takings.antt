@@ -13,7 +13,7 @@ use Rattle.bsi_reading.specs.Sources.{Source}
 use Rattle.bsi_files.specs.Ends.{tasks, AreClosings, AreEndsOf, AreFeeders, IsFeedEnd}
 use Rattle.bsi_files.specs.Feds.{AreFedFrom, IsAllFed, IsFedFrom}
 use Rattle.bsi_files.specs.Takings.{all_taken, AreLoaded, AreTold, IsDrained, IsFine, IsFullAt, IsFedOf, IsLoaded, IsTold, KeepsOthers, KeepsTold, TakesOnlyOf}
-use Rattle.bsi_feeding.specs.Feeding.{HasFed, IsReadOut}
+use Rattle.bsi_feeding.specs.Feeding.{CountsBad, HasFed, IsReadOut}
 use Rattle.bsi_feeding.specs.declared.feeding.FeedEnd.{FeedEnd}
 use Rattle.bsi_asks.specs.declared.fed.Fed.{Fed}
 
@@ -299,6 +299,8 @@ module _ {R : Type 0} (rem : R → Option (List ℕ)) where
           sym (from ∙ (ap (λ (t : Taking). t.taken) taken ∙ (sent ∙ ap (λ xs. xs ++ has.rows) fresh))) in
           record {
             many = sym (ap length same) ∙ (has.many ∙ sym loaded.kept.accepted);
+            counted = λ going.
+                subst (λ xs. CountsBad rem source xs fed.bad) same (subst (λ b. CountsBad rem source has.rows b) (sym loaded.kept.bad) (has.counted going));
             out = λ never going.
                 let out = has.out (sym loaded.kept.stopped ∙ fine.going never) (sym loaded.kept.fault ∙ fine.fault) going in
                 subst (λ xs. IsReadOut rem source xs fed.bad) same (subst (λ b. IsReadOut rem source has.rows b) (sym loaded.kept.bad) out);

@@ -3,14 +3,15 @@ use Rattle.std.specs.Prelude.{◌≡◌, ⊤, ℕ, suc, List, [], ◌∷◌, Opt
 use Rattle.bsi_rows.specs.Runs.{rows_from}
 use Rattle.bsi_rows.specs.Rows.{FedRow}
 use Rattle.bsi_reading.specs.Sources.{Source}
-use Rattle.bsi_feeding.specs.Feeding.{IsReadOut}
+use Rattle.bsi_feeding.specs.Feeding.{CountsBad, IsReadOut}
 use Rattle.bsi_asks.specs.declared.fed.Fed.{Fed}
 
--- the rows of a feeder in a list are as many as were accepted and, where no gate stops it, those of its source, which
--- was read out
+-- the rows of a feeder in a list are as many as were accepted, the bad records are those of the records that were taken
+-- of its source and, where no gate stops it, the rows are those of its source, which was read out
 pub record IsFedFrom {R : Type 0} (rem : R → Option (List ℕ)) (stops : Bool) (rows : List FedRow) (n : ℕ)
     (source : Source R) (fed : Fed) : Type 0 where
   pub many : length (rows_from n rows) ≡ fed.accepted
+  pub counted : source.end ≡ None → CountsBad rem source (rows_from n rows) fed.bad
   pub out : stops ≡ false → source.end ≡ None → IsReadOut rem source (rows_from n rows) fed.bad
 
 abbrev pub AreFedFrom : {R : Type 0} → (R → Option (List ℕ)) → Bool → List FedRow → ℕ → List (Source R) → List Fed

@@ -12,6 +12,7 @@ ghost use Rattle.bsi_asks.specs.RowFiles.{fed_counts};
 ghost use Rattle.bsi_files.specs.Feds.{IsAllFed};
 ghost use Rattle.bsi_asks.specs.Faults.{is_early, is_late};
 ghost use Rattle.bsi_files.specs.Headers.{HasHeader};
+ghost use Rattle.bsi_files.specs.Parts.{HasLoadedParts};
 ghost use Rattle.bsi_files.specs.RunFaults.{IsFaultOf, IsFaultOver, IsLoadFault};
 ghost use Rattle.bsi_asks.specs.Runs.{HasLoaded, IsRun};
 ghost use Rattle.bsi_asks.specs.Writing.{Leaves, WhereFilesKnown, WhereKnown, WritesAll};
@@ -116,6 +117,11 @@ pub fn load_files<
     ensures rows { IfOk result (λ loaded. G.STOPS ≡ false → (texts : List (List ℕ)) →
         map I.remaining sources.items ≡ map Some texts →
         HasLoaded schema limit texts loaded.table.rows (map fed_counts loaded.fed.items)) }
+
+    // Whatever a gate stops.
+    ensures parts { IfOk result (λ loaded. (texts : List (List ℕ)) →
+        map I.remaining sources.items ≡ map Some texts →
+        HasLoadedParts schema limit texts loaded.table.rows (map fed_counts loaded.fed.items)) }
 {
     let alloc = rt.alloc();
     let sources = begin_all(alloc, &schema, sources)?;

@@ -34,6 +34,16 @@ fn the_first_row_file_that_fails_is_told(rt: HostRuntime) {
     assert!(rt; ends(&rt, files, told, b""));
 }
 
+#[test]
+fn a_full_index_comes_before_the_reader_that_fails(rt: HostRuntime) {
+    let files = RunInputs {
+        schema: text("column,qty,slices,3\nlimit,1\n"),
+        asks: text(""),
+        rows: &[broken("qty\n1\n2\n")],
+    };
+    assert!(rt; ends(&rt, files, Err(FilesFault::IndexFull), b""));
+}
+
 // Follows the calls of feeder 1: one for each row that it tries, in order, and one at its end. Feeder 0 has no row.
 // Counts as a stop where the end names the first row of a batch that was not accepted.
 #[derive(Drop)]

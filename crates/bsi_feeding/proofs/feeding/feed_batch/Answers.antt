@@ -3,7 +3,7 @@ use Rattle.std.proofs.lemmas.List.{length-map}
 use Rattle.bsi_rows.specs.RowBlocks.{entries_of}
 use Rattle.bsi_rows.specs.Rows.{FedRow}
 use Rattle.bsi_reading.proofs.Taking.{taken_none}
-use Rattle.bsi_feeding.specs.Feeding.{max_batch_rows}
+use Rattle.bsi_feeding.specs.Feeding.{max_batch_rows, TakesOn}
 use Rattle.bsi_feeding.proofs.Filled.{refused_now}
 use Rattle.bsi_feeding.proofs.feeding.feed_batch.Goals as goal
 
@@ -12,8 +12,8 @@ pub returns-in_default : goal.returns-in_default
 returns-in_default g c =
     let rem = g.I.Read.remaining in
     let source = c.args.source.now in
-    let going : c.args.source.now.end ≡ None = search rules in
-    (refl {a = c.args.feeder.now}, refused_now rem source (taken_none rem source.layout source.input source.counts) going)
+    let refused : (source.end ≡ None) × TakesOn rem source c.fill_batch.new.source = search rules in
+    (refl {a = c.args.feeder.now}, refused_now rem source (taken_none rem source.layout source.input source.counts) refused.0, refused.1)
 
 -- the ring has places for the batch
 pub send_batch-requires : goal.send_batch-requires

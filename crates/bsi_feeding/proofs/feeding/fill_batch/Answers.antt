@@ -1,4 +1,4 @@
-use Rattle.std.proofs.Common.{◌≡◌, ◌++◌, [], None, length, refl, ap, subst, sym, arith, rules, ◌∙◌}
+use Rattle.std.proofs.Common.{◌≡◌, ◌<◌, ◌++◌, [], None, length, refl, ap, subst, sym, arith, rules, ◌∙◌}
 use Rattle.std.proofs.lemmas.List.{append-nil, length-append, length-map}
 use Rattle.bsi_schema.specs.Columns.{Declared}
 use Rattle.bsi_rows.specs.RowBlocks.{entries_of, HaveSameLimits, RowBlock}
@@ -10,8 +10,8 @@ use Rattle.bsi_reading.proofs.Joining.{taken_both}
 use Rattle.bsi_reading.proofs.Taking.{taken_none}
 use Rattle.bsi_reading.specs.Sources.{GivesFirst, Source}
 use Rattle.bsi_feeding.specs.Feeding.{FailsNow, GivesNone}
-use Rattle.bsi_feeding.proofs.Feeds.{passed_none, HasPassed}
-use Rattle.bsi_feeding.proofs.Filled.{entries_append, fill_fails, fill_over, no_entries_of, passed_fill, passed_next, same_block}
+use Rattle.bsi_feeding.proofs.Feeds.{passed_none, took_on, HasPassed}
+use Rattle.bsi_feeding.proofs.Filled.{entries_append, fill_fails, fill_next, fill_over, no_entries_of, passed_fill, passed_next, passed_open, same_block, so_err}
 use Rattle.bsi_feeding.proofs.feeding.fill_batch.Goals as goal
 
 pub fills-init : goal.fills-init
@@ -44,6 +44,7 @@ returns-in-Err-clause-given g c =
     let has = subst (HasPassed rem c.args.source.now new) (ap (λ xs. rows ++ xs) none ∙ append-nil rows)
     (passed_fill rem old new 0 c.clear.new.self full empty c.fill.result e.failed e.ended e.filled (taken_both rem) e.stopped e.same e.few c.args.source.now rows i.passed) in
     record {
+      taken = took_on rem c.args.source.now new rows has.gone (taken_both rem);
       some = λ some. passed_next rem c.args.source.now new rows has e.few some;
       none = λ nothing.
           subst (λ (s : Source g.row.I.Denot). FailsNow rem s c.in-Err.fault) (i.start (omega (arith, nothing, length-map c.fills.batch.rows (λ (row : FedRow). row.1))))
@@ -65,6 +66,7 @@ returns-then-len-eq0-clause-given g c =
     let has = subst (HasPassed rem c.args.source.now new) (ap (λ xs. rows ++ xs) (no_entries_of full.rows zero) ∙ append-nil rows)
     (passed_fill rem old new 0 c.clear.new.self full empty c.fill.result e.failed e.ended e.filled (taken_both rem) e.stopped e.same e.few c.args.source.now rows i.passed) in
     record {
+      taken = took_on rem c.args.source.now new rows has.gone (taken_both rem);
       some = λ some. passed_next rem c.args.source.now new rows has e.few some;
       none = λ nothing.
           subst (λ (s : Source g.row.I.Denot). GivesFirst rem s new None × GivesNone rem s new) (i.start (omega (arith, nothing, length-map c.fills.batch.rows (λ (row : FedRow). row.1))))
@@ -109,4 +111,36 @@ fills-preserved g c =
           c.args.source.now (entries_of c.fills.batch.rows) i.passed);
       start = λ none. absurd (omega (arith, none, many, c.len.ensures.len, c.if-len-eq0.false));
       taken = λ some. e.few;
+    }
+
+-- memory for the rows of the block was refused
+pub returns-in_err-map_err-clause-refused : goal.returns-in_err-map_err-clause-refused
+returns-in_err-map_err-clause-refused g c =
+    let rem = g.I.Read.remaining in
+    let first = c.args.source.now in
+    let old = c.fills.source in
+    let new = c.fill.new.self in
+    let e = c.fill.ensures in
+    let rows = entries_of c.fills.batch.rows in
+    let empty = ap (λ (b : RowBlock). b.rows) c.clear.ensures in
+    let full = c.fill.new.block in
+    let next = fill_next rem old new 0 c.clear.new.self full empty c.fill.result e.failed e.ended e.filled e.later c.in_default.is e.same e.few
+    (λ none. absurd (omega (arith, none, c.len.ensures.len, c.if-len-eq0.false))) in
+    let has = passed_fill rem old new 0 c.clear.new.self full empty c.fill.result e.failed e.ended e.filled (taken_both rem) e.stopped e.same e.few first rows c.fills.invariant.passed in
+    so_err c.from_residual.result
+    (passed_open rem first old rows c.fills.invariant.passed next.1.before, took_on rem first new (rows ++ entries_of full.rows) has.gone (taken_both rem))
+
+-- all blocks were filled
+pub returns-clause-given : goal.returns-clause-given
+returns-clause-given g c =
+    let rem = g.I.Read.remaining in
+    let first = c.args.source.now in
+    let i = c.fills.invariant in
+    let rows = entries_of c.fills.batch.rows in
+    let many = length-map c.fills.batch.rows (λ (row : FedRow). row.1) in
+    let some : 0 < length c.fills.batch.rows = omega (arith, i.some, c.requires.some, c.fills-test.false) in
+    record {
+      taken = took_on rem first c.fills.source rows i.passed.gone (taken_both rem);
+      some = λ there. passed_next rem first c.fills.source rows i.passed (i.taken some) there;
+      none = λ nothing. absurd (omega (arith, nothing, many, some));
     }

@@ -9,6 +9,7 @@ use Rattle.bsi_files.specs.RunFaults.{IsFaultOf}
 use Rattle.bsi_asks.specs.declared.faults.FilesFault.TheVariants.{NoMemory}
 use Rattle.bsi_files.proofs.Failing.{headers_counted, headers_fault_of, headers_known, headers_late, load_counted, load_late, run_fault_of}
 use Rattle.bsi_files.proofs.Files.{as_many, loaded_of, matched_long}
+use Rattle.bsi_files.proofs.Parts.{loaded_parts}
 use Rattle.bsi_asks.proofs.Passing.{if_err, if_ok, so_ok}
 use Rattle.bsi_files.proofs.run.load_files.Goals as goal
 
@@ -41,6 +42,14 @@ returns-clause-rows g c =
     let sources = c.in_ok-sources.sources.items in
     if_ok c.load_in-loaded.result
     (λ loaded all never texts is. loaded_of rem (is_whole rem) g.G.Stopping.STOPS never c.args.schema c.args.limit readers sources texts
+    loaded.table.rows loaded.fed.items c.in_ok-sources.ensures.begun is all)
+    c.load_in-loaded.ensures.fed
+
+pub returns-clause-parts : goal.returns-clause-parts
+returns-clause-parts g c =
+    let rem = g.I.Read.remaining in
+    if_ok c.load_in-loaded.result
+    (λ loaded all texts is. loaded_parts rem g.G.Stopping.STOPS c.args.schema c.args.limit c.args.sources.items c.in_ok-sources.sources.items texts
     loaded.table.rows loaded.fed.items c.in_ok-sources.ensures.begun is all)
     c.load_in-loaded.ensures.fed
 
