@@ -1,9 +1,9 @@
 -- Where the answers to the records of a text stand: the records that were read, and the lines that were written.
-use Rattle.std.proofs.Common.{◌≡◌, ℕ, ◌+◌, List, [], ◌∷◌, ◌++◌, length, min, take, Option, Some, IfSome, refl, ap, sym, ◌∙◌, subst, arith, ◌≤◌, true, inl, inr}
+use Rattle.std.proofs.Common.{◌≡◌, ℕ, ◌+◌, List, [], ◌∷◌, ◌++◌, length, take, Option, Some, IfSome, refl, ap, sym, ◌∙◌, subst, arith, ◌≤◌, true, inl, inr}
 use Rattle.std.specs.Prelude.{◌≢◌, IsSome}
 use Rattle.std.specs.Io.KnownBytes.{Appends}
 use Rattle.std.specs.List.{concat}
-use Rattle.std.proofs.lemmas.List.{append-nil, length-append, take-append-le, take_all, take_min}
+use Rattle.std.proofs.lemmas.List.{append-nil, length-append, take_all}
 use Rattle.std.proofs.Math.Seq.{take-append-add}
 use Rattle.std.proofs.lemmas.List.Folds.{concat-append}
 use Rattle.csv.proofs.WriteFacts.{appends-more, appends-none}
@@ -17,6 +17,7 @@ use Rattle.bsi_reading.specs.Sources.{max_records, HasNext, HasRead, IsOver}
 use Rattle.bsi_reading.specs.declared.rows.SourceFault.{SourceFault}
 use Rattle.bsi_reading.specs.declared.rows.SourceFault.TheVariants as source
 use Rattle.bsi_reading.specs.Waiting.{IsCut}
+use Rattle.bsi_reading.proofs.Waiting.{cut_all, cut_whole}
 use Rattle.bsi_reading.proofs.FirstRecords.{first_all, first_more, first_none, HasReadFirst}
 use Rattle.bsi_schema.specs.Columns.{Declared}
 use Rattle.bsi_rows.specs.Rows.{FedRow}
@@ -41,14 +42,6 @@ matched_push Is (a ∷ xs) (b ∷ ys) x y all one = (all.0, matched_push Is xs y
 
 -- ---- bytes
 
-pub cut_whole : (before middle after : Option (List ℕ)) (first last : List ℕ) → Appends before middle first → IsCut middle after last
-    → IsCut before after (first ++ last)
-cut_whole before middle after first last written cut =
-    (length first + cut.0, subst (Appends before after) (sym (take-append-add first last cut.0)) (appends-more before middle after first (take cut.0 last) written cut.1))
-
-pub cut_all : (before after : Option (List ℕ)) (text : List ℕ) → Appends before after text → IsCut before after text
-cut_all before after text written = (length text, subst (Appends before after) (sym (take_all (length text) text (omega arith))) written)
-
 -- all of these lines went out, also with others before them
 pub out_all : (fault : FilesFault) (lines : List (List ℕ)) (before after : Option (List ℕ)) → Appends before after (concat lines) → AreOut fault lines before after
 out_all Write lines before after written = cut_all before after (concat lines) written
@@ -70,12 +63,6 @@ out_after fault head lines before middle after written out = (
   subst (λ ls. Appends before after (concat ls)) (sym (take-append-add head lines out.0))
       (subst (Appends before after) (sym (concat-append head (take out.0 lines))) (appends-more before middle after (concat head) (concat (take out.0 lines)) written out.1)),
 )
-
-pub cut_front : (before after : Option (List ℕ)) (first more : List ℕ) → IsCut before after first → IsCut before after (first ++ more)
-cut_front before after first more cut =
-    let m : ℕ = min cut.0 (length first) in
-    let part : take m (first ++ more) ≡ take cut.0 first = take-append-le m first more (omega arith) ∙ take_min cut.0 first in
-    (m, subst (Appends before after) (sym part) cut.1)
 
 concat_more : (lines : List (List ℕ)) (line : List ℕ) → concat (lines ++ line ∷ []) ≡ concat lines ++ line
 concat_more lines line = concat-append lines (line ∷ []) ∙ ap (λ last. concat lines ++ last) (append-nil line)

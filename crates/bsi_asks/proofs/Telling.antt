@@ -13,7 +13,7 @@ use Rattle.bsi_asks.specs.declared.fed.Fed.{Fed}
 use Rattle.bsi_asks.specs.Writing.{AreOut}
 use Rattle.bsi_asks.specs.declared.faults.FilesFault.{FilesFault}
 use Rattle.bsi_asks.specs.declared.faults.FilesFault.TheVariants.{NoMemory, Write}
-use Rattle.bsi_asks.proofs.Asking.{cut_front, cut_whole}
+use Rattle.bsi_reading.proofs.Waiting.{cut_front, cut_whole}
 
 fed_append : (n : ℕ) (first bs : List FedCounts) → fed_lines n (first ++ bs) ≡ fed_lines n first ++ fed_lines (n + length first) bs
 fed_append n [] bs = ap (λ m. fed_lines m bs) (sym (add-zero n))

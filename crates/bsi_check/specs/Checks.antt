@@ -1,5 +1,5 @@
 -- What a check finds of the files of a run, and when it tells reasons.
-use Rattle.std.specs.Prelude.{◌≡◌, ⊤, ◌⊎◌, ℕ, ◌+◌, ◌<◌, ◌≤◌, Bool, true, false, nat_eq, List, [], ◌∷◌, length, Option, None, Some}
+use Rattle.std.specs.Prelude.{◌≡◌, ⊤, ◌⊎◌, ℕ, ◌+◌, ◌<◌, ◌≤◌, Bool, true, false, nat_eq, List, [], ◌∷◌, length, Option, None, Some, IfSome}
 use Rattle.csv.specs.Reading.{strip_bom}
 use Rattle.csv.specs.declared.parser.State.{State}
 use Rattle.csv.specs.declared.reader.Reader.{Reader}
@@ -131,6 +131,11 @@ IsAsksFound schema (asks.Counted bad) text = AreCountedAsks schema bad text
 IsAsksFound schema (asks.Unread source.TooLong) text = AreTooManyAsks text
 IsAsksFound schema (asks.Unread source.BadHeader) text = ⊥
 IsAsksFound schema (asks.Unread fault) text = ⊤
+
+-- what is found of the asks, if they are given, of which the bytes may be unknown; where none are given, none is bad
+abbrev pub AreAsksFound : Declared → Option (Option (List ℕ)) → AsksFound → Type 0
+AreAsksFound schema None found = found ≡ asks.Counted 0
+AreAsksFound schema (Some text) found = IfSome text (IsAsksFound schema found)
 
 -- the asks were read to their end, and none is bad
 abbrev pub has_good_asks : AsksFound → Bool

@@ -4,8 +4,9 @@ use Rattle.std.specs.Prelude.{◌≡◌, ⊤, ◌⊎◌, ℕ, suc, ◌-◌, ◌<
 use Rattle.std.specs.List.{list_all}
 use Rattle.bsi_records.specs.Lines.{fed_line}
 use Rattle.bsi_records.specs.declared.setups.DeclaredTable.{DeclaredTable}
+use Rattle.bsi_reading.specs.Waiting.{IsCut}
 use Rattle.bsi_rows.specs.Table.{max_feeders}
-use Rattle.bsi_check.specs.Checks.{has_good_asks, is_clean, IsAsksFound, IsFound, IsSchemaFound, TellsUnless}
+use Rattle.bsi_check.specs.Checks.{has_good_asks, is_clean, AreAsksFound, IsFound, IsSchemaFound, TellsUnless}
 use Rattle.bsi_check.specs.declared.named.NamedFile.{NamedFile}
 use Rattle.bsi_check.specs.declared.found.AsksFound.{AsksFound}
 use Rattle.bsi_check.specs.declared.found.FileFound.{FileFound}
@@ -41,14 +42,14 @@ abbrev pub are_good : ℕ → List FileFound → AsksFound → Bool
 are_good limit files asks = list_all is_clean files && (nat_le (sum (map good_rows files)) limit && has_good_asks asks)
 
 -- the schema is one, and there are reasons just where a file is not good; then come the lines of the row files
-pub record IsJudged (declared : Option (List ℕ)) (texts : List (Option (List ℕ))) (asked : Option (List ℕ))
+pub record IsJudged (declared : Option (List ℕ)) (texts : List (Option (List ℕ))) (asked : Option (Option (List ℕ)))
     (reasons fed : List ℕ) : Type 0 where
   pub table : DeclaredTable
   pub files : List FileFound
   pub asks : AsksFound
   pub schema_is : IfSome declared (IsSchemaFound (Some table))
   pub files_are : AreMatched (λ text file. IfSome text (IsFound table.schema file)) texts files
-  pub asks_are : IfSome asked (IsAsksFound table.schema asks)
+  pub asks_are : AreAsksFound table.schema asked asks
   pub told : TellsUnless (are_good table.limit files asks) [] reasons
   pub fed_is : fed ≡ fed_text 0 files
 
@@ -59,16 +60,24 @@ pub record IsRefused (declared : Option (List ℕ)) (texts : List (Option (List 
   pub told : 0 < length reasons
   pub none : fed ≡ []
 
--- a check of files of these bytes, where they are known, gives these reasons and these lines
-abbrev pub IsReport : Option (List ℕ) → List (Option (List ℕ)) → Option (List ℕ) → List ℕ → List ℕ → Type 0
+-- a check of files of these bytes, where they are known, and of asks, where they are given, has these reasons and lines
+abbrev pub IsReport : Option (List ℕ) → List (Option (List ℕ)) → Option (Option (List ℕ)) → List ℕ → List ℕ → Type 0
 IsReport declared texts asked reasons fed =
     IsRefused declared texts reasons fed ⊎ IsJudged declared texts asked reasons fed
 
 -- a check of these files was written behind what a writer held, and says whether there was no reason
-pub record HasReported (declared : Option (List ℕ)) (texts : List (Option (List ℕ))) (asked : Option (List ℕ))
+pub record HasReported (declared : Option (List ℕ)) (texts : List (Option (List ℕ))) (asked : Option (Option (List ℕ)))
     (before after : Option (List ℕ)) (good : Bool) : Type 0 where
   pub reasons : List ℕ
   pub fed : List ℕ
   pub report : IsReport declared texts asked reasons fed
   pub good_is : good ≡ nat_eq (length reasons) 0
   pub written : Appends before after (reasons ++ fed)
+
+-- a first part of a check of these files was written behind what a writer held
+pub record HasBegunReport (declared : Option (List ℕ)) (texts : List (Option (List ℕ))) (asked : Option (Option (List ℕ)))
+    (before after : Option (List ℕ)) : Type 0 where
+  pub reasons : List ℕ
+  pub fed : List ℕ
+  pub report : IsReport declared texts asked reasons fed
+  pub cut : IsCut before after (reasons ++ fed)

@@ -1,10 +1,10 @@
 //! The check of all files of a run.
 
-ghost use Rattle.std.specs.Prelude.{◌≡◌, ◌≤◌, ◌++◌, Err, length, map, nat_le, option_and_then, sum, IfOk, IfSome, OnOk};
+ghost use Rattle.std.specs.Prelude.{◌≡◌, ◌≤◌, ◌++◌, Err, length, map, nat_le, option_map, sum, IfOk, IfSome, OnOk};
 ghost use Rattle.std.specs.List.{list_all};
 ghost use Rattle.bsi_rows.specs.Table.{max_feeders};
-ghost use Rattle.bsi_check.specs.Checks.{has_good_asks, is_clean, IsAsksFound, IsFound, TellsUnless};
-ghost use Rattle.bsi_check.specs.Reports.{fed_text, good_rows, line_of, text_of, AreMatched, HasReported, IsReport};
+ghost use Rattle.bsi_check.specs.Checks.{has_good_asks, is_clean, AreAsksFound, IsFound, TellsUnless};
+ghost use Rattle.bsi_check.specs.Reports.{fed_text, good_rows, line_of, text_of, AreMatched, HasBegunReport, HasReported, IsReport};
 
 use crate::NoMemory;
 use crate::asks::check_asks;
@@ -43,8 +43,13 @@ pub fn check_files<'a, S: Read + Drop, W: Write>(
 ) -> Result<bool, CheckFault>
     ensures reported { IfOk result (HasReported (text_of S.remaining schema.entry)
         (map (text_of S.remaining) rows.entry.items)
-        (option_and_then (text_of S.remaining) asks.entry)
+        (option_map (text_of S.remaining) asks.entry)
         (W.contents output.old) (W.contents output.new)) }
+    ensures part { result ≡ Err CheckFault.Write →
+        HasBegunReport (text_of S.remaining schema.entry)
+        (map (text_of S.remaining) rows.entry.items)
+        (option_map (text_of S.remaining) asks.entry)
+        (W.contents output.old) (W.contents output.new) }
     ensures quiet { result ≡ Err CheckFault.NoMemory →
         W.contents output.new ≡ W.contents output.old }
 {
@@ -62,7 +67,7 @@ fn report_on<'a, S: Read + Drop>(
     rows: Vec<NamedFile<'a, S>>,
 ) -> Result<Report, NoMemory>
     ensures { IfOk result (λ report. IsReport (text_of S.remaining schema.entry)
-        (map (text_of S.remaining) rows.entry.items) (option_and_then (text_of S.remaining) asks.entry)
+        (map (text_of S.remaining) rows.entry.items) (option_map (text_of S.remaining) asks.entry)
         report.reasons.items report.fed.items) }
 {
     let mut reasons = Vec::new(alloc);
@@ -143,7 +148,7 @@ fn check_given<'a, S: Read + Drop>(
     reasons: &mut Vec<u8>,
 ) -> Result<AsksFound, NoMemory>
     ensures found { IfOk result (λ found.
-        IfSome (option_and_then (text_of S.remaining) asks.entry) (IsAsksFound schema.now found)) }
+        AreAsksFound schema.now (option_map (text_of S.remaining) asks.entry) found) }
     ensures told { IfOk result (λ found.
         TellsUnless (has_good_asks found) reasons.old.items reasons.new.items) }
 {
