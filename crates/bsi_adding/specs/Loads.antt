@@ -1,5 +1,6 @@
 -- Rows that are put into a file.
-use Rattle.std.specs.Prelude.{◌≡◌, ◌+◌, ◌≤◌, ◌++◌, ℕ, List, [], Option, Some, IfSome, codes, length, map}
+use Rattle.std.specs.Prelude.{◌≡◌, ◌+◌, ◌≤◌, ◌++◌, ℕ, Bool, List, [], Option, Some, IfSome, codes, length, map, slice_get}
+use Rattle.std.specs.Borrow.{Bor}
 use Rattle.std.specs.Io.KnownBytes.{Appends}
 use Rattle.std.specs.List.{concat}
 use Rattle.bsi_rows.specs.Table.{Table}
@@ -7,8 +8,8 @@ use Rattle.bsi_schema.specs.Columns.{Declared}
 use Rattle.bsi_asks.specs.RowFiles.{FedCounts}
 use Rattle.bsi_asks.specs.Runs.{fed_lines, HasLoaded}
 use Rattle.bsi_reading.specs.SchemaTexts.{IsSchemaText}
-use Rattle.bsi_saved.specs.Faults.{HasRead}
 use Rattle.bsi_saved.specs.Saved.{kept_file}
+use Rattle.bsi_store.specs.Asked.{IsKeptIn}
 use Rattle.bsi_store.specs.Lines.{count_line}
 
 -- the line of each row file, and how many rows they gave, behind this word
@@ -36,19 +37,20 @@ pub record HasSaved {S : Type 0} (rem put : S → Option (List ℕ)) (before aft
   pub declared : IfSome (rem schema_file) (λ bytes. IsSchemaText bytes table.schema table.limit)
   pub saved : HasPut rem put (codes "saved") table.schema table.limit [] table before after
 
--- a file was opened whose first bytes keep a table, and further rows of it, within its limit, were put into the file
--- with the notes that stand there
-pub record HasAdded {S : Type 0} (rem put : S → Option (List ℕ)) (before after : Option (List ℕ)) : Type 0 where
-  pub file : S
-  pub behind : Option (List ℕ)
+-- a file was opened that keeps a table, and further rows of it, within its limit, were put into a file with the notes
+-- that stand there
+pub record HasAdded {S : Type 0} (rem put : S → Option (List ℕ)) (so_far : Bool) (before after : Option (List ℕ))
+    : Type 0 where
   pub kept : Table
-  pub notes : List ℕ
-  pub size : ℕ
-  pub read : HasRead (rem file) behind kept notes size
+  pub opened : IsKeptIn rem so_far kept
   pub more : Table
   pub feeders_are : more.feeders ≡ kept.feeders
   pub within : length kept.rows + length more.rows ≤ kept.limit
-  pub added : HasPut rem put (codes "added") kept.schema kept.limit notes more before after
+  pub added : HasPut rem put (codes "added") kept.schema kept.limit opened.notes more before after
+
+-- one of these paths
+abbrev pub IsOneOf : List (Bor (List ℕ)) → Bor (List ℕ) → Type 0
+IsOneOf paths path = (k : ℕ) × (slice_get paths k ≡ Some path)
 
 -- a text, put after what a writer held, tells what happened
 abbrev pub Tells : (Option (List ℕ) → Option (List ℕ) → Type 0) → List ℕ → Type 0

@@ -1,12 +1,13 @@
 //! Rows that are added to a kept index.
 
-ghost use Rattle.std.specs.Prelude.{◌≡◌, ◌+◌, ◌<◌, ◌≤◌, IfOk, List, OnOk, Some, false, length, map, ℕ};
+ghost use Rattle.std.specs.Prelude.{◌≡◌, ◌+◌, ◌<◌, ◌≤◌, ◌⊎◌, IfErr, IfOk, List, OnOk, Some, false, length, map, ℕ};
 ghost use Rattle.std.specs.Io.KnownBytes.{Appends};
 ghost use Rattle.bsi_asks.specs.RowFiles.{fed_counts};
 ghost use Rattle.bsi_asks.specs.Runs.{HasLoaded};
 ghost use Rattle.bsi_rows.specs.Table.{max_feeders, no_rows, with_rows};
 ghost use Rattle.bsi_saved.specs.Saved.{kept_file, max_notes};
-ghost use Rattle.bsi_adding.specs.Loads.{HasAdded};
+ghost use Rattle.bsi_adding.specs.Loads.{HasAdded, IsOneOf};
+ghost use Rattle.bsi_store.specs.Faults.{Names};
 ghost use Rattle.bsi_table.specs.Index.{table_of};
 
 use crate::opening::{open_each, open_to_add};
@@ -46,8 +47,10 @@ pub fn add_rows<
     G: Gate + Stopping + Sync,
 >(rt: &R, paths: &AddPaths<'a>, output: &mut O, gate: &G) -> Result<(), StoreFault<'a>>
     requires { G.STOPS ≡ false }
-    ensures { OnOk result
-        (HasAdded S.remaining S.contents (O.contents output.old) (O.contents output.new)) }
+    ensures added { OnOk result (HasAdded S.remaining S.contents paths.now.so_far
+        (O.contents output.old) (O.contents output.new)) }
+    ensures named { IfErr result
+        (Names (λ named. (named ≡ paths.now.kept) ⊎ IsOneOf paths.now.rows.items named)) }
 {
     let mut file = open_to_add(rt, paths.kept)?;
     let rows = open_each(rt, &paths.rows)?;
@@ -79,6 +82,7 @@ fn load_more<
         HasLoaded kept.now.schema kept.now.limit texts loaded.table.rows
         (map fed_counts loaded.fed.items)) }
     ensures few { IfOk result (λ loaded. length loaded.fed.items ≤ max_feeders) }
+    ensures named { IfErr result (Names (λ named. named ≡ path.entry)) }
 {
     if rows.len() > kept.feeders() as usize {
         return Err(StoreFault::Unusable(path, FileFault::TooManyFiles(kept.feeders())));
@@ -118,8 +122,9 @@ fn put_segment<'a, S: Write + OpenFile>(
     file: &mut S,
 ) -> Result<(), StoreFault<'a>>
     requires { length kept.now.notes.items ≤ max_notes }
-    ensures { OnOk result (Appends (S.contents file.old) (S.contents file.new)
+    ensures put { OnOk result (Appends (S.contents file.old) (S.contents file.new)
         (kept_file (table_of more.now) kept.now.notes.items)) }
+    ensures named { IfErr result (Names (λ named. named ≡ path.entry)) }
 {
     if kept.fault.is_some() && file.set_len(kept.bytes).is_err() {
         return Err(StoreFault::CannotWrite(path));

@@ -1,9 +1,10 @@
 //! A new file beside the one that it replaces, so that a crash leaves the one or the other.
 
-ghost use Rattle.std.specs.Prelude.{[], OnOk};
+ghost use Rattle.std.specs.Prelude.{◌≡◌, [], IfErr, IfOk, OnOk};
 ghost use Rattle.std.specs.Io.KnownBytes.{Appends};
 ghost use Rattle.bsi_table.specs.Index.{table_of};
 ghost use Rattle.bsi_saved.specs.Saved.{kept_file};
+ghost use Rattle.bsi_store.specs.Faults.{Names};
 
 use crate::opening::claim;
 use bsi_saved::write_index;
@@ -31,7 +32,10 @@ impl<'a, S: Read + Write + OpenFile + LockFile + Drop> NewFile<'a, S> {
     pub(crate) fn begin<R: AllocGlobal + Files<File = S>>(
         rt: &R,
         path: &'a str,
-    ) -> Result<NewFile<'a, S>, StoreFault<'a>> {
+    ) -> Result<NewFile<'a, S>, StoreFault<'a>>
+        ensures path { IfOk result (λ new. new.path ≡ path.entry) }
+        ensures named { IfErr result (Names (λ named. named ≡ path.entry)) }
+    {
         let old = lock_old(rt, path)?;
         let new_path = format!(in rt.alloc(); "{path}.new")?;
         let file = create_new(rt, path, new_path.as_str())?;
@@ -45,8 +49,10 @@ impl<'a, S: Read + Write + OpenFile + LockFile + Drop> NewFile<'a, S> {
 
     /// Writes the segment of an index that has no notes.
     pub(crate) fn write(&mut self, alloc: Global, index: &Index) -> Result<(), StoreFault<'a>>
-        ensures { OnOk result (Appends (S.contents self.old.file) (S.contents self.new.file)
+        ensures written { OnOk result (Appends (S.contents self.old.file) (S.contents self.new.file)
             (kept_file (table_of index.now) [])) }
+        ensures named { IfErr result (Names (λ named. named ≡ self.old.path)) }
+        ensures path { self.new.path ≡ self.old.path }
     {
         match write_index(alloc, index, &[], &mut self.file) {
             Ok(()) => Ok(()),
@@ -55,7 +61,9 @@ impl<'a, S: Read + Write + OpenFile + LockFile + Drop> NewFile<'a, S> {
     }
 
     /// Puts the file in the place of the one of its path, once the system has stored it.
-    pub(crate) fn replace<R: Files<File = S>>(&self, rt: &R) -> Result<(), StoreFault<'a>> {
+    pub(crate) fn replace<R: Files<File = S>>(&self, rt: &R) -> Result<(), StoreFault<'a>>
+        ensures { IfErr result (Names (λ named. named ≡ self.now.path)) }
+    {
         match self.store(rt) {
             Ok(()) => Ok(()),
             Err(_) => Err(StoreFault::CannotWrite(self.path)),
@@ -90,7 +98,9 @@ impl<'a, S: Read + Write + OpenFile + LockFile + Drop> NewFile<'a, S> {
 fn lock_old<'a, R: Files<File = S>, S: LockFile + Drop>(
     rt: &R,
     path: &'a str,
-) -> Result<Option<S>, StoreFault<'a>> {
+) -> Result<Option<S>, StoreFault<'a>>
+    ensures { IfErr result (Names (λ named. named ≡ path.entry)) }
+{
     match fs::metadata(rt, path) {
         Ok(found) if !found.is_file() => return Err(StoreFault::CannotWrite(path)),
         _ => {}
@@ -109,7 +119,9 @@ fn create_new<'a, R: Files<File = S>, S: OpenFile + LockFile + Drop>(
     rt: &R,
     path: &'a str,
     new_path: &str,
-) -> Result<S, StoreFault<'a>> {
+) -> Result<S, StoreFault<'a>>
+    ensures { IfErr result (Names (λ named. named ≡ path.entry)) }
+{
     let mut options = OpenOptions::new();
     options.write(true).create(true);
     let Ok(file) = options.open(rt, new_path) else {

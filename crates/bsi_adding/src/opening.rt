@@ -1,6 +1,8 @@
 //! Row files that are opened, and a kept file for this command alone.
 
-ghost use Rattle.std.specs.Prelude.{◌≡◌, IfOk, length};
+ghost use Rattle.std.specs.Prelude.{◌≡◌, IfErr, IfOk, length};
+ghost use Rattle.bsi_adding.specs.Loads.{IsOneOf};
+ghost use Rattle.bsi_store.specs.Faults.{Names};
 
 use bsi_asks::FilesFault;
 use bsi_store::{FileFault, LockFile, StoreFault, open_one};
@@ -15,7 +17,8 @@ pub(crate) fn open_each<'a, R: AllocGlobal + Files<File = S>, S: Read + Drop>(
     rt: &R,
     paths: &[&'a str],
 ) -> Result<Vec<S>, StoreFault<'a>>
-    ensures { IfOk result (λ files. length files.items ≡ length paths.now) }
+    ensures many { IfOk result (λ files. length files.items ≡ length paths.now) }
+    ensures named { IfErr result (Names (IsOneOf paths.now)) }
 {
     let mut files = Vec::with_capacity(rt.alloc(), paths.len())?;
     'files: for path in paths {
@@ -29,7 +32,9 @@ pub(crate) fn open_each<'a, R: AllocGlobal + Files<File = S>, S: Read + Drop>(
 pub(crate) fn open_to_add<'a, R: Files<File = S>, S: OpenFile + LockFile + Drop>(
     rt: &R,
     path: &'a str,
-) -> Result<S, StoreFault<'a>> {
+) -> Result<S, StoreFault<'a>>
+    ensures { IfErr result (Names (λ named. named ≡ path.entry)) }
+{
     let mut options = OpenOptions::new();
     options.read(true).append(true);
     let Ok(file) = options.open(rt, path) else {

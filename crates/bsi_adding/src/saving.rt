@@ -1,7 +1,8 @@
 //! Row files that become a kept index.
 
-ghost use Rattle.std.specs.Prelude.{◌≡◌, ◌<◌, IfOk, OnOk, false, length};
-ghost use Rattle.bsi_adding.specs.Loads.{HasSaved, Tells};
+ghost use Rattle.std.specs.Prelude.{◌≡◌, ◌<◌, ◌⊎◌, IfErr, IfOk, OnOk, false, length};
+ghost use Rattle.bsi_adding.specs.Loads.{HasSaved, IsOneOf, Tells};
+ghost use Rattle.bsi_store.specs.Faults.{Names};
 
 use crate::new_file::NewFile;
 use crate::opening::open_each;
@@ -40,8 +41,10 @@ pub fn save_rows<
     G: Gate + Stopping + Sync,
 >(rt: &R, paths: &SavePaths<'a>, output: &mut O, gate: &G) -> Result<(), StoreFault<'a>>
     requires { G.STOPS ≡ false }
-    ensures { OnOk result
+    ensures saved { OnOk result
         (HasSaved S.remaining S.contents (O.contents output.old) (O.contents output.new)) }
+    ensures named { IfErr result (Names (λ named. (named ≡ paths.now.schema)
+        ⊎ ((named ≡ paths.now.to) ⊎ IsOneOf paths.now.rows.items named))) }
 {
     let schema = open_one(rt, paths.schema)?;
     let rows = open_each(rt, &paths.rows)?;
@@ -66,7 +69,8 @@ fn save_or_remove<
 ) -> Result<Vec<u8>, StoreFault<'a>>
     requires some { 0 < length rows.items }
     requires never { G.STOPS ≡ false }
-    ensures { IfOk result (λ text. Tells (HasSaved S.remaining S.contents) text.items) }
+    ensures saved { IfOk result (λ text. Tells (HasSaved S.remaining S.contents) text.items) }
+    ensures named { IfErr result (Names (λ named. named ≡ new.old.path)) }
 {
     match save_into(rt, schema, rows, new, gate) {
         Ok(text) => Ok(text),
@@ -92,7 +96,8 @@ fn save_into<
 ) -> Result<Vec<u8>, StoreFault<'a>>
     requires some { 0 < length rows.items }
     requires never { G.STOPS ≡ false }
-    ensures { IfOk result (λ text. Tells (HasSaved S.remaining S.contents) text.items) }
+    ensures saved { IfOk result (λ text. Tells (HasSaved S.remaining S.contents) text.items) }
+    ensures named { IfErr result (Names (λ named. named ≡ new.old.path)) }
 {
     if rows.len() > MAX_FEEDERS as usize {
         return Err(StoreFault::Run(FilesFault::TooManyFiles));

@@ -1,10 +1,19 @@
 -- What a check leaves in the output, and what it tells of a fault.
 use Rattle.std.specs.Io.KnownBytes.{Keeps}
-use Rattle.std.specs.Prelude.{◌≡◌, ◌⊎◌, ℕ, Bool, true, false, List, Option, Result, Ok, map, option_and_then}
+use Rattle.std.specs.Prelude.{◌≡◌, ◌⊎◌, ℕ, Bool, true, false, List, Option, Result, Ok, map, option_map}
+use Rattle.bsi_asks.specs.declared.faults.FilesFault.TheVariants as run
 use Rattle.bsi_check.specs.Reports.{HasReported}
+use Rattle.bsi_check.specs.declared.fault.CheckFault.{CheckFault}
+use Rattle.bsi_check.specs.declared.fault.CheckFault.TheVariants as check
 use Rattle.bsi_reading.specs.declared.writing.WriteFault.{WriteFault}
 use Rattle.bsi_shell.specs.FaultLines.{fault_line, IsTold}
 use Rattle.bsi_shell.specs.declared.files.RunFault.{RunFault}
+use Rattle.bsi_shell.specs.declared.files.RunFault.TheVariants.{Run}
+
+-- the fault of a command whose check ended early
+abbrev pub run_fault_of : CheckFault → RunFault
+run_fault_of check.NoMemory = Run run.NoMemory
+run_fault_of check.Write = Run run.Write
 
 -- some files were opened, and a check of them was put behind what the output held; it says whether there was no reason
 pub record HasReportedOver {S : Type 0} (rem : S → Option (List ℕ)) (before after : Option (List ℕ)) (good : Bool)
@@ -13,7 +22,7 @@ pub record HasReportedOver {S : Type 0} (rem : S → Option (List ℕ)) (before 
   pub asks : Option S
   pub rows : List S
   pub middle : Option (List ℕ)
-  pub reported : HasReported (rem schema) (map rem rows) (option_and_then rem asks) before middle good
+  pub reported : HasReported (rem schema) (map rem rows) (option_map rem asks) before middle good
   pub kept : Keeps middle after
 
 -- and there was none: the schema is one, all records are good, and each ask is a query

@@ -11,9 +11,10 @@ use std::io::{Read, Write};
 use std::rt::Files;
 
 impl From<CheckFault> for RunFault<'_> {
-    ghost use Rattle.std.specs.Prelude.{⊤};
+    ghost use Rattle.std.specs.Prelude.{◌≡◌};
+    ghost use Rattle.bsi_shell.specs.Checks.{run_fault_of};
 
-    ghost from_gives = { λ fault run_fault. ⊤ };
+    ghost from_gives = { λ fault run_fault. run_fault ≡ run_fault_of fault };
 
     fn from(fault: CheckFault) -> Self {
         match fault {

@@ -1,1 +1,2 @@
 mod Appending
+mod Named

@@ -1,5 +1,5 @@
 -- What is asked of a kept index.
-use Rattle.std.specs.Prelude.{◌++◌, List, ℕ, Option, IfSome, codes, length}
+use Rattle.std.specs.Prelude.{◌≡◌, ◌++◌, Bool, false, List, ℕ, Option, None, IfSome, codes, length}
 use Rattle.std.specs.Io.KnownBytes.{Appends}
 use Rattle.bsi_reading.specs.SchemaTexts.{IsSchemaText}
 use Rattle.bsi_store.specs.Lines.{count_line}
@@ -7,28 +7,32 @@ use Rattle.bsi_rows.specs.Table.{Table}
 use Rattle.bsi_asks.specs.AskLines.{IsAskLine}
 use Rattle.bsi_asks.specs.Matching.{AreMatched}
 use Rattle.bsi_asks.specs.Writing.{WritesAll}
-use Rattle.bsi_saved.specs.Faults.{HasRead}
+use Rattle.bsi_saved.specs.Faults.{IsOpened}
+use Rattle.bsi_saved.specs.declared.fault.OpenFault.{OpenFault}
 
--- a file was opened, and its first bytes keep the table
-pub record IsKeptIn {S : Type 0} (rem : S → Option (List ℕ)) (t : Table) : Type 0 where
+-- a file was opened, and its first bytes keep the table: all of them, unless rows before a fault may do
+pub record IsKeptIn {S : Type 0} (rem : S → Option (List ℕ)) (so_far : Bool) (t : Table) : Type 0 where
   pub file : S
   pub after : Option (List ℕ)
   pub notes : List ℕ
   pub size : ℕ
-  pub read : HasRead (rem file) after t notes size
+  pub fault : Option OpenFault
+  pub opened : IsOpened (rem file) after t notes size fault
+  pub whole : so_far ≡ false → fault ≡ None
 
--- a file was opened whose first bytes keep a table, and the lines that answer the questions of a text over its rows were
--- put after what a writer held
-pub record HasAsked {S : Type 0} (rem : S → Option (List ℕ)) (asks before after : Option (List ℕ)) : Type 0 where
+-- a file was opened that keeps a table, and the lines that answer the questions of a text over its rows were put after
+-- what a writer held
+pub record HasAsked {S : Type 0} (rem : S → Option (List ℕ)) (so_far : Bool) (asks before after : Option (List ℕ))
+    : Type 0 where
   pub table : Table
-  pub kept : IsKeptIn rem table
+  pub kept : IsKeptIn rem so_far table
   pub answered : IfSome asks (λ asked. WritesAll (AreMatched (IsAskLine table.schema table.rows)) asked before after)
 
--- a file was opened whose first bytes keep a table, and a text that declares its columns and its limit, how many feeders
+-- a file was opened that keeps a table, and a text that declares its columns and its limit, how many feeders
 -- and rows it has, and some more were put after what a writer held
 pub record HasShown {S : Type 0} (rem : S → Option (List ℕ)) (before after : Option (List ℕ)) : Type 0 where
   pub table : Table
-  pub kept : IsKeptIn rem table
+  pub kept : IsKeptIn rem false table
   pub text : List ℕ
   pub declares : IsSchemaText text table.schema table.limit
   pub sizes : List ℕ

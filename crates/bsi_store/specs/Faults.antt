@@ -5,6 +5,8 @@ use Rattle.bsi_asks.specs.FaultTexts.{fault_text}
 use Rattle.bsi_asks.specs.declared.faults.FilesFault.TheVariants.{NoMemory}
 use Rattle.bsi_saved.specs.declared.fault.OpenFault.{OpenFault}
 use Rattle.bsi_saved.specs.declared.fault.OpenFault.TheVariants as opening
+use Rattle.bsi_saved.specs.declared.fault.SaveFault.{SaveFault}
+use Rattle.bsi_saved.specs.declared.fault.SaveFault.TheVariants as saving
 use Rattle.bsi_saved.specs.Faults.{IsFirstFault, IsOpened}
 use Rattle.bsi_rows.specs.Table.{Table}
 use Rattle.bsi_store.specs.declared.fault.FileFault.{FileFault}
@@ -29,6 +31,13 @@ store_fault_line (CannotWrite path) = codes "bsi: cannot write " ++ path.now ++ 
 store_fault_line (Unusable path fault) = codes "bsi: " ++ path.now ++ (codes ": " ++ (file_fault_text fault ++ codes "\n"))
 store_fault_line (Run fault) = fault_text fault ++ codes "\n"
 
+-- the path that a fault names, if it names one, is such a path
+abbrev pub Names : (Bor (List ℕ) → Type 0) → StoreFault → Type 0
+Names Is (CannotOpen path) = Is path
+Names Is (CannotWrite path) = Is path
+Names Is (Unusable path fault) = Is path
+Names Is (Run fault) = Unit {0}
+
 -- the fault of a file behind so many rows that were opened
 abbrev pub cut_off : Bor (List ℕ) → OpenFault → ℕ → StoreFault
 cut_off path opening.NotKept rows = Unusable path (Damaged rows)
@@ -37,6 +46,11 @@ cut_off path opening.CutShort rows = Unusable path (CutShort rows)
 cut_off path opening.Damaged rows = Unusable path (Damaged rows)
 cut_off path opening.Read rows = Unusable path Read
 cut_off path opening.NoMemory rows = Run NoMemory
+
+-- the fault of an index that was not written to a file
+abbrev pub unsaved : Bor (List ℕ) → SaveFault → StoreFault
+unsaved path saving.Write = CannotWrite path
+unsaved path saving.NoMemory = Run NoMemory
 
 -- the fault of a file that no index was opened of
 abbrev pub unopened : Bor (List ℕ) → OpenFault → StoreFault

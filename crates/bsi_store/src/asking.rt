@@ -1,7 +1,8 @@
 //! Questions over the rows of a kept index.
 
-ghost use Rattle.std.specs.Prelude.{OnOk};
+ghost use Rattle.std.specs.Prelude.{◌≡◌, ◌⊎◌, IfErr, OnOk};
 ghost use Rattle.bsi_store.specs.Asked.{HasAsked};
+ghost use Rattle.bsi_store.specs.Faults.{Names};
 
 use crate::StoreFault;
 use crate::locks::LockFile;
@@ -28,8 +29,10 @@ pub fn ask_over<'a, R: AllocGlobal + Files<File = S>, S: Read + LockFile + Drop,
     asks: &'a str,
     output: &mut O,
 ) -> Result<(), StoreFault<'a>>
-    ensures { OnOk result ((asked : S) ×
-        HasAsked S.remaining (S.remaining asked) (O.contents output.old) (O.contents output.new)) }
+    ensures asked { OnOk result ((asked : S) × HasAsked S.remaining paths.now.so_far (S.remaining asked)
+        (O.contents output.old) (O.contents output.new)) }
+    ensures named { IfErr result
+        (Names (λ named. (named ≡ paths.now.kept) ⊎ (named ≡ asks.entry))) }
 {
     let asks = open_one(rt, asks)?;
     ask_input(rt, paths, asks, output)
@@ -43,8 +46,9 @@ pub fn ask_input<
     I: Read + Drop,
     O: Write,
 >(rt: &R, paths: &AskPaths<'a>, asks: I, output: &mut O) -> Result<(), StoreFault<'a>>
-    ensures { OnOk result
-        (HasAsked S.remaining (I.remaining asks) (O.contents output.old) (O.contents output.new)) }
+    ensures asked { OnOk result (HasAsked S.remaining paths.now.so_far (I.remaining asks)
+        (O.contents output.old) (O.contents output.new)) }
+    ensures named { IfErr result (Names (λ named. named ≡ paths.now.kept)) }
 {
     let opened = open_kept(rt, paths.kept, paths.so_far)?;
     answer_asks(rt.alloc(), &opened.index, asks, output)?;

@@ -1,7 +1,7 @@
 //! Why a command over a kept index ends early.
 
 ghost use Rattle.std.specs.Prelude.{◌≡◌, ◌+◌, ◌≤◌, ◌++◌, [], decimal, length};
-ghost use Rattle.bsi_store.specs.Faults.{cut_off, file_fault_text, unopened};
+ghost use Rattle.bsi_store.specs.Faults.{cut_off, file_fault_text, unopened, unsaved};
 
 use arrayvec::ArrayString;
 use bsi_asks::FilesFault;
@@ -93,7 +93,9 @@ impl From<SchemaFault> for StoreFault<'_> {
 
 impl<'a> StoreFault<'a> {
     /// Returns the fault of an index that was not written to the file of a path.
-    pub fn unsaved(path: &'a str, fault: SaveFault) -> StoreFault<'a> {
+    pub fn unsaved(path: &'a str, fault: SaveFault) -> StoreFault<'a>
+        ensures { result ≡ unsaved path.entry fault }
+    {
         match fault {
             SaveFault::Write => StoreFault::CannotWrite(path),
             SaveFault::NoMemory => StoreFault::Run(FilesFault::NoMemory),

@@ -1,9 +1,9 @@
 //! Files that are opened by their paths.
 
-ghost use Rattle.std.specs.Prelude.{ℕ, IfErr, IfOk, List, Option};
-ghost use Rattle.bsi_saved.specs.Faults.{HasRead};
+ghost use Rattle.std.specs.Prelude.{◌≡◌, IfErr, IfOk, None, false};
+ghost use Rattle.bsi_saved.specs.Faults.{IsOpened};
 ghost use Rattle.bsi_store.specs.Asked.{IsKeptIn};
-ghost use Rattle.bsi_store.specs.Faults.{IsFileFault};
+ghost use Rattle.bsi_store.specs.Faults.{IsFileFault, Names};
 ghost use Rattle.bsi_table.specs.Index.{table_of};
 
 use crate::StoreFault;
@@ -18,7 +18,9 @@ use std::rt::Files;
 pub fn open_one<'a, R: Files<File = S>, S: Read + Drop>(
     rt: &R,
     path: &'a str,
-) -> Result<S, StoreFault<'a>> {
+) -> Result<S, StoreFault<'a>>
+    ensures { IfErr result (λ fault. fault ≡ StoreFault.CannotOpen path.entry) }
+{
     fs::open(rt, path).map_err(|_| StoreFault::CannotOpen(path))
 }
 
@@ -29,7 +31,8 @@ pub(crate) fn open_kept<'a, R: AllocGlobal + Files<File = S>, S: Read + LockFile
     path: &'a str,
     so_far: bool,
 ) -> Result<Opened, StoreFault<'a>>
-    ensures { IfOk result (λ opened. IsKeptIn S.remaining (table_of opened.index)) }
+    ensures kept { IfOk result (λ opened. IsKeptIn S.remaining so_far (table_of opened.index)) }
+    ensures named { IfErr result (Names (λ named. named ≡ path.entry)) }
 {
     let mut file = open_one(rt, path)?;
     // A file that can't be locked, as a pipe, is read as it is.
@@ -45,8 +48,9 @@ pub fn read_kept<'a, S: Read>(
     file: &mut S,
     so_far: bool,
 ) -> Result<Opened, StoreFault<'a>>
-    ensures read { IfOk result (λ opened. (behind : Option (List ℕ)) × HasRead (S.remaining file.old) behind
-        (table_of opened.index) opened.notes.items opened.bytes) }
+    ensures opened { IfOk result (λ opened. IsOpened (S.remaining file.old) (S.remaining file.new)
+        (table_of opened.index) opened.notes.items opened.bytes opened.fault) }
+    ensures whole { so_far ≡ false → IfOk result (λ opened. opened.fault ≡ None) }
     ensures fault { IfErr result (IsFileFault path.entry (S.remaining file.old)) }
 {
     let opened = match read_index(alloc, file) {

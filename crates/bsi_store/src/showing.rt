@@ -1,8 +1,9 @@
 //! What a kept index is.
 
-ghost use Rattle.std.specs.Prelude.{ℕ, List, OnOk};
+ghost use Rattle.std.specs.Prelude.{◌≡◌, ℕ, IfErr, List, OnOk};
 ghost use Rattle.std.specs.Io.KnownBytes.{Appends};
 ghost use Rattle.bsi_store.specs.Asked.{HasShown};
+ghost use Rattle.bsi_store.specs.Faults.{Names};
 
 use crate::StoreFault;
 use crate::locks::LockFile;
@@ -20,8 +21,9 @@ pub fn show_index<'a, R: AllocGlobal + Files<File = S>, S: Read + LockFile + Dro
     path: &'a str,
     output: &mut O,
 ) -> Result<(), StoreFault<'a>>
-    ensures { OnOk result
+    ensures shown { OnOk result
         (HasShown S.remaining (O.contents output.old) (O.contents output.new)) }
+    ensures named { IfErr result (Names (λ named. named ≡ path.entry)) }
 {
     let opened = open_kept(rt, path, false)?;
     let index = &opened.index;

@@ -8,24 +8,27 @@ use Rattle.bsi_table.specs.Index.{table_of}
 pub put_segment-requires : goal.put_segment-requires
 put_segment-requires g c =
     let kept = c.in_ok-kept.kept in
-    let read = c.in_ok-kept.ensures.read in
-    notes_few (g.S.Read.remaining c.in_ok-file.file) read.0 (table_of kept.index) kept.notes.items kept.bytes read.1
+    let opened = c.in_ok-kept.ensures.opened in
+    notes_few (g.S.Read.remaining c.in_ok-file.file) opened.middle (table_of kept.index) kept.notes.items kept.bytes opened.read
 
-pub returns : goal.returns
-returns g c =
+pub returns-clause-added : goal.returns-clause-added
+returns-clause-added g c =
     let kept = c.in_ok-kept.kept in
-    let read = c.in_ok-kept.ensures.read in
     let more = c.in_ok-more.more in
     let before = g.O.Write.contents c.args.output.now in
     let after = g.O.Write.contents c.write_bytes.new.writer in
     let text = c.in_ok-text.text.items in
     record {
-      file = c.in_ok-file.file;
-      behind = read.0;
       kept = table_of kept.index;
-      notes = kept.notes.items;
-      size = kept.bytes;
-      read = read.1;
+      opened = record {
+        file = c.in_ok-file.file;
+        after = g.S.Read.remaining c.read_kept.new.file;
+        notes = kept.notes.items;
+        size = kept.bytes;
+        fault = kept.fault;
+        opened = c.in_ok-kept.ensures.opened;
+        whole = c.in_ok-kept.ensures.whole;
+      };
       more = table_of more.table;
       feeders_are = c.in_ok-more.ensures.feeders;
       within = c.in_ok-more.ensures.within;
@@ -37,7 +40,7 @@ returns g c =
         loaded = c.in_ok-more.ensures.rows;
         old = c.read_kept.new.file;
         new = c.put_segment.new.file;
-        given = c.in_ok-put_segment.ensures;
+        given = c.in_ok-put_segment.ensures.put;
         lines = subst (λ (bytes : List ℕ). Appends before after bytes) c.in_ok-text.ensures
             (subst (λ (bytes : List ℕ). Appends before after bytes) c.as_slice.ensures.value c.in_ok-write_bytes.ensures.ok);
       };

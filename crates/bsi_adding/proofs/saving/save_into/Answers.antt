@@ -7,8 +7,8 @@ use Rattle.bsi_schema.specs.Columns.{Declared}
 use Rattle.bsi_adding.proofs.saving.save_into.Goals as goal
 use Rattle.bsi_table.specs.Index.{table_of}
 
-pub returns : goal.returns
-returns g c = λ before after told.
+pub returns-clause-saved : goal.returns-clause-saved
+returns-clause-saved g c = λ before after told.
     let schema = c.in_ok-schema.field-0.schema in
     let limit = c.in_ok-schema.field-0.limit in
     let table = c.in_ok-loaded.loaded.table in
@@ -31,7 +31,7 @@ returns g c = λ before after told.
             (subst (λ (s : Declared). HasLoaded s limit texts table.rows counts) schema_is (c.in_ok-loaded.ensures.rows c.requires.never texts are));
         old = c.args.new.now.file;
         new = c.write.new.self.file;
-        given = c.in_ok-write.ensures;
+        given = c.in_ok-write.ensures.written;
         lines = subst (λ (bytes : List ℕ). Appends before after bytes) c.in_ok-text.ensures told;
       };
     }

@@ -7,8 +7,8 @@ use Rattle.bsi_store.proofs.showing.show_index.Goals as goal
 use Rattle.bsi_store.specs.Lines.{count_line}
 use Rattle.bsi_table.specs.Index.{table_of}
 
-pub returns : goal.returns
-returns g c =
+pub returns-clause-shown : goal.returns-clause-shown
+returns-clause-shown g c =
     let t = table_of c.in_ok-opened.opened.index in
     let before = g.O.Write.contents c.args.output.now in
     let first = g.O.Write.contents c.write_bytes.new.writer in
@@ -25,7 +25,7 @@ returns g c =
     let counted : Appends second third rows = subst (λ (n : ℕ). Appends second third (count_line (codes "rows") n)) c.len.ensures.len c.in_ok-tell_count-2.ensures in
     record {
       table = t;
-      kept = c.in_ok-opened.ensures;
+      kept = c.in_ok-opened.ensures.kept;
       text = text;
       declares = declares;
       sizes = sizes.0;

@@ -1,0 +1,30 @@
+-- The path that a fault of a file names.
+use Rattle.std.proofs.Common.{◌≡◌, ℕ, List, Option, inl, inr, refl, subst, sym}
+use Rattle.std.specs.Borrow.{Bor}
+use Rattle.bsi_saved.specs.declared.fault.OpenFault.{OpenFault}
+use Rattle.bsi_saved.specs.declared.fault.OpenFault.TheVariants as opening
+use Rattle.bsi_store.specs.Faults.{cut_off, unopened, IsFileFault, Names}
+use Rattle.bsi_store.specs.declared.fault.StoreFault.{StoreFault}
+
+abbrev pub Named : Bor (List ℕ) → StoreFault → Type 0
+Named path fault = Names (λ named. named ≡ path) fault
+
+cut_named : (path : Bor (List ℕ)) (fault : OpenFault) (rows : ℕ) → Named path (cut_off path fault rows)
+cut_named path opening.NotKept rows = refl
+cut_named path opening.OtherVersion rows = refl
+cut_named path opening.CutShort rows = refl
+cut_named path opening.Damaged rows = refl
+cut_named path opening.Read rows = refl
+cut_named path opening.NoMemory rows = tt
+
+un_named : (path : Bor (List ℕ)) (fault : OpenFault) → Named path (unopened path fault)
+un_named path opening.NotKept = refl
+un_named path opening.OtherVersion = refl
+un_named path opening.CutShort = refl
+un_named path opening.Damaged = refl
+un_named path opening.Read = refl
+un_named path opening.NoMemory = tt
+
+pub file_named : (path : Bor (List ℕ)) (bytes : Option (List ℕ)) (told : StoreFault) → IsFileFault path bytes told → Named path told
+file_named path bytes told (inl (fault, after, is, told_is)) = subst (Named path) (sym told_is) (un_named path fault)
+file_named path bytes told (inr (fault, after, t, notes, size, is, told_is)) = subst (Named path) (sym told_is) (cut_named path fault _)
