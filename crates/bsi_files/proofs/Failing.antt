@@ -56,6 +56,9 @@ module _ {R : Type 0} (rem : R → Option (List ℕ)) (stops : Bool) (limit : �
   pub load_counted : (fault : FilesFault) → IsLoadFault rem stops limit sources fault → fault ≢ run.TooManyFiles
   load_counted fault met = λ is. subst (λ f. IsLoadFault rem stops limit sources f) is met
 
+  pub load_declared : (fault : FilesFault) → IsLoadFault rem stops limit sources fault → fault ≢ run.Read which.SchemaFile
+  load_declared fault met = λ is. subst (λ f. IsLoadFault rem stops limit sources f) is met
+
 -- a fault before any line leaves none
 pub leaves_none : (Is : List (List Field) → List (List ℕ) → Type 0) (asked : List ℕ) (fault : FilesFault) (before after : Option (List ℕ))
     → (is_late fault ≡ true → fault ≡ run.NoMemory) → after ≡ before → Leaves Is asked fault before after
@@ -72,6 +75,9 @@ headers_late fault of late = absurd (cc (of))
 
 pub headers_counted : (fault : FilesFault) → is_of_headers fault ≡ true → fault ≢ run.TooManyFiles
 headers_counted fault of = λ is. absurd (let wrong : false ≡ true = sym (ap is_of_headers is) ∙ of in cc (wrong))
+
+pub headers_declared : (fault : FilesFault) → is_of_headers fault ≡ true → fault ≢ run.Read which.SchemaFile
+headers_declared fault of = λ is. absurd (let wrong : false ≡ true = sym (ap is_of_headers is) ∙ of in cc (wrong))
 
 -- one that is met while lines are written tells that all headers are good
 pub late_fault_of : (stops : Bool) (declared : List ℕ) (texts : List (List ℕ)) (fault : FilesFault) → is_late fault ≡ true → AreGood declared texts

@@ -11,6 +11,7 @@ ghost use Rattle.bsi_files.specs.Ends.{AreReady};
 ghost use Rattle.bsi_asks.specs.RowFiles.{fed_counts};
 ghost use Rattle.bsi_files.specs.Feds.{IsAllFed};
 ghost use Rattle.bsi_asks.specs.Faults.{is_early, is_late};
+ghost use Rattle.bsi_asks.specs.declared.faults.Which.TheVariants as which;
 ghost use Rattle.bsi_files.specs.Headers.{HasHeader};
 ghost use Rattle.bsi_files.specs.Parts.{HasLoadedParts};
 ghost use Rattle.bsi_files.specs.RunFaults.{IsFaultOf, IsFaultOver, IsLoadFault};
@@ -110,6 +111,7 @@ pub fn load_files<
     ensures headers { OnOk result ((texts : List (List ℕ)) →
         map I.remaining sources.items ≡ map Some texts → All (HasHeader schema) texts) }
     ensures counted { IfErr result (λ fault. fault ≢ FilesFault.TooManyFiles) }
+    ensures declared { IfErr result (λ fault. fault ≢ FilesFault.Read which.SchemaFile) }
     ensures fault { IfErr result (IsFaultOver G.STOPS schema limit (map I.remaining sources.items)) }
     ensures late { IfErr result (λ fault. is_late fault ≡ true → fault ≡ FilesFault.NoMemory) }
 
