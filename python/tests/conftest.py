@@ -1,5 +1,5 @@
 """Puts the package of this repository on the path, also for the processes that tests start, and counts warnings as
-failures."""
+failures, but for deprecations, which python/tests/run leaves out."""
 
 import os
 import sys

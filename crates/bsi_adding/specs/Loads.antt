@@ -37,7 +37,7 @@ pub record HasSaved {S : Type 0} (rem put : S → Option (List ℕ)) (before aft
   pub declared : IfSome (rem schema_file) (λ bytes. IsSchemaText bytes table.schema table.limit)
   pub saved : HasPut rem put (codes "saved") table.schema table.limit [] table before after
 
--- a file was opened that keeps a table, and further rows of it, within its limit, were put into a file with the notes
+-- a file was opened that keeps a table, and further rows of it, within its limit, were put into that file with the notes
 -- that stand there
 pub record HasAdded {S : Type 0} (rem put : S → Option (List ℕ)) (so_far : Bool) (before after : Option (List ℕ))
     : Type 0 where
@@ -47,6 +47,7 @@ pub record HasAdded {S : Type 0} (rem put : S → Option (List ℕ)) (so_far : B
   pub feeders_are : more.feeders ≡ kept.feeders
   pub within : length kept.rows + length more.rows ≤ kept.limit
   pub added : HasPut rem put (codes "added") kept.schema kept.limit opened.notes more before after
+  pub same : rem added.old ≡ opened.after
 
 -- one of these paths
 abbrev pub IsOneOf : List (Bor (List ℕ)) → Bor (List ℕ) → Type 0

@@ -37,16 +37,16 @@ pub record GivesRows {R : Type 0} (rem : R → Option (List ℕ)) (source : Sour
   pub taken : HasTaken rem source.layout source.input at source.counts end rows
   pub few : source.counts.taken ≤ max_records → end.taken ≤ max_records
 
--- of the records that were taken of a source, of which the good ones have these rows, and those before so many are bad
-pub record IsCounted {R : Type 0} (rem : R → Option (List ℕ)) (source : Source R) (rows : List Entries) (bad : ℕ) : Type 0 where
+-- records were taken of a source, the good ones give these rows, and with those before so many are bad
+pub record IsTakenFrom {R : Type 0} (rem : R → Option (List ℕ)) (source : Source R) (rows : List Entries) (bad : ℕ) : Type 0 where
   pub at : Reader R
   pub end : Counts
   pub taken : HasTaken rem source.layout source.input at source.counts end rows
   pub bad_is : bad ≡ end.bad
 
--- so many are bad of the records of these rows, and of others behind them that were taken too
+-- so many are bad of records that were taken of a source, of which the good ones begin with these rows
 abbrev pub CountsBad : {R : Type 0} → (R → Option (List ℕ)) → Source R → List Entries → ℕ → Type 0
-CountsBad rem source rows bad = (unsent : List Entries) × IsCounted rem source (rows ++ unsent) bad
+CountsBad rem source rows bad = (unsent : List Entries) × IsTakenFrom rem source (rows ++ unsent) bad
 
 -- the rows that a feeder read of a source and sent after others, and how it says that it ended. A closing carries them
 pub record HasFed {R : Type 0} (rem : R → Option (List ℕ)) (source : Source R) (before : List Entries) (end : FeedEnd)

@@ -29,8 +29,8 @@ const MAX_YIELDS: u32 = 16;
 pub struct FeedEnd {
     /// How many rows were accepted.
     pub accepted: u64,
-    /// How many records of the source were bad, of those that were taken. After a stop or a fault some of them may stand
-    /// behind rows that were not sent.
+    /// How many records of the source were bad, of those that were read. After a stop or a fault some may have been read
+    /// beyond the last row that was sent.
     pub bad: u64,
     /// Whether a row was not sent, because the gate stopped the feeder or because the row does not fit the feeder's
     /// schema.
@@ -74,10 +74,10 @@ pub fn feed<R: Wait, I: Read + Drop, G: Gate>(
     ensures number { IfSome result.closing (λ closing. closing.number ≡ feeder.number) }
     ensures channel { IfSome result.closing (λ closing. closing.channel ≡ feeder.channel) }
 
-    // The rows that were accepted are the first good ones that the source still had. The bad records are those that were
-    // taken up to them, and with rows behind them that were not sent. Where nothing stopped the feeder and there is no
-    // fault, the rows are all good ones, and the bad records all others. A closing carries what was sent before, and
-    // then the rows.
+    // The rows that were accepted are the first good ones that the source still had. The bad records are those before the
+    // last of these rows, and those read beyond it together with rows that were not sent. Where nothing stopped the
+    // feeder and there is no fault, the rows are all good ones, and the bad records all others. A closing carries what
+    // was sent before, and then the rows.
     ensures fed { HasFed I.remaining source feeder.sent result }
 
     // A fault is one at which the source stops once it has given so many rows. Refused memory may stop it anywhere.

@@ -26,7 +26,7 @@ use Rattle.bsi_feeding.specs.Feeding.{HasFailed, StopsAfter}
 use Rattle.bsi_files.specs.Headers.{HasHeader, IsBehindHeaders, IsHeadersFault}
 use Rattle.bsi_asks.specs.Matching.{AreMatched}
 use Rattle.bsi_asks.specs.RowFiles.{RowFile}
-use Rattle.bsi_files.specs.RunFaults.{AreGood, AreGoodBefore, AreOverLimit, AreRowFiles, FailsAt, GaveRows, HasFirstRows, IsFaultOf, IsKeptFault, IsLoadFault, IsTooLongFile, WasReadOut}
+use Rattle.bsi_files.specs.RunFaults.{is_of_loading, AreGood, AreGoodBefore, AreOverLimit, AreRowFiles, FailsAt, GaveRows, HasFirstRows, IsFaultOf, IsKeptFault, IsLoadFault, IsTooLongFile, WasReadOut}
 use Rattle.bsi_files.specs.Takings.{AreGoing, AreTold}
 use Rattle.bsi_asks.specs.Writing.{Leaves}
 use Rattle.bsi_asks.specs.declared.faults.FilesFault.{FilesFault}
@@ -56,8 +56,12 @@ module _ {R : Type 0} (rem : R → Option (List ℕ)) (stops : Bool) (limit : �
   pub load_counted : (fault : FilesFault) → IsLoadFault rem stops limit sources fault → fault ≢ run.TooManyFiles
   load_counted fault met = λ is. subst (λ f. IsLoadFault rem stops limit sources f) is met
 
-  pub load_declared : (fault : FilesFault) → IsLoadFault rem stops limit sources fault → fault ≢ run.Read which.SchemaFile
-  load_declared fault met = λ is. subst (λ f. IsLoadFault rem stops limit sources f) is met
+  pub load_loading : (fault : FilesFault) → IsLoadFault rem stops limit sources fault → is_of_loading fault ≡ true
+  load_loading (run.Source n e) met = refl
+  load_loading (run.NotClosed n) met = refl
+  load_loading run.IndexFull met = refl
+  load_loading run.NoMemory met = refl
+  load_loading fault met = absurd met
 
 -- a fault before any line leaves none
 pub leaves_none : (Is : List (List Field) → List (List ℕ) → Type 0) (asked : List ℕ) (fault : FilesFault) (before after : Option (List ℕ))
@@ -76,8 +80,10 @@ headers_late fault of late = absurd (cc (of))
 pub headers_counted : (fault : FilesFault) → is_of_headers fault ≡ true → fault ≢ run.TooManyFiles
 headers_counted fault of = λ is. absurd (let wrong : false ≡ true = sym (ap is_of_headers is) ∙ of in cc (wrong))
 
-pub headers_declared : (fault : FilesFault) → is_of_headers fault ≡ true → fault ≢ run.Read which.SchemaFile
-headers_declared fault of = λ is. absurd (let wrong : false ≡ true = sym (ap is_of_headers is) ∙ of in cc (wrong))
+pub headers_loading : (fault : FilesFault) → is_of_headers fault ≡ true → is_of_loading fault ≡ true
+headers_loading (run.Source n e) of = refl
+headers_loading run.NoMemory of = refl
+headers_loading fault of = absurd (cc (of))
 
 -- one that is met while lines are written tells that all headers are good
 pub late_fault_of : (stops : Bool) (declared : List ℕ) (texts : List (List ℕ)) (fault : FilesFault) → is_late fault ≡ true → AreGood declared texts

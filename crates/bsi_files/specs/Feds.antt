@@ -6,8 +6,8 @@ use Rattle.bsi_reading.specs.Sources.{Source}
 use Rattle.bsi_feeding.specs.Feeding.{CountsBad, IsReadOut}
 use Rattle.bsi_asks.specs.declared.fed.Fed.{Fed}
 
--- the rows of a feeder in a list are as many as were accepted, the bad records are those of the records that were taken
--- of its source and, where no gate stops it, the rows are those of its source, which was read out
+-- the rows of a feeder in a list are as many as were accepted, the bad records are those of some first records of its
+-- source that have these rows and, where no gate stops it, the rows are those of its source, which was read out
 pub record IsFedFrom {R : Type 0} (rem : R → Option (List ℕ)) (stops : Bool) (rows : List FedRow) (n : ℕ)
     (source : Source R) (fed : Fed) : Type 0 where
   pub many : length (rows_from n rows) ≡ fed.accepted

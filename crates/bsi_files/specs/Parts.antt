@@ -6,8 +6,10 @@ use Rattle.bsi_records.specs.Numbers.{Field}
 use Rattle.bsi_rows.specs.Rows.{Entries, FedRow}
 use Rattle.bsi_rows.specs.Runs.{rows_from}
 use Rattle.bsi_reading.specs.RowFiles.{bad_count, good_rows, is_header}
+use Rattle.bsi_reading.specs.SchemaTexts.{IsSchemaText}
 use Rattle.bsi_reading.specs.Texts.{AreFirstRecords}
 use Rattle.bsi_asks.specs.RowFiles.{FedCounts}
+use Rattle.bsi_asks.specs.Runs.{AreLines}
 
 -- these bytes begin with a header and records of which so many are bad, and the good ones begin with these rows
 pub record HasPart (schema : Declared) (bytes : List ℕ) (rows : List Entries) (bad : ℕ) : Type 0 where
@@ -21,7 +23,7 @@ pub record HasPart (schema : Declared) (bytes : List ℕ) (rows : List Entries) 
   pub rows_are : good_rows schema header records ≡ rows ++ unsent
   pub bad_is : bad ≡ bad_count schema header records
 
--- the rows of each feeder, from the n-th on, are as many as were accepted, and its file begins with them
+-- the rows of each feeder, from the n-th on, are as many as were accepted, and the good rows of its file begin with them
 abbrev pub AreParts : Declared → List FedRow → ℕ → List (List ℕ) → List FedCounts → Type 0
 AreParts schema rows n [] [] = ⊤
 AreParts schema rows n (bytes ∷ texts) (counts ∷ others) =
@@ -35,3 +37,14 @@ pub record HasLoadedParts (schema : Declared) (limit : ℕ) (texts : List (List 
   pub each : AreParts schema rows 0 texts counts
   pub none : (f : ℕ) → length texts ≤ f → rows_from f rows ≡ []
   pub within : length rows ≤ limit
+
+-- the lines of a run whose feeders a gate may stop, for asks of these records: of some first rows of each file
+pub record IsPartRun (declared : List ℕ) (texts : List (List ℕ)) (records : List (List Field)) (lines : List (List ℕ))
+    : Type 0 where
+  pub schema : Declared
+  pub limit : ℕ
+  pub rows : List FedRow
+  pub counts : List FedCounts
+  pub schema_is : IsSchemaText declared schema limit
+  pub loaded : HasLoadedParts schema limit texts rows counts
+  pub lines_are : AreLines schema rows counts records lines

@@ -171,6 +171,14 @@ IsKeptFault stops feds (run.NotClosed number) =
     IsFirstOpen feds number ⊎ ((stops ≡ false) × IsFirstStopped feds number)
 IsKeptFault stops feds fault = IsSourceFault feds fault × (stops ≡ false → AreGoing feds)
 
+-- a fault of the row files, of a feeder, of the limit or of memory
+abbrev pub is_of_loading : FilesFault → Bool
+is_of_loading (run.Source number fault) = true
+is_of_loading (run.NotClosed number) = true
+is_of_loading run.IndexFull = true
+is_of_loading run.NoMemory = true
+is_of_loading fault = false
+
 -- a fault that is met while rows are loaded
 abbrev pub IsLoadFault : {R : Type 0} → (R → Option (List ℕ)) → Bool → ℕ → List (Source R) → FilesFault → Type 0
 IsLoadFault rem stops limit sources (run.Source number fault) =

@@ -11,10 +11,9 @@ ghost use Rattle.bsi_files.specs.Ends.{AreReady};
 ghost use Rattle.bsi_asks.specs.RowFiles.{fed_counts};
 ghost use Rattle.bsi_files.specs.Feds.{IsAllFed};
 ghost use Rattle.bsi_asks.specs.Faults.{is_early, is_late};
-ghost use Rattle.bsi_asks.specs.declared.faults.Which.TheVariants as which;
 ghost use Rattle.bsi_files.specs.Headers.{HasHeader};
-ghost use Rattle.bsi_files.specs.Parts.{HasLoadedParts};
-ghost use Rattle.bsi_files.specs.RunFaults.{IsFaultOf, IsFaultOver, IsLoadFault};
+ghost use Rattle.bsi_files.specs.Parts.{HasLoadedParts, IsPartRun};
+ghost use Rattle.bsi_files.specs.RunFaults.{is_of_loading, IsFaultOf, IsFaultOver, IsLoadFault};
 ghost use Rattle.bsi_asks.specs.Runs.{HasLoaded, IsRun};
 ghost use Rattle.bsi_asks.specs.Writing.{Leaves, WhereFilesKnown, WhereKnown, WritesAll};
 ghost use Rattle.bsi_system.specs.Running.{AlwaysHolds};
@@ -80,6 +79,12 @@ pub fn run_files<
         WhereKnown (S.remaining schema) (map I.remaining sources.items) (A.remaining asks)
         (λ declared texts asked. Leaves (IsRun declared texts) asked fault
         (W.contents writer.old) (W.contents writer.new))) }
+
+    // And whatever a gate stops.
+    ensures parts { OnOk result
+        (WhereKnown (S.remaining schema) (map I.remaining sources.items) (A.remaining asks)
+        (λ declared texts asked. WritesAll (IsPartRun declared texts) asked
+        (W.contents writer.old) (W.contents writer.new))) }
 {
     if sources.len() > MAX_FEEDERS as usize {
         return Err(FilesFault::TooManyFiles);
@@ -111,7 +116,7 @@ pub fn load_files<
     ensures headers { OnOk result ((texts : List (List ℕ)) →
         map I.remaining sources.items ≡ map Some texts → All (HasHeader schema) texts) }
     ensures counted { IfErr result (λ fault. fault ≢ FilesFault.TooManyFiles) }
-    ensures declared { IfErr result (λ fault. fault ≢ FilesFault.Read which.SchemaFile) }
+    ensures loading { IfErr result (λ fault. is_of_loading fault ≡ true) }
     ensures fault { IfErr result (IsFaultOver G.STOPS schema limit (map I.remaining sources.items)) }
     ensures late { IfErr result (λ fault. is_late fault ≡ true → fault ≡ FilesFault.NoMemory) }
 

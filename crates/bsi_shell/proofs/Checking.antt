@@ -1,10 +1,13 @@
 -- A check of files that were opened under their paths.
-use Rattle.std.proofs.Common.{◌≡◌, ℕ, Bool, List, Option, Some, None, map, option_map, refl, sym, subst}
+use Rattle.std.proofs.Common.{◌≡◌, ℕ, ◌++◌, Bool, List, Option, Some, None, map, option_map, refl, sym, subst}
 use Rattle.std.proofs.lemmas.Simd.{map-map}
 use Rattle.std.specs.Io.KnownBytes.{Keeps}
-use Rattle.bsi_check.specs.Reports.{text_of, HasReported}
+use Rattle.bsi_check.specs.Reports.{text_of, HasBegunReport, HasReported}
+use Rattle.bsi_reading.proofs.Waiting.{cut_all}
 use Rattle.bsi_check.specs.declared.named.NamedFile.{NamedFile}
-use Rattle.bsi_shell.specs.Checks.{HasReportedOver}
+use Rattle.bsi_check.specs.declared.fault.CheckFault.{CheckFault}
+use Rattle.bsi_check.specs.declared.fault.CheckFault.TheVariants.{NoMemory, Write}
+use Rattle.bsi_shell.specs.Checks.{check_fault_of, HasBegunOver, HasReportedOver, LeavesCheck}
 
 module _ {S : Type 0} (rem : S → Option (List ℕ)) where
   abbrev reader_of : NamedFile S → S
@@ -29,3 +32,38 @@ module _ {S : Type 0} (rem : S → Option (List ℕ)) where
         (subst (λ read. HasReported (rem schema.reader) read (option_map (text_of rem) asks) before middle good) (texts rows) reported);
     kept = kept;
   }
+
+  pub begun_over : (schema : NamedFile S) (asks : Option (NamedFile S)) (rows : List (NamedFile S)) (before middle after : Option (List ℕ))
+      → HasBegunReport (text_of rem schema) (map (text_of rem) rows) (option_map (text_of rem) asks) before middle → Keeps middle after
+      → HasBegunOver rem before after
+  begun_over schema asks rows before middle after begun kept = record {
+    schema = schema.reader;
+    asks = option_map reader_of asks;
+    rows = map reader_of rows;
+    middle = middle;
+    begun = subst (λ asked. HasBegunReport (rem schema.reader) (map rem (map reader_of rows)) asked before middle) (given asks)
+        (subst (λ read. HasBegunReport (rem schema.reader) read (option_map (text_of rem) asks) before middle) (texts rows) begun);
+    kept = kept;
+  }
+
+-- a whole report is a first part too
+pub begun_all : (declared : Option (List ℕ)) (read : List (Option (List ℕ))) (asked : Option (Option (List ℕ))) (before after : Option (List ℕ)) (good : Bool)
+    → HasReported declared read asked before after good → HasBegunReport declared read asked before after
+begun_all declared read asked before after good reported = record {
+  reasons = reported.reasons;
+  fed = reported.fed;
+  report = reported.report;
+  cut = cut_all before after (reported.reasons ++ reported.fed) reported.written;
+}
+
+-- what stays as it is keeps its bytes
+pub keeps_same : (bytes : Option (List ℕ)) → Keeps bytes bytes
+keeps_same None = tt
+keeps_same (Some bytes) = refl
+
+-- where the check itself ended by a fault
+pub left_checked : {S : Type 0} (rem : S → Option (List ℕ)) (schema : NamedFile S) (asks : Option (NamedFile S)) (rows : List (NamedFile S)) (before after : Option (List ℕ)) (fault : CheckFault)
+    → (fault ≡ Write → HasBegunReport (text_of rem schema) (map (text_of rem) rows) (option_map (text_of rem) asks) before after) → (fault ≡ NoMemory → after ≡ before)
+    → LeavesCheck rem (check_fault_of fault) before after
+left_checked rem schema asks rows before after NoMemory part quiet = quiet refl
+left_checked rem schema asks rows before after Write part quiet = begun_over rem schema asks rows before after after (part refl) (keeps_same after)

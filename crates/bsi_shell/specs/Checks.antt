@@ -2,18 +2,18 @@
 use Rattle.std.specs.Io.KnownBytes.{Keeps}
 use Rattle.std.specs.Prelude.{◌≡◌, ◌⊎◌, ℕ, Bool, true, false, List, Option, Result, Ok, map, option_map}
 use Rattle.bsi_asks.specs.declared.faults.FilesFault.TheVariants as run
-use Rattle.bsi_check.specs.Reports.{HasReported}
+use Rattle.bsi_check.specs.Reports.{HasBegunReport, HasReported}
 use Rattle.bsi_check.specs.declared.fault.CheckFault.{CheckFault}
 use Rattle.bsi_check.specs.declared.fault.CheckFault.TheVariants as check
 use Rattle.bsi_reading.specs.declared.writing.WriteFault.{WriteFault}
 use Rattle.bsi_shell.specs.FaultLines.{fault_line, IsTold}
 use Rattle.bsi_shell.specs.declared.files.RunFault.{RunFault}
-use Rattle.bsi_shell.specs.declared.files.RunFault.TheVariants.{Run}
+use Rattle.bsi_shell.specs.declared.files.RunFault.TheVariants.{CannotOpen, Run}
 
 -- the fault of a command whose check ended early
-abbrev pub run_fault_of : CheckFault → RunFault
-run_fault_of check.NoMemory = Run run.NoMemory
-run_fault_of check.Write = Run run.Write
+abbrev pub check_fault_of : CheckFault → RunFault
+check_fault_of check.NoMemory = Run run.NoMemory
+check_fault_of check.Write = Run run.Write
 
 -- some files were opened, and a check of them was put behind what the output held; it says whether there was no reason
 pub record HasReportedOver {S : Type 0} (rem : S → Option (List ℕ)) (before after : Option (List ℕ)) (good : Bool)
@@ -29,9 +29,25 @@ pub record HasReportedOver {S : Type 0} (rem : S → Option (List ℕ)) (before 
 abbrev pub HasChecked : {S : Type 0} → (S → Option (List ℕ)) → Option (List ℕ) → Option (List ℕ) → Type 0
 HasChecked rem before after = HasReportedOver rem before after true
 
+-- a first part of a check of some files that were opened was put behind what the output held
+pub record HasBegunOver {S : Type 0} (rem : S → Option (List ℕ)) (before after : Option (List ℕ)) : Type 0 where
+  pub schema : S
+  pub asks : Option S
+  pub rows : List S
+  pub middle : Option (List ℕ)
+  pub begun : HasBegunReport (rem schema) (map rem rows) (option_map rem asks) before middle
+  pub kept : Keeps middle after
+
+-- what a check leaves in the output that ends by a fault: nothing, or a first part where the output can't be written
+abbrev pub LeavesCheck : {S : Type 0} → (S → Option (List ℕ)) → RunFault → Option (List ℕ) → Option (List ℕ) → Type 0
+LeavesCheck rem (CannotOpen path) before after = after ≡ before
+LeavesCheck rem (Run run.NoMemory) before after = after ≡ before
+LeavesCheck rem (Run run.Write) before after = HasBegunOver rem before after
+LeavesCheck rem fault before after = ⊥
+
 -- or there were reasons, and no line was told; or the check ended early by a fault whose line was told
 abbrev pub HasToldCheck : {S : Type 0} → (S → Option (List ℕ)) → Option (List ℕ) → Option (List ℕ)
     → Result (Unit {0}) WriteFault → Option (List ℕ) → Option (List ℕ) → Type 0
 HasToldCheck rem before after told said now =
     (HasReportedOver rem before after false × (told ≡ Ok tt) × (now ≡ said))
-    ⊎ ((fault : RunFault) × IsTold told said now (fault_line fault))
+    ⊎ ((fault : RunFault) × LeavesCheck rem fault before after × IsTold told said now (fault_line fault))

@@ -1,6 +1,7 @@
 //! A check of files: it opens all files in the order of the words, and then reads them.
-ghost use Rattle.std.specs.Prelude.{IfOk};
-ghost use Rattle.bsi_shell.specs.Checks.{HasReportedOver};
+ghost use Rattle.std.specs.Prelude.{IfErr, IfOk};
+ghost use Rattle.bsi_shell.specs.Checks.{HasReportedOver, LeavesCheck};
+ghost use Rattle.bsi_shell.specs.FileRuns.{IsOpenFault};
 
 use crate::files::{RunFault, open_one};
 use crate::paths::CheckPaths;
@@ -12,9 +13,9 @@ use std::rt::Files;
 
 impl From<CheckFault> for RunFault<'_> {
     ghost use Rattle.std.specs.Prelude.{◌≡◌};
-    ghost use Rattle.bsi_shell.specs.Checks.{run_fault_of};
+    ghost use Rattle.bsi_shell.specs.Checks.{check_fault_of};
 
-    ghost from_gives = { λ fault run_fault. run_fault ≡ run_fault_of fault };
+    ghost from_gives = { λ fault run_fault. run_fault ≡ check_fault_of fault };
 
     fn from(fault: CheckFault) -> Self {
         match fault {
@@ -30,8 +31,10 @@ pub(crate) fn check_over<'a, R: AllocGlobal + Files<File = S>, S: Read + Drop, O
     paths: &CheckPaths<'a>,
     output: &mut O,
 ) -> Result<bool, RunFault<'a>>
-    ensures { IfOk result
+    ensures reported { IfOk result
         (HasReportedOver S.remaining (O.contents output.old) (O.contents output.new)) }
+    ensures left { IfErr result (λ fault.
+        LeavesCheck S.remaining fault (O.contents output.old) (O.contents output.new)) }
 {
     let schema = open_named(rt, paths.schema)?;
     let asks = open_asks(rt, paths.asks)?;
@@ -47,7 +50,9 @@ pub(crate) fn check_over<'a, R: AllocGlobal + Files<File = S>, S: Read + Drop, O
 fn open_named<'a, R: Files<File = S>, S: Read + Drop>(
     rt: &R,
     path: &'a str,
-) -> Result<NamedFile<'a, S>, RunFault<'a>> {
+) -> Result<NamedFile<'a, S>, RunFault<'a>>
+    ensures { IfErr result IsOpenFault }
+{
     let reader = open_one(rt, path)?;
     Ok(NamedFile { path, reader })
 }
@@ -56,7 +61,9 @@ fn open_named<'a, R: Files<File = S>, S: Read + Drop>(
 fn open_asks<'a, R: Files<File = S>, S: Read + Drop>(
     rt: &R,
     path: Option<&'a str>,
-) -> Result<Option<NamedFile<'a, S>>, RunFault<'a>> {
+) -> Result<Option<NamedFile<'a, S>>, RunFault<'a>>
+    ensures { IfErr result IsOpenFault }
+{
     match path {
         Some(path) => Ok(Some(open_named(rt, path)?)),
         None => Ok(None),
@@ -67,7 +74,9 @@ fn open_asks<'a, R: Files<File = S>, S: Read + Drop>(
 fn open_rows<'a, R: AllocGlobal + Files<File = S>, S: Read + Drop>(
     rt: &R,
     paths: &[&'a str],
-) -> Result<Vec<NamedFile<'a, S>>, RunFault<'a>> {
+) -> Result<Vec<NamedFile<'a, S>>, RunFault<'a>>
+    ensures { IfErr result IsOpenFault }
+{
     let mut rows = Vec::with_capacity(rt.alloc(), paths.len())?;
     for path in paths {
         let file = open_named(rt, path)?;

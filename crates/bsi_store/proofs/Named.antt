@@ -3,8 +3,9 @@ use Rattle.std.proofs.Common.{◌≡◌, ℕ, List, Option, inl, inr, refl, subs
 use Rattle.std.specs.Borrow.{Bor}
 use Rattle.bsi_saved.specs.declared.fault.OpenFault.{OpenFault}
 use Rattle.bsi_saved.specs.declared.fault.OpenFault.TheVariants as opening
-use Rattle.bsi_store.specs.Faults.{cut_off, unopened, IsFileFault, Names}
+use Rattle.bsi_store.specs.Faults.{cut_off, unopened, IsFileFault, IsOfFile, Names}
 use Rattle.bsi_store.specs.declared.fault.StoreFault.{StoreFault}
+use Rattle.bsi_store.specs.declared.fault.StoreFault.TheVariants.{CannotOpen, CannotWrite, Unusable, Run}
 
 abbrev pub Named : Bor (List ℕ) → StoreFault → Type 0
 Named path fault = Names (λ named. named ≡ path) fault
@@ -28,3 +29,11 @@ un_named path opening.NoMemory = tt
 pub file_named : (path : Bor (List ℕ)) (bytes : Option (List ℕ)) (told : StoreFault) → IsFileFault path bytes told → Named path told
 file_named path bytes told (inl (fault, after, is, told_is)) = subst (Named path) (sym told_is) (un_named path fault)
 file_named path bytes told (inr (fault, after, t, notes, size, is, told_is)) = subst (Named path) (sym told_is) (cut_named path fault _)
+
+-- and is that of the file
+pub file_is : {S : Type 0} (rem : S → Option (List ℕ)) (path : Bor (List ℕ)) (file : S) (told : StoreFault) → IsFileFault path (rem file) told → IsOfFile rem told
+file_is rem path file (CannotOpen named) is = tt
+file_is rem path file (CannotWrite named) is = tt
+file_is rem path file (Unusable named why) is =
+    (file, subst (λ p. IsFileFault p (rem file) (Unusable named why)) (sym (file_named path (rem file) (Unusable named why) is)) is)
+file_is rem path file (Run fault) is = tt

@@ -10,7 +10,7 @@ use Rattle.bsi_asks.specs.Writing.{WritesAll}
 use Rattle.bsi_saved.specs.Faults.{IsOpened}
 use Rattle.bsi_saved.specs.declared.fault.OpenFault.{OpenFault}
 
--- a file was opened, and its first bytes keep the table: all of them, unless rows before a fault may do
+-- a file was opened, and its first bytes keep the table; without `so_far` these are all its bytes
 pub record IsKeptIn {S : Type 0} (rem : S → Option (List ℕ)) (so_far : Bool) (t : Table) : Type 0 where
   pub file : S
   pub after : Option (List ℕ)

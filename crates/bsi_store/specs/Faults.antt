@@ -63,3 +63,14 @@ IsFileFault path bytes told =
     ((fault : OpenFault) × (after : Option (List ℕ)) × IsFirstFault bytes after fault × (told ≡ unopened path fault))
     ⊎ ((fault : OpenFault) × (after : Option (List ℕ)) × (t : Table) × (notes : List ℕ) × (size : ℕ)
     × IsOpened bytes after t notes size (Some fault) × (told ≡ cut_off path fault (length t.rows)))
+
+-- the fault of a file of these bytes of which not one segment was read, or that can't be read on
+abbrev pub IsHopeless : Bor (List ℕ) → Option (List ℕ) → StoreFault → Type 0
+IsHopeless path bytes told =
+    ((fault : OpenFault) × (after : Option (List ℕ)) × IsFirstFault bytes after fault × (told ≡ unopened path fault))
+    ⊎ ((told ≡ Unusable path Read) ⊎ (told ≡ Run NoMemory))
+
+-- a fault that is of a file is that of one which was opened
+abbrev pub IsOfFile : {S : Type 0} → (S → Option (List ℕ)) → StoreFault → Type 0
+IsOfFile {S} rem (Unusable path why) = (file : S) × IsFileFault path (rem file) (Unusable path why)
+IsOfFile rem fault = Unit {0}

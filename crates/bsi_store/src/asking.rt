@@ -2,7 +2,7 @@
 
 ghost use Rattle.std.specs.Prelude.{◌≡◌, ◌⊎◌, IfErr, OnOk};
 ghost use Rattle.bsi_store.specs.Asked.{HasAsked};
-ghost use Rattle.bsi_store.specs.Faults.{Names};
+ghost use Rattle.bsi_store.specs.Faults.{IsOfFile, Names};
 
 use crate::StoreFault;
 use crate::locks::LockFile;
@@ -33,6 +33,7 @@ pub fn ask_over<'a, R: AllocGlobal + Files<File = S>, S: Read + LockFile + Drop,
         (O.contents output.old) (O.contents output.new)) }
     ensures named { IfErr result
         (Names (λ named. (named ≡ paths.now.kept) ⊎ (named ≡ asks.entry))) }
+    ensures fault { IfErr result (IsOfFile S.remaining) }
 {
     let asks = open_one(rt, asks)?;
     ask_input(rt, paths, asks, output)
@@ -49,6 +50,7 @@ pub fn ask_input<
     ensures asked { OnOk result (HasAsked S.remaining paths.now.so_far (I.remaining asks)
         (O.contents output.old) (O.contents output.new)) }
     ensures named { IfErr result (Names (λ named. named ≡ paths.now.kept)) }
+    ensures fault { IfErr result (IsOfFile S.remaining) }
 {
     let opened = open_kept(rt, paths.kept, paths.so_far)?;
     answer_asks(rt.alloc(), &opened.index, asks, output)?;

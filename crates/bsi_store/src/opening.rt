@@ -1,9 +1,9 @@
 //! Files that are opened by their paths.
 
-ghost use Rattle.std.specs.Prelude.{◌≡◌, IfErr, IfOk, None, false};
+ghost use Rattle.std.specs.Prelude.{◌≡◌, IfErr, IfOk, None, false, true};
 ghost use Rattle.bsi_saved.specs.Faults.{IsOpened};
 ghost use Rattle.bsi_store.specs.Asked.{IsKeptIn};
-ghost use Rattle.bsi_store.specs.Faults.{IsFileFault, Names};
+ghost use Rattle.bsi_store.specs.Faults.{IsFileFault, IsHopeless, IsOfFile, Names};
 ghost use Rattle.bsi_table.specs.Index.{table_of};
 
 use crate::StoreFault;
@@ -33,6 +33,7 @@ pub(crate) fn open_kept<'a, R: AllocGlobal + Files<File = S>, S: Read + LockFile
 ) -> Result<Opened, StoreFault<'a>>
     ensures kept { IfOk result (λ opened. IsKeptIn S.remaining so_far (table_of opened.index)) }
     ensures named { IfErr result (Names (λ named. named ≡ path.entry)) }
+    ensures fault { IfErr result (IsOfFile S.remaining) }
 {
     let mut file = open_one(rt, path)?;
     // A file that can't be locked, as a pipe, is read as it is.
@@ -52,6 +53,7 @@ pub fn read_kept<'a, S: Read>(
         (table_of opened.index) opened.notes.items opened.bytes opened.fault) }
     ensures whole { so_far ≡ false → IfOk result (λ opened. opened.fault ≡ None) }
     ensures fault { IfErr result (IsFileFault path.entry (S.remaining file.old)) }
+    ensures so_far { so_far ≡ true → IfErr result (IsHopeless path.entry (S.remaining file.old)) }
 {
     let opened = match read_index(alloc, file) {
         Ok(opened) => opened,

@@ -3,7 +3,7 @@
 ghost use Rattle.std.specs.Prelude.{◌≡◌, ℕ, IfErr, List, OnOk};
 ghost use Rattle.std.specs.Io.KnownBytes.{Appends};
 ghost use Rattle.bsi_store.specs.Asked.{HasShown};
-ghost use Rattle.bsi_store.specs.Faults.{Names};
+ghost use Rattle.bsi_store.specs.Faults.{IsOfFile, Names};
 
 use crate::StoreFault;
 use crate::locks::LockFile;
@@ -24,6 +24,7 @@ pub fn show_index<'a, R: AllocGlobal + Files<File = S>, S: Read + LockFile + Dro
     ensures shown { OnOk result
         (HasShown S.remaining (O.contents output.old) (O.contents output.new)) }
     ensures named { IfErr result (Names (λ named. named ≡ path.entry)) }
+    ensures fault { IfErr result (IsOfFile S.remaining) }
 {
     let opened = open_kept(rt, path, false)?;
     let index = &opened.index;

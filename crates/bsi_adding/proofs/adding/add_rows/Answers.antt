@@ -1,4 +1,4 @@
-use Rattle.std.proofs.Common.{ℕ, List, map, subst}
+use Rattle.std.proofs.Common.{ℕ, List, map, refl, subst}
 use Rattle.std.specs.Io.KnownBytes.{Appends}
 use Rattle.bsi_asks.specs.RowFiles.{fed_counts}
 use Rattle.bsi_adding.proofs.Notes.{notes_few}
@@ -44,4 +44,5 @@ returns-clause-added g c =
         lines = subst (λ (bytes : List ℕ). Appends before after bytes) c.in_ok-text.ensures
             (subst (λ (bytes : List ℕ). Appends before after bytes) c.as_slice.ensures.value c.in_ok-write_bytes.ensures.ok);
       };
+      same = refl;
     }

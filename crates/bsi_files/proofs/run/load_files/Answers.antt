@@ -7,7 +7,7 @@ use Rattle.bsi_asks.specs.Faults.{is_late, is_of_headers}
 use Rattle.bsi_files.specs.Headers.{IsHeadersFault}
 use Rattle.bsi_files.specs.RunFaults.{IsFaultOf}
 use Rattle.bsi_asks.specs.declared.faults.FilesFault.TheVariants.{NoMemory}
-use Rattle.bsi_files.proofs.Failing.{headers_counted, headers_declared, headers_fault_of, headers_known, headers_late, load_counted, load_declared, load_late, run_fault_of}
+use Rattle.bsi_files.proofs.Failing.{headers_counted, headers_loading, headers_fault_of, headers_known, headers_late, load_counted, load_loading, load_late, run_fault_of}
 use Rattle.bsi_files.proofs.Files.{as_many, loaded_of, matched_long}
 use Rattle.bsi_files.proofs.Parts.{loaded_parts}
 use Rattle.bsi_asks.proofs.Passing.{if_err, if_ok, so_ok}
@@ -68,9 +68,9 @@ pub returns-clause-counted : goal.returns-clause-counted
 returns-clause-counted g c =
     if_err c.load_in-loaded.result (load_counted g.I.Read.remaining g.G.Stopping.STOPS c.args.limit c.in_ok-sources.sources.items) c.load_in-loaded.ensures.fault
 
-pub returns-clause-declared : goal.returns-clause-declared
-returns-clause-declared g c =
-    if_err c.load_in-loaded.result (load_declared g.I.Read.remaining g.G.Stopping.STOPS c.args.limit c.in_ok-sources.sources.items) c.load_in-loaded.ensures.fault
+pub returns-clause-loading : goal.returns-clause-loading
+returns-clause-loading g c =
+    if_err c.load_in-loaded.result (load_loading g.I.Read.remaining g.G.Stopping.STOPS c.args.limit c.in_ok-sources.sources.items) c.load_in-loaded.ensures.fault
 
 pub returns-clause-late : goal.returns-clause-late
 returns-clause-late g c =
@@ -90,10 +90,10 @@ returns-in_err-sources-clause-counted g c =
     let first : IfErr c.from_residual.result (λ fault. is_of_headers fault ≡ true) = search rules in
     if_err c.from_residual.result headers_counted first
 
-pub returns-in_err-sources-clause-declared : goal.returns-in_err-sources-clause-declared
-returns-in_err-sources-clause-declared g c =
+pub returns-in_err-sources-clause-loading : goal.returns-in_err-sources-clause-loading
+returns-in_err-sources-clause-loading g c =
     let first : IfErr c.from_residual.result (λ fault. is_of_headers fault ≡ true) = search rules in
-    if_err c.from_residual.result headers_declared first
+    if_err c.from_residual.result headers_loading first
 
 pub returns-in_err-sources-clause-late : goal.returns-in_err-sources-clause-late
 returns-in_err-sources-clause-late g c =

@@ -4,6 +4,7 @@ use Rattle.bsi_schema.specs.Columns.{Declared}
 use Rattle.bsi_records.specs.Numbers.{Field}
 use Rattle.bsi_reading.specs.SchemaTexts.{IsSchemaText}
 use Rattle.bsi_asks.specs.RowFiles.{fed_counts, FedCounts}
+use Rattle.bsi_files.specs.Parts.{HasLoadedParts}
 use Rattle.bsi_files.specs.RunFaults.{AreGood, IsFaultOver}
 use Rattle.bsi_asks.specs.Runs.{AreLines, HasLoaded, IsRun}
 use Rattle.bsi_asks.specs.Writing.{WritesAll, WritesFirst}
@@ -56,6 +57,33 @@ returns-clause-lines g c =
     all_follows {Is = AreLines c.in_ok-loaded.loaded.table.schema rows (map fed_counts feds)}
     (λ records lines are. run_of_loaded schema limit declared texts rows (map fed_counts feds) declares loaded records lines
     (subst (λ (d : Declared). AreLines d rows (map fed_counts feds) records lines) c.in_ok-loaded.ensures.schema are))
+    asked before after written))
+    c.answer_all.ensures.ok
+
+pub returns-clause-parts : goal.returns-clause-parts
+returns-clause-parts g c =
+    let schema = c.in_ok-schema.field-0.schema in
+    let limit = c.in_ok-schema.field-0.limit in
+    let rows = c.in_ok-loaded.loaded.table.rows in
+    let feds = c.deref.result.now in
+    let counts = map fed_counts feds in
+    let before = g.W.Write.contents c.args.writer.now in
+    let after = g.W.Write.contents c.answer_all.new.writer in
+    on_ok c.answer_all.result
+    (λ some declared texts asked s i a.
+    (let declares = subst (λ (o : Option (List ℕ)). IfSome o (λ bytes. IsSchemaText bytes schema limit)) s c.in_ok-schema.ensures.declared in
+    let loaded = subst (λ (xs : List Fed). HasLoadedParts schema limit texts rows (map fed_counts xs)) (sym c.deref.ensures.value) (c.in_ok-loaded.ensures.parts texts i) in
+    let written = subst (λ (o : Option (List ℕ)). IfSome o (λ bytes. WritesAll (AreLines c.in_ok-loaded.loaded.table.schema rows counts) bytes before after)) a some in
+    all_follows {Is = AreLines c.in_ok-loaded.loaded.table.schema rows counts}
+    (λ records lines are. record {
+      schema = schema;
+      limit = limit;
+      rows = rows;
+      counts = counts;
+      schema_is = declares;
+      loaded = loaded;
+      lines_are = subst (λ (d : Declared). AreLines d rows counts records lines) c.in_ok-loaded.ensures.schema are;
+    })
     asked before after written))
     c.answer_all.ensures.ok
 

@@ -1,6 +1,6 @@
 use Rattle.std.specs.Prelude.{IfOk, Result, Ok, Err}
 use Rattle.bsi_asks.proofs.Passing.{if_err}
-use Rattle.bsi_store.proofs.Named.{file_named}
+use Rattle.bsi_store.proofs.Named.{file_is, file_named}
 use Rattle.bsi_store.proofs.opening.open_kept.Goals as goal
 
 -- what follows from what is so of a result, and from what is so under a condition
@@ -22,3 +22,7 @@ returns-clause-kept g c =
 
 pub returns-clause-named : goal.returns-clause-named
 returns-clause-named g c = if_err c.read_kept.result (λ fault is. file_named c.args.path (g.S.Read.remaining c.in_ok-file.file) fault is) c.read_kept.ensures.fault
+
+pub returns-clause-fault : goal.returns-clause-fault
+returns-clause-fault g c =
+    if_err c.read_kept.result (λ fault is. file_is g.S.Read.remaining c.args.path c.in_ok-file.file fault is) c.read_kept.ensures.fault
