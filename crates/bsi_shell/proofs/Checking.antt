@@ -7,6 +7,7 @@ use Rattle.bsi_reading.proofs.Waiting.{cut_all}
 use Rattle.bsi_check.specs.declared.named.NamedFile.{NamedFile}
 use Rattle.bsi_check.specs.declared.fault.CheckFault.{CheckFault}
 use Rattle.bsi_check.specs.declared.fault.CheckFault.TheVariants.{NoMemory, Write}
+use Rattle.bsi_shell.proofs.Runs.{keeps_same}
 use Rattle.bsi_shell.specs.Checks.{check_fault_of, HasBegunOver, HasReportedOver, LeavesCheck}
 
 module _ {S : Type 0} (rem : S → Option (List ℕ)) where
@@ -56,14 +57,9 @@ begun_all declared read asked before after good reported = record {
   cut = cut_all before after (reported.reasons ++ reported.fed) reported.written;
 }
 
--- what stays as it is keeps its bytes
-pub keeps_same : (bytes : Option (List ℕ)) → Keeps bytes bytes
-keeps_same None = tt
-keeps_same (Some bytes) = refl
-
 -- where the check itself ended by a fault
 pub left_checked : {S : Type 0} (rem : S → Option (List ℕ)) (schema : NamedFile S) (asks : Option (NamedFile S)) (rows : List (NamedFile S)) (before after : Option (List ℕ)) (fault : CheckFault)
     → (fault ≡ Write → HasBegunReport (text_of rem schema) (map (text_of rem) rows) (option_map (text_of rem) asks) before after) → (fault ≡ NoMemory → after ≡ before)
     → LeavesCheck rem (check_fault_of fault) before after
 left_checked rem schema asks rows before after NoMemory part quiet = quiet refl
-left_checked rem schema asks rows before after Write part quiet = begun_over rem schema asks rows before after after (part refl) (keeps_same after)
+left_checked rem schema asks rows before after Write part quiet = begun_over rem schema asks rows before after after (part refl) (keeps_same after after refl)

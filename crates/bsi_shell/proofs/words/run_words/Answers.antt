@@ -25,6 +25,7 @@ pub returns-clause-reasons : goal.returns-clause-reasons
 returns-clause-reasons g c = λ one check.
     inr (
       Run NoMemory,
+      refl {a = g.O.Write.contents c.args.output.now},
       subst (λ told. IsTold told (g.F.Write.contents c.args.faults.now) (g.F.Write.contents c.tell_run_fault.new.faults) (fault_line (Run NoMemory)))
           (sym c.by-in-NoMemory.ensures.told) c.tell_run_fault.ensures,
     )
