@@ -1,7 +1,7 @@
 //! Which fault of a run is told first, and which rows a run names to its gate.
 
 use crate::inputs::{QUANTITIES, broken, long, text};
-use crate::runs::{RunInputs, end_once, ends, was_refused};
+use crate::runs::{RunInputs, end_once, ends};
 use bsi_files::{FilesFault, Gate, Stopping};
 use bsi_text::SourceFault;
 use std::sync::Wait;
@@ -109,30 +109,25 @@ impl Stopping for Follower {
 }
 
 // Whether a run ends so, behind this output, and its gate was called so often by feeder 1: each time for the next row,
-// but so many times for a row of a batch. It gives none where memory was refused.
+// but so many times for a row of a batch.
 fn is_followed_once<R: Threads + Wait + AllocGlobal + Sync>(
     rt: &R,
     files: RunInputs<'_>,
     run: Result<(), FilesFault>,
     output: &[u8],
     (passes, stops): (u64, u64),
-) -> Option<bool> {
+) -> bool {
     let gate = Follower::new();
-    let ended = end_once(rt, files, &gate);
-    if was_refused(&ended) {
-        return None;
-    }
-    let went = match ended {
+    let ended = match end_once(rt, files, &gate) {
         Ok(ended) => ended.is(run, output),
         Err(_) => false,
     };
     let tried = stops == 0 || calls(&gate.tries) > 0;
     let strange = calls(&gate.strange);
-    let counted = calls(&gate.passes) == passes && calls(&gate.stops) == stops;
-    Some(went && tried && strange == 0 && counted)
+    ended && tried && strange == 0 && calls(&gate.passes) == passes && calls(&gate.stops) == stops
 }
 
-// Where memory was refused, the run is made again.
+// Rows for which a batch finds no memory go one by one, and nothing tells of it, so the run is made again.
 fn is_followed<R: Threads + Wait + AllocGlobal + Sync>(
     rt: &R,
     files: RunInputs<'_>,
@@ -140,10 +135,8 @@ fn is_followed<R: Threads + Wait + AllocGlobal + Sync>(
     output: &[u8],
     counts: (u64, u64),
 ) -> bool {
-    match is_followed_once(rt, files, run, output, counts) {
-        None => is_followed_once(rt, files, run, output, counts) == Some(true),
-        Some(followed) => followed,
-    }
+    is_followed_once(rt, files, run, output, counts)
+        || is_followed_once(rt, files, run, output, counts)
 }
 
 // Of 1,100 rows the ring takes a batch of 1,024, and the table 10 rows of it. The next batch finds no room.
