@@ -1,2 +1,1 @@
 mod Notes
-mod Paths

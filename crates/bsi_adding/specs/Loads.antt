@@ -1,6 +1,5 @@
 -- Rows that are put into a file.
-use Rattle.std.specs.Prelude.{◌≡◌, ◌+◌, ◌≤◌, ◌++◌, ℕ, Bool, List, [], Option, Some, IfSome, codes, length, map, slice_get}
-use Rattle.std.specs.Borrow.{Bor}
+use Rattle.std.specs.Prelude.{◌≡◌, ◌+◌, ◌≤◌, ◌++◌, ℕ, Bool, List, [], Option, Some, IfSome, codes, length, map}
 use Rattle.std.specs.Io.KnownBytes.{Appends}
 use Rattle.std.specs.List.{concat}
 use Rattle.bsi_rows.specs.Table.{Table}
@@ -48,10 +47,6 @@ pub record HasAdded {S : Type 0} (rem put : S → Option (List ℕ)) (so_far : B
   pub within : length kept.rows + length more.rows ≤ kept.limit
   pub added : HasPut rem put (codes "added") kept.schema kept.limit opened.notes more before after
   pub same : rem added.old ≡ opened.after
-
--- one of these paths
-abbrev pub IsOneOf : List (Bor (List ℕ)) → Bor (List ℕ) → Type 0
-IsOneOf paths path = (k : ℕ) × (slice_get paths k ≡ Some path)
 
 -- a text, put after what a writer held, tells what happened
 abbrev pub Tells : (Option (List ℕ) → Option (List ℕ) → Type 0) → List ℕ → Type 0

@@ -6,7 +6,8 @@ ghost use Rattle.bsi_asks.specs.RowFiles.{fed_counts};
 ghost use Rattle.bsi_asks.specs.Runs.{HasLoaded};
 ghost use Rattle.bsi_rows.specs.Table.{max_feeders, no_rows, with_rows};
 ghost use Rattle.bsi_saved.specs.Saved.{kept_file, max_notes};
-ghost use Rattle.bsi_adding.specs.Loads.{HasAdded, IsOneOf};
+ghost use Rattle.bsi_adding.specs.Loads.{HasAdded};
+ghost use Rattle.std.specs.List.{Contains};
 ghost use Rattle.bsi_store.specs.Faults.{Names};
 ghost use Rattle.bsi_table.specs.Index.{table_of};
 
@@ -50,7 +51,7 @@ pub fn add_rows<
     ensures added { OnOk result (HasAdded S.remaining S.contents paths.now.so_far
         (O.contents output.old) (O.contents output.new)) }
     ensures named { IfErr result
-        (Names (λ named. (named ≡ paths.now.kept) ⊎ IsOneOf paths.now.rows.items named)) }
+        (Names (λ named. (named ≡ paths.now.kept) ⊎ Contains paths.now.rows.items named)) }
 {
     let mut file = open_to_add(rt, paths.kept)?;
     let rows = open_each(rt, &paths.rows)?;

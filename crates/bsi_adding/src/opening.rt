@@ -1,7 +1,7 @@
 //! Row files that are opened, and a kept file for this command alone.
 
 ghost use Rattle.std.specs.Prelude.{◌≡◌, IfErr, IfOk, length};
-ghost use Rattle.bsi_adding.specs.Loads.{IsOneOf};
+ghost use Rattle.std.specs.List.{Contains};
 ghost use Rattle.bsi_store.specs.Faults.{Names};
 
 use bsi_asks::FilesFault;
@@ -18,7 +18,7 @@ pub(crate) fn open_each<'a, R: AllocGlobal + Files<File = S>, S: Read + Drop>(
     paths: &[&'a str],
 ) -> Result<Vec<S>, StoreFault<'a>>
     ensures many { IfOk result (λ files. length files.items ≡ length paths.now) }
-    ensures named { IfErr result (Names (IsOneOf paths.now)) }
+    ensures named { IfErr result (Names (Contains paths.now)) }
 {
     let mut files = Vec::with_capacity(rt.alloc(), paths.len())?;
     'files: for path in paths {

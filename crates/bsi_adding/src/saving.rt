@@ -1,7 +1,8 @@
 //! Row files that become a kept index.
 
 ghost use Rattle.std.specs.Prelude.{◌≡◌, ◌<◌, ◌⊎◌, IfErr, IfOk, OnOk, false, length};
-ghost use Rattle.bsi_adding.specs.Loads.{HasSaved, IsOneOf, Tells};
+ghost use Rattle.bsi_adding.specs.Loads.{HasSaved, Tells};
+ghost use Rattle.std.specs.List.{Contains};
 ghost use Rattle.bsi_store.specs.Faults.{Names};
 
 use crate::new_file::NewFile;
@@ -44,7 +45,7 @@ pub fn save_rows<
     ensures saved { OnOk result
         (HasSaved S.remaining S.contents (O.contents output.old) (O.contents output.new)) }
     ensures named { IfErr result (Names (λ named. (named ≡ paths.now.schema)
-        ⊎ ((named ≡ paths.now.to) ⊎ IsOneOf paths.now.rows.items named))) }
+        ⊎ ((named ≡ paths.now.to) ⊎ Contains paths.now.rows.items named))) }
 {
     let schema = open_one(rt, paths.schema)?;
     let rows = open_each(rt, &paths.rows)?;

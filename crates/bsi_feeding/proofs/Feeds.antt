@@ -1,6 +1,6 @@
 -- What a feeder has sent so far of a source.
 use Rattle.std.proofs.Common.{◌≡◌, ℕ, ◌+◌, ◌≤◌, false, List, [], ◌++◌, Option, Some, None, IfSome, length, refl, sym, ap, ◌∙◌, subst, arith, length-append}
-use Rattle.std.specs.Prelude.{Ok, Err, MatchOption}
+use Rattle.std.specs.Prelude.{Result, Ok, Err, MatchOption}
 use Rattle.std.proofs.lemmas.List.{append_assoc, append-nil}
 use Rattle.bsi_rings.specs.Rings.{with_look, with_sent_rows, Sending}
 use Rattle.bsi_rows.specs.Rows.{Entries}
@@ -24,6 +24,17 @@ module _ {R : Type 0} (rem : R → Option (List ℕ)) where
   -- where a source stands behind the rows that it gave
   abbrev pub Behind : Layout → Reader R → Reader R → Counts → Counts → End → Type 0
   Behind layout at new middle after end = MatchOption end ((at ≡ new) × (middle ≡ after)) (HasEndedBy rem layout at middle after)
+
+  -- what was taken of a source more, by whether it had ended
+  abbrev pub TakesAs : Source R → Source R → End → Type 0
+  TakesAs old new end =
+      MatchOption end ((xs : List Entries) × (at : Reader R) × HasTaken rem old.layout old.input at old.counts new.counts xs) (λ e. new.counts ≡ old.counts)
+
+  pub takes_open : (old new : Source R) → old.end ≡ None → (rows : List Entries) (at : Reader R) → HasTaken rem old.layout old.input at old.counts new.counts rows → TakesOn rem old new
+  takes_open old new is rows at taken = subst (TakesAs old new) (sym is) (rows, at, taken)
+
+  pub takes_ended : (old new : Source R) (e : Result (Unit {0}) SourceFault) → old.end ≡ Some e → new.counts ≡ old.counts → TakesOn rem old new
+  takes_ended old new e is same = subst (TakesAs old new) (sym is) same
 
   -- no record is counted twice
   counts_up : (layout : Layout) (at new : Reader R) (middle after : Counts) (end : End) → Behind layout at new middle after end → middle.taken ≤ after.taken
@@ -87,16 +98,12 @@ module _ {R : Type 0} (rem : R → Option (List ℕ)) where
     pub took_on : JoinsTaken → TakesOn rem old new
     took_on join = by old.end refl
       where
-        takes : End → Type 0
-        takes end =
-            MatchOption end ((xs : List Entries) × (at : Reader R) × HasTaken rem old.layout old.input at old.counts new.counts xs) (λ e. new.counts ≡ old.counts)
-
         by : (end : End) → old.end ≡ end → TakesOn rem old new
         by None is =
-            let all = taken_in_all join old.layout old.input new.input old.counts new.counts rows new.end (was_open is) in subst takes (sym is) (rows, all.0, all.1)
+            let all = taken_in_all join old.layout old.input new.input old.counts new.counts rows new.end (was_open is) in takes_open old new is rows all.0 all.1
         by (Some e) is =
             let same = subst (λ end. MatchOption end (HasGivenRows rem old.layout old.input new.input old.counts new.counts rows new.end) (λ e. (rows ≡ []) × (new ≡ old))) is gone.given in
-            subst takes (sym is) (ap (λ (s : Source R). s.counts) same.1)
+            takes_ended old new e is (ap (λ (s : Source R). s.counts) same.1)
 
     -- a source that goes on gave rows more
     gone_on : JoinsTaken → (next : Source R) (more : List Entries) → GivesNext rem new next more → HasGone old next (rows ++ more)
@@ -125,36 +132,18 @@ module _ {R : Type 0} (rem : R → Option (List ℕ)) where
   -- a source that gave rows counted the bad ones among them
   pub next_taken : JoinsTaken → (old new : Source R) (rows : List Entries) → GivesNext rem old new rows → TakesOn rem old new
   next_taken join old new rows gives =
-      let all = taken_in_all join old.layout old.input new.input old.counts new.counts rows new.end gives.given in
-      subst (λ (end : End). MatchOption end ((xs : List Entries) × (at : Reader R) × HasTaken rem old.layout old.input at old.counts new.counts xs) (λ e. new.counts ≡ old.counts))
-      (sym gives.before) (rows, all.0, all.1)
+      let all = taken_in_all join old.layout old.input new.input old.counts new.counts rows new.end gives.given in takes_open old new gives.before rows all.0 all.1
 
   -- a source that gave no row more counted the bad ones of all records that were left
   pub none_taken : (old new : Source R) → GivesNone rem old new → TakesOn rem old new
   none_taken old new none = by old.end refl
     where
-      takes : End → Type 0
-      takes end =
-          MatchOption end ((xs : List Entries) × (at : Reader R) × HasTaken rem old.layout old.input at old.counts new.counts xs) (λ e. new.counts ≡ old.counts)
-
       given : End → Type 0
       given end = MatchOption end (HasEnded rem old.layout old.input old.counts new.counts) (λ e. (e ≡ Ok tt) × (new ≡ old))
 
       by : (end : End) → old.end ≡ end → TakesOn rem old new
-      by None is = (let ended = subst given is none.ended in subst takes (sym is) ([], ended.at, ended.taken))
-      by (Some e) is = subst takes (sym is) (ap (λ (s : Source R). s.counts) (subst given is none.ended).1)
-
-  -- a source of which nothing more was taken
-  pub none_more : (source : Source R) → HasTaken rem source.layout source.input source.input source.counts source.counts [] → TakesOn rem source source
-  none_more source none = by source.end refl
-    where
-      takes : End → Type 0
-      takes end =
-          MatchOption end ((xs : List Entries) × (at : Reader R) × HasTaken rem source.layout source.input at source.counts source.counts xs) (λ e. source.counts ≡ source.counts)
-
-      by : (end : End) → source.end ≡ end → TakesOn rem source source
-      by None is = subst takes (sym is) ([], source.input, none)
-      by (Some e) is = subst takes (sym is) refl
+      by None is = (let ended = subst given is none.ended in takes_open old new is [] ended.at ended.taken)
+      by (Some e) is = takes_ended old new e is (ap (λ (s : Source R). s.counts) (subst given is none.ended).1)
 
   module _ (source : Source R) where
     gone_none : HasTaken rem source.layout source.input source.input source.counts source.counts [] → HasGone source source []
@@ -315,8 +304,7 @@ module _ {R : Type 0} (rem : R → Option (List ℕ)) where
         where
           by : (end : End) → after.end ≡ end → CountsBad rem source has.rows bad
           by None ends =
-              let more = subst (λ end. MatchOption end ((xs : List Entries) × (at : Reader R) × HasTaken rem after.layout after.input at after.counts rest.counts xs) (λ e. rest.counts ≡ after.counts))
-              ends takes in
+              let more = subst (TakesAs after rest) ends takes in
               let on = subst (λ (l : Layout). HasTaken rem l after.input more.1 after.counts rest.counts more.0) has.passed.gone.layout more.2 in (
                 more.0,
                 record {
@@ -328,8 +316,7 @@ module _ {R : Type 0} (rem : R → Option (List ℕ)) where
                 },
               )
           by (Some e) ends =
-              let same = subst (λ end. MatchOption end ((xs : List Entries) × (at : Reader R) × HasTaken rem after.layout after.input at after.counts rest.counts xs) (λ e. rest.counts ≡ after.counts))
-              ends takes in
+              let same = subst (TakesAs after rest) ends takes in
               let taken = taken_in_all join source.layout source.input after.input source.counts after.counts has.rows after.end (was_open source after has.rows has.passed.gone going) in (
                 [],
                 record {
@@ -343,7 +330,7 @@ module _ {R : Type 0} (rem : R → Option (List ℕ)) where
       -- a feeder that sends no more has sent the first rows, and all of them where the source gives none more
       pub fed_first : JoinsTaken → (end : FeedEnd) → IfSome end.closing (λ closing. closing.rows ≡ now.sent) → end.accepted ≡ n
           → (last : Source R) → TakesOn rem after last → end.bad ≡ last.counts.bad
-          → (end.stopped ≡ false → end.fault ≡ None → (rest : Source R) × GivesFirst rem after rest None × GivesNone rem after rest × (end.bad ≡ rest.counts.bad))
+          → (end.stopped ≡ false → end.fault ≡ None → GivesFirst rem after last None × GivesNone rem after last)
           → HasFed rem source feeder.sent end
       fed_first join end sent many last takes bad over = record {
         rows = has.rows;
@@ -352,6 +339,6 @@ module _ {R : Type 0} (rem : R → Option (List ℕ)) where
         first = λ all others still. (let was = has.passed.gives all others still in (was.0, sym was.1));
         given = gave_few source after has.rows has.passed.gone;
         counted = counts_bad join last end.bad takes bad;
-        all = λ going fine. (let none = over going fine in sent_all none.0 end.bad none.1 none.2 none.3);
-        out = λ going fine. (let none = over going fine in read_out join none.0 end.bad none.2 none.3);
+        all = λ going fine. (let none = over going fine in sent_all last end.bad none.0 none.1 bad);
+        out = λ going fine. read_out join last end.bad (over going fine).1 bad;
       }

@@ -2,14 +2,13 @@
 use Rattle.std.proofs.Common.{◌≡◌, ℕ, ◌<◌, ◌≤◌, List, [], ◌∷◌, ◌++◌, Option, Some, None, OnOk, OnErr, IfErr, length, refl, sym, ap, ap₂, ◌∙◌, subst, arith}
 use Rattle.std.specs.Prelude.{◌≢◌, Result, Ok, Err, MatchOption}
 use Rattle.std.proofs.lemmas.List.{append-nil, length-map, map-append}
-use Rattle.csv.specs.declared.reader.Reader.{Reader}
 use Rattle.bsi_rows.specs.RowBlocks.{entries_of, fed_as, RowBlock}
 use Rattle.bsi_rows.specs.Rows.{Entries, FedRow}
 use Rattle.bsi_reading.specs.Sources.{max_records, Counts, End, Fills, GivesFirst, HasEnded, HasGivenRows, HasLeft, HasStopped, HasTaken, Source}
 use Rattle.bsi_reading.specs.declared.rows.SourceFault.{SourceFault}
 use Rattle.bsi_reading.specs.declared.rows.SourceFault.TheVariants.{NoMemory}
 use Rattle.bsi_feeding.specs.Feeding.{FailsNow, GivesNext, GivesNone, TakesOn}
-use Rattle.bsi_feeding.proofs.Feeds.{is_open, passed_more, was_open, Behind, HasPassed, JoinsTaken}
+use Rattle.bsi_feeding.proofs.Feeds.{is_open, passed_more, takes_ended, takes_open, was_open, Behind, HasPassed, JoinsTaken}
 
 -- the entries of rows, each of which is a feeder's
 entries_fed : (feeder : ℕ) (rows : List Entries) → entries_of (fed_as feeder rows) ≡ rows
@@ -50,15 +49,12 @@ module _ {R : Type 0} (rem : R → Option (List ℕ)) (old new : Source R) where
       fails : End → Type 0
       fails end = MatchOption end ((t : Counts) × HasStopped rem old.layout old.input old.counts t fault) (λ e. e ≡ Err fault)
 
-      takes : End → Type 0
-      takes end = MatchOption end ((xs : List Entries) × (at : Reader R) × HasTaken rem old.layout old.input at old.counts new.counts xs) (λ e. new.counts ≡ old.counts)
-
       by : (end : End) → old.end ≡ end → FailsNow rem old fault × TakesOn rem old new
       by None is =
           let stops = (stopped is).0 in
-          (subst fails (sym is) (new.counts, stops), subst takes (sym is) ([], stops.at, stops.taken))
+          (subst fails (sym is) (new.counts, stops), takes_open rem old new is [] stops.at stops.taken)
       by (Some (Ok done)) is = absurd (cc (ended is).0)
-      by (Some (Err e)) is = (subst fails (sym is) (cc ((failed e is).0)), subst takes (sym is) (ap (λ (s : Source R). s.counts) (failed e is).1))
+      by (Some (Err e)) is = (subst fails (sym is) (cc ((failed e is).0)), takes_ended rem old new (Err e) is (ap (λ (s : Source R). s.counts) (failed e is).1))
 
   -- the rows of a block that had none
   module _ (feeder : ℕ) (start full : RowBlock) (empty : start.rows ≡ []) (r : Result (Unit {0}) SourceFault)

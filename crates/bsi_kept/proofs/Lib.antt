@@ -1,5 +1,6 @@
 pub mod Chunks
 pub mod Coding
+pub mod Cut
 pub mod Eights
 pub mod Packing
 pub mod Padding

@@ -2,7 +2,7 @@
 
 ghost use Rattle.std.specs.Prelude.{◌≡◌, ◌≢◌, ◌+◌, ◌*◌, ◌^◌, ◌<◌, ◌≤◌, ◌∷◌, [], length, take, IfErr, IfNone, IfOk, IfSome, OnOk};
 ghost use Rattle.std.specs.Io.KnownBytes.{Consumes, IsAtEnd};
-ghost use Rattle.bsi_kept.specs.Segments.{bytes_of, checksum_of, segment, segment_rest, magic, HasOnly, IsFirstFault, MeetsFault, MeetsRestFault, StopsBefore, StopsInFirst, TakesWords};
+ghost use Rattle.bsi_kept.specs.Segments.{bytes_of, checksum_of, segment, segment_rest, magic, AreWords, HasOnly, IsFirstFault, MeetsFault, MeetsRestFault, StopsBefore, StopsInFirst, TakesWords};
 
 use crate::fault::SegmentFault;
 use crate::sums::checksum;
@@ -111,6 +111,7 @@ fn first_fault(first: u64) -> SegmentFault
 fn read_rest<R: Read>(alloc: Global, reader: &mut R) -> Result<Vec<u64>, SegmentFault>
     ensures read { IfOk result (λ words. Consumes (R.remaining reader.old) (R.remaining reader.new)
         (bytes_of (segment_rest (checksum_of words.items) words.items))) }
+    ensures fit { IfOk result (λ words. AreWords words.items) }
     ensures fault { IfErr result
         (MeetsRestFault (R.remaining reader.old) (R.remaining reader.new)) }
 {
@@ -132,6 +133,7 @@ pub fn read_segment<R: Read>(
 ) -> Result<Option<Vec<u64>>, SegmentFault>
     ensures read { IfOk result (λ found. IfSome found (λ words.
         Consumes (R.remaining reader.old) (R.remaining reader.new) (bytes_of (segment words.items)))) }
+    ensures fit { IfOk result (λ found. IfSome found (λ words. AreWords words.items)) }
     ensures end { IfOk result (λ found. IfNone found
         (HasOnly (R.remaining reader.old) (R.remaining reader.new) [])) }
     ensures fault { IfErr result (MeetsFault (R.remaining reader.old) (R.remaining reader.new)) }

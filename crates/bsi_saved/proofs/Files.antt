@@ -12,7 +12,7 @@ use Rattle.bsi_kept.proofs.Eights.{length-bytes_of}
 use Rattle.bsi_kept.specs.declared.fault.SegmentFault.{SegmentFault}
 use Rattle.bsi_kept.specs.declared.fault.SegmentFault.TheVariants as segment_fault
 use Rattle.bsi_saved.specs.Faults.{open_fault, HasRead, IsFirstFault, IsNextFault, MayFollow}
-use Rattle.bsi_saved.specs.Saved.{body, kept_file, part, part_bytes, with_only, MayBeKept, Part}
+use Rattle.bsi_saved.specs.Saved.{body, kept_file, part, part_bytes, with_only, Keeps, MayBeKept, Part}
 use Rattle.bsi_saved.specs.declared.fault.OpenFault.{OpenFault}
 use Rattle.bsi_saved.specs.declared.fault.OpenFault.TheVariants.{NotKept, OtherVersion, CutShort, Damaged, Read, NoMemory}
 
@@ -71,10 +71,9 @@ follows_as : (t more : Table) → MayFollow t more → more ≡ with_only t more
 follows_as t more may = λ i. record { schema = may.schema i; feeders = may.feeders i; limit = may.limit i; rows = more.rows }
 
 -- and so do more segments
-module _ (a b c : Option (List ℕ)) (t more : Table) (notes next : List ℕ) (size : ℕ) (read : HasRead a b t notes size)
-    (taken : Consumes b c (kept_file more next)) (kept : MayBeKept more next) (may : MayFollow t more) where
+module _ (bytes : List ℕ) (t more : Table) (notes next : List ℕ) (keeps : Keeps bytes t notes) (kept : MayBeKept more next) (may : MayFollow t more) where
   parts : List Part
-  parts = read.keeps.before ++ read.keeps.last ∷ []
+  parts = keeps.before ++ keeps.last ∷ []
 
   last : Part
   last = part more.rows next
@@ -83,41 +82,45 @@ module _ (a b c : Option (List ℕ)) (t more : Table) (notes next : List ℕ) (s
   unfolding last
   last_is = ap (λ u. kept_file u next) (follows_as t more may)
 
-  all_bytes : read.bytes ++ kept_file more next ≡ flat_map (part_bytes t) (parts ++ last ∷ [])
+  all_bytes : bytes ++ kept_file more next ≡ flat_map (part_bytes t) (parts ++ last ∷ [])
   unfolding parts
   all_bytes =
-      ap₂ (λ (xs : List ℕ) ys. xs ++ ys) read.keeps.bytes_are (last_is ∙ sym (append-nil (part_bytes t last)))
-      ∙ sym (flat_map-append (part_bytes t) (read.keeps.before ++ read.keeps.last ∷ []) (last ∷ []))
+      ap₂ (λ (xs : List ℕ) ys. xs ++ ys) keeps.bytes_are (last_is ∙ sym (append-nil (part_bytes t last)))
+      ∙ sym (flat_map-append (part_bytes t) (keeps.before ++ keeps.last ∷ []) (last ∷ []))
 
   all_rows : t.rows ++ more.rows ≡ flat_map (λ (p : Part). p.rows) (parts ++ last ∷ [])
   unfolding parts last
   all_rows =
-      ap₂ (λ (xs : List FedRow) ys. xs ++ ys) read.keeps.rows_are (sym (append-nil more.rows))
-      ∙ sym (flat_map-append (λ (p : Part). p.rows) (read.keeps.before ++ read.keeps.last ∷ []) (part more.rows next ∷ []))
+      ap₂ (λ (xs : List FedRow) ys. xs ++ ys) keeps.rows_are (sym (append-nil more.rows))
+      ∙ sym (flat_map-append (λ (p : Part). p.rows) (keeps.before ++ keeps.last ∷ []) (part more.rows next ∷ []))
 
   each_kept : All (λ (p : Part). MayBeKept (with_only t p.rows) p.notes) (parts ++ last ∷ [])
   unfolding parts last
   each_kept =
-      All-append (λ (p : Part). MayBeKept (with_only t p.rows) p.notes) (read.keeps.before ++ read.keeps.last ∷ []) (part more.rows next ∷ []) read.keeps.each
+      All-append (λ (p : Part). MayBeKept (with_only t p.rows) p.notes) (keeps.before ++ keeps.last ∷ []) (part more.rows next ∷ []) keeps.each
       (All-cons (λ (p : Part). MayBeKept (with_only t p.rows) p.notes) (part more.rows next) [] (subst (λ u. MayBeKept u next) (follows_as t more may) kept)
       (All-nil (λ (p : Part). MayBeKept (with_only t p.rows) p.notes)))
 
-  pub more_read : (joined : Table) (whole : ℕ) → joined ≡ with_rows t more.rows → whole ≡ size + length (kept_file more next) → HasRead a c joined next whole
+  pub more_kept : Keeps (bytes ++ kept_file more next) (with_rows t more.rows) next
   unfolding last
-  more_read joined whole is long = subst (λ u. HasRead a c u next whole) (sym is) (record {
-    bytes = read.bytes ++ kept_file more next;
-    taken = consumes_more a b c read.bytes (kept_file more next) read.taken taken;
-    keeps = record {
-      before = parts;
-      last = last;
-      bytes_are = all_bytes;
-      rows_are = all_rows;
-      notes_are = refl;
-      each = each_kept;
-      within = omega (arith, may.within, length-append t.rows more.rows);
-    };
-    size_is = omega (arith, long, read.size_is, length-append read.bytes (kept_file more next));
-  })
+  more_kept = record {
+    before = parts;
+    last = last;
+    bytes_are = all_bytes;
+    rows_are = all_rows;
+    notes_are = refl;
+    each = each_kept;
+    within = omega (arith, may.within, length-append t.rows more.rows);
+  }
+
+pub more_read : (a b c : Option (List ℕ)) (t more : Table) (notes next : List ℕ) (size : ℕ) → HasRead a b t notes size → Consumes b c (kept_file more next)
+    → MayBeKept more next → MayFollow t more → (joined : Table) (whole : ℕ) → joined ≡ with_rows t more.rows → whole ≡ size + length (kept_file more next) → HasRead a c joined next whole
+more_read a b c t more notes next size read taken kept may joined whole is long = subst (λ u. HasRead a c u next whole) (sym is) (record {
+  bytes = read.bytes ++ kept_file more next;
+  taken = consumes_more a b c read.bytes (kept_file more next) read.taken taken;
+  keeps = more_kept read.bytes t more notes next read.keeps kept may;
+  size_is = omega (arith, long, read.size_is, length-append read.bytes (kept_file more next));
+})
 
 -- ---- faults
 

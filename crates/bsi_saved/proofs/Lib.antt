@@ -4,3 +4,5 @@ mod ColumnWords
 mod Cutting
 mod Files
 mod OneTable
+mod Openings
+mod WholeSegments

@@ -146,10 +146,10 @@ module _ (t u : Table) (notes others : List ℕ) (kept : MayBeKept t notes) (oth
 
 -- ---- files
 
-abbrev AreKept : Table → List Part → Type 0
+abbrev pub AreKept : Table → List Part → Type 0
 AreKept t ps = All (λ p. MayBeKept (with_only t p.rows) p.notes) ps
 
-no_bytes : (t : Table) (p : Part) (rest : List ℕ) → [] ≡ part_bytes t p ++ rest → ⊥
+pub no_bytes : (t : Table) (p : Part) (rest : List ℕ) → [] ≡ part_bytes t p ++ rest → ⊥
 no_bytes t p rest same =
     omega (arith, ap (λ (bs : List ℕ). length bs) same, length-append (part_bytes t p) rest, length-file_of (body (with_only t p.rows) p.notes) (with_only t p.rows) p.notes refl)
 
@@ -179,7 +179,7 @@ module _ (t u : Table) where
       let first = segment_same (with_only t p.rows) (with_only u q.rows) p.notes q.notes p_is q_is (flat_map (part_bytes t) ps) (flat_map (part_bytes u) qs) same in
       ap (λ (v : Table). with_only v []) first.0
 
-last_is : (ps qs : List Part) (p q : Part) → ps ++ p ∷ [] ≡ qs ++ q ∷ [] → p ≡ q
+pub last_is : (ps qs : List Part) (p q : Part) → ps ++ p ∷ [] ≡ qs ++ q ∷ [] → p ≡ q
 last_is ps qs p q same =
     let long : length ps ≡ length qs = omega (arith, ap (λ (rs : List Part). length rs) same, length-append ps (p ∷ []), length-append qs (q ∷ [])) in
     sym (get_or-append_seam ps p [] p) ∙ ap (λ rs. get_or rs (length ps) p) same ∙ ap (λ i. get_or (qs ++ q ∷ []) i p) long ∙ get_or-append_seam qs q [] p

@@ -2,7 +2,7 @@
 use Rattle.std.specs.Prelude.{◌≡◌, ◌⊎◌, ℕ, ◌+◌, ◌≤◌, List, [], Option, Some, None, length}
 use Rattle.std.specs.Io.KnownBytes.{Consumes}
 use Rattle.bsi_rows.specs.Table.{Table}
-use Rattle.bsi_kept.specs.Segments.{bytes_of, segment, HasOnly, MeetsFault}
+use Rattle.bsi_kept.specs.Segments.{bytes_of, segment, AreWords, HasOnly, MeetsFault}
 use Rattle.bsi_kept.specs.declared.fault.SegmentFault.{SegmentFault}
 use Rattle.bsi_kept.specs.declared.fault.SegmentFault.TheVariants as segment_fault
 use Rattle.bsi_saved.specs.Saved.{body, kept_file, Keeps, MayBeKept}
@@ -21,6 +21,7 @@ open_fault segment_fault.NoMemory = NoMemory
 -- a segment stands there whose words keep no table
 pub record KeepsNone (before after : Option (List ℕ)) : Type 0 where
   pub words : List ℕ
+  pub fit : AreWords words
   pub taken : Consumes before after (bytes_of (segment words))
   pub none : (t : Table) → (notes : List ℕ) → MayBeKept t notes → words ≡ body t notes → ⊥
 

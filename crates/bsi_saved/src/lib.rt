@@ -10,6 +10,9 @@ mod writing;
 
 pub use bsi_table::NoMemory;
 pub use fault::{OpenFault, SaveFault};
-pub use laws::one_table_is_kept;
+pub use laws::{
+    a_cut_file_has_whole_segments, a_cut_segment_is_not_opened, a_further_segment_adds_rows,
+    a_kept_table_is_opened, one_table_is_kept,
+};
 pub use opening::{Opened, read_index};
 pub use writing::{MAX_NOTES, write_index};

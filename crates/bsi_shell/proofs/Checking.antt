@@ -8,7 +8,7 @@ use Rattle.bsi_check.specs.declared.named.NamedFile.{NamedFile}
 use Rattle.bsi_check.specs.declared.fault.CheckFault.{CheckFault}
 use Rattle.bsi_check.specs.declared.fault.CheckFault.TheVariants.{NoMemory, Write}
 use Rattle.bsi_shell.proofs.Runs.{keeps_same}
-use Rattle.bsi_shell.specs.Checks.{check_fault_of, HasBegunOver, HasReportedOver, LeavesCheck}
+use Rattle.bsi_shell.specs.Checks.{check_fault_of, IsOverOpened, LeavesCheck}
 
 module _ {S : Type 0} (rem : S → Option (List ℕ)) where
   abbrev reader_of : NamedFile S → S
@@ -21,29 +21,16 @@ module _ {S : Type 0} (rem : S → Option (List ℕ)) where
   texts : (rows : List (NamedFile S)) → map (text_of rem) rows ≡ map rem (map reader_of rows)
   texts rows = sym (map-map rem reader_of rows)
 
-  pub reported_over : (schema : NamedFile S) (asks : Option (NamedFile S)) (rows : List (NamedFile S)) (before middle after : Option (List ℕ)) (good : Bool)
-      → HasReported (text_of rem schema) (map (text_of rem) rows) (option_map (text_of rem) asks) before middle good → Keeps middle after
-      → HasReportedOver rem before after good
-  reported_over schema asks rows before middle after good reported kept = record {
+  pub over_opened : (Is : Option (List ℕ) → List (Option (List ℕ)) → Option (Option (List ℕ)) → Option (List ℕ) → Option (List ℕ) → Type 0)
+      (schema : NamedFile S) (asks : Option (NamedFile S)) (rows : List (NamedFile S)) (before middle after : Option (List ℕ))
+      → Is (text_of rem schema) (map (text_of rem) rows) (option_map (text_of rem) asks) before middle → Keeps middle after → IsOverOpened rem Is before after
+  over_opened Is schema asks rows before middle after is kept = record {
     schema = schema.reader;
     asks = option_map reader_of asks;
     rows = map reader_of rows;
     middle = middle;
-    reported = subst (λ asked. HasReported (rem schema.reader) (map rem (map reader_of rows)) asked before middle good) (given asks)
-        (subst (λ read. HasReported (rem schema.reader) read (option_map (text_of rem) asks) before middle good) (texts rows) reported);
-    kept = kept;
-  }
-
-  pub begun_over : (schema : NamedFile S) (asks : Option (NamedFile S)) (rows : List (NamedFile S)) (before middle after : Option (List ℕ))
-      → HasBegunReport (text_of rem schema) (map (text_of rem) rows) (option_map (text_of rem) asks) before middle → Keeps middle after
-      → HasBegunOver rem before after
-  begun_over schema asks rows before middle after begun kept = record {
-    schema = schema.reader;
-    asks = option_map reader_of asks;
-    rows = map reader_of rows;
-    middle = middle;
-    begun = subst (λ asked. HasBegunReport (rem schema.reader) (map rem (map reader_of rows)) asked before middle) (given asks)
-        (subst (λ read. HasBegunReport (rem schema.reader) read (option_map (text_of rem) asks) before middle) (texts rows) begun);
+    is = subst (λ asked. Is (rem schema.reader) (map rem (map reader_of rows)) asked before middle) (given asks)
+        (subst (λ read. Is (rem schema.reader) read (option_map (text_of rem) asks) before middle) (texts rows) is);
     kept = kept;
   }
 
@@ -62,4 +49,4 @@ pub left_checked : {S : Type 0} (rem : S → Option (List ℕ)) (schema : NamedF
     → (fault ≡ Write → HasBegunReport (text_of rem schema) (map (text_of rem) rows) (option_map (text_of rem) asks) before after) → (fault ≡ NoMemory → after ≡ before)
     → LeavesCheck rem (check_fault_of fault) before after
 left_checked rem schema asks rows before after NoMemory part quiet = quiet refl
-left_checked rem schema asks rows before after Write part quiet = begun_over rem schema asks rows before after after (part refl) (keeps_same after after refl)
+left_checked rem schema asks rows before after Write part quiet = over_opened rem HasBegunReport schema asks rows before after after (part refl) (keeps_same after after refl)

@@ -15,34 +15,31 @@ abbrev pub check_fault_of : CheckFault → RunFault
 check_fault_of check.NoMemory = Run run.NoMemory
 check_fault_of check.Write = Run run.Write
 
--- some files were opened, and a check of them was put behind what the output held; it says whether there was no reason
-pub record HasReportedOver {S : Type 0} (rem : S → Option (List ℕ)) (before after : Option (List ℕ)) (good : Bool)
-    : Type 0 where
+-- some files were opened, and this is so of their bytes and of what was put behind what the output held
+pub record IsOverOpened {S : Type 0} (rem : S → Option (List ℕ))
+    (Is : Option (List ℕ) → List (Option (List ℕ)) → Option (Option (List ℕ)) → Option (List ℕ) → Option (List ℕ) → Type 0)
+    (before after : Option (List ℕ)) : Type 0 where
   pub schema : S
   pub asks : Option S
   pub rows : List S
   pub middle : Option (List ℕ)
-  pub reported : HasReported (rem schema) (map rem rows) (option_map rem asks) before middle good
+  pub is : Is (rem schema) (map rem rows) (option_map rem asks) before middle
   pub kept : Keeps middle after
+
+-- a check of some files was written, and says whether there was no reason
+abbrev pub HasReportedOver : {S : Type 0} → (S → Option (List ℕ)) → Option (List ℕ) → Option (List ℕ) → Bool → Type 0
+HasReportedOver rem before after good =
+    IsOverOpened rem (λ declared texts asked start end. HasReported declared texts asked start end good) before after
 
 -- and there was none: the schema is one, all records are good, and each ask is a query
 abbrev pub HasChecked : {S : Type 0} → (S → Option (List ℕ)) → Option (List ℕ) → Option (List ℕ) → Type 0
 HasChecked rem before after = HasReportedOver rem before after true
 
--- a first part of a check of some files that were opened was put behind what the output held
-pub record HasBegunOver {S : Type 0} (rem : S → Option (List ℕ)) (before after : Option (List ℕ)) : Type 0 where
-  pub schema : S
-  pub asks : Option S
-  pub rows : List S
-  pub middle : Option (List ℕ)
-  pub begun : HasBegunReport (rem schema) (map rem rows) (option_map rem asks) before middle
-  pub kept : Keeps middle after
-
 -- what a check leaves in the output that ends by a fault: nothing, or a first part where the output can't be written
 abbrev pub LeavesCheck : {S : Type 0} → (S → Option (List ℕ)) → RunFault → Option (List ℕ) → Option (List ℕ) → Type 0
 LeavesCheck rem (CannotOpen path) before after = after ≡ before
 LeavesCheck rem (Run run.NoMemory) before after = after ≡ before
-LeavesCheck rem (Run run.Write) before after = HasBegunOver rem before after
+LeavesCheck rem (Run run.Write) before after = IsOverOpened rem HasBegunReport before after
 LeavesCheck rem fault before after = ⊥
 
 -- or there were reasons, and no line was told; or the check ended early by a fault whose line was told

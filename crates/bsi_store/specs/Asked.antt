@@ -28,8 +28,8 @@ pub record HasAsked {S : Type 0} (rem : S → Option (List ℕ)) (so_far : Bool)
   pub kept : IsKeptIn rem so_far table
   pub answered : IfSome asks (λ asked. WritesAll (AreMatched (IsAskLine table.schema table.rows)) asked before after)
 
--- a file was opened that keeps a table, and a text that declares its columns and its limit, how many feeders
--- and rows it has, and some more were put after what a writer held
+-- a file was opened that keeps a table, and a text that declares its columns and its limit, how many feeders and rows it
+-- has, and some more were put after what a writer held
 pub record HasShown {S : Type 0} (rem : S → Option (List ℕ)) (before after : Option (List ℕ)) : Type 0 where
   pub table : Table
   pub kept : IsKeptIn rem false table

@@ -57,18 +57,21 @@ abbrev pub unopened : Bor (List ℕ) → OpenFault → StoreFault
 unopened path opening.NotKept = Unusable path NotKept
 unopened path fault = cut_off path fault 0
 
+-- the fault of a file of these bytes of which not one segment was read
+abbrev pub IsFirstFileFault : Bor (List ℕ) → Option (List ℕ) → StoreFault → Type 0
+IsFirstFileFault path bytes told =
+    (fault : OpenFault) × (after : Option (List ℕ)) × IsFirstFault bytes after fault × (told ≡ unopened path fault)
+
 -- the fault of a file of these bytes: its first segment has it, or what stands behind the rows that were opened
 abbrev pub IsFileFault : Bor (List ℕ) → Option (List ℕ) → StoreFault → Type 0
 IsFileFault path bytes told =
-    ((fault : OpenFault) × (after : Option (List ℕ)) × IsFirstFault bytes after fault × (told ≡ unopened path fault))
+    IsFirstFileFault path bytes told
     ⊎ ((fault : OpenFault) × (after : Option (List ℕ)) × (t : Table) × (notes : List ℕ) × (size : ℕ)
     × IsOpened bytes after t notes size (Some fault) × (told ≡ cut_off path fault (length t.rows)))
 
--- the fault of a file of these bytes of which not one segment was read, or that can't be read on
-abbrev pub IsHopeless : Bor (List ℕ) → Option (List ℕ) → StoreFault → Type 0
-IsHopeless path bytes told =
-    ((fault : OpenFault) × (after : Option (List ℕ)) × IsFirstFault bytes after fault × (told ≡ unopened path fault))
-    ⊎ ((told ≡ Unusable path Read) ⊎ (told ≡ Run NoMemory))
+-- the fault of a file of these bytes of which no rows can be had: its first segment has it, or the file can't be read on
+abbrev pub IsUnrecoverable : Bor (List ℕ) → Option (List ℕ) → StoreFault → Type 0
+IsUnrecoverable path bytes told = IsFirstFileFault path bytes told ⊎ ((told ≡ Unusable path Read) ⊎ (told ≡ Run NoMemory))
 
 -- a fault that is of a file is that of one which was opened
 abbrev pub IsOfFile : {S : Type 0} → (S → Option (List ℕ)) → StoreFault → Type 0

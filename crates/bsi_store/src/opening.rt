@@ -3,7 +3,7 @@
 ghost use Rattle.std.specs.Prelude.{◌≡◌, IfErr, IfOk, None, false, true};
 ghost use Rattle.bsi_saved.specs.Faults.{IsOpened};
 ghost use Rattle.bsi_store.specs.Asked.{IsKeptIn};
-ghost use Rattle.bsi_store.specs.Faults.{IsFileFault, IsHopeless, IsOfFile, Names};
+ghost use Rattle.bsi_store.specs.Faults.{IsFileFault, IsOfFile, IsUnrecoverable, Names};
 ghost use Rattle.bsi_table.specs.Index.{table_of};
 
 use crate::StoreFault;
@@ -53,7 +53,7 @@ pub fn read_kept<'a, S: Read>(
         (table_of opened.index) opened.notes.items opened.bytes opened.fault) }
     ensures whole { so_far ≡ false → IfOk result (λ opened. opened.fault ≡ None) }
     ensures fault { IfErr result (IsFileFault path.entry (S.remaining file.old)) }
-    ensures so_far { so_far ≡ true → IfErr result (IsHopeless path.entry (S.remaining file.old)) }
+    ensures so_far { so_far ≡ true → IfErr result (IsUnrecoverable path.entry (S.remaining file.old)) }
 {
     let opened = match read_index(alloc, file) {
         Ok(opened) => opened,

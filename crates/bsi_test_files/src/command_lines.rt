@@ -1,5 +1,6 @@
 //! How a command line ends, and how often its output is flushed.
 
+use crate::runs::give_up;
 use bsi_fixtures::{EMPTY, NarrowWriter, TextReader};
 use bsi_shell::{Go, LockFile, run_words};
 use std::alloc::{AllocError, Global};
@@ -160,20 +161,27 @@ fn unflushed<
     end_over(rt, schema.as_str(), rows.as_str())
 }
 
+// Whether such a run ends so. It gives none where the answer tells of refused memory.
 fn is_unflushed<
     R: AllocGlobal + Files<File = S> + Threads + Wait + Sync,
     S: Read + Write + OpenFile + LockFile + Drop + Send,
->(rt: &R) -> bool {
-    match unflushed(rt) {
-        Ok(end) => end.is(1, "fed 0 1 0\n", "bsi: write failed\n"),
-        Err(_) => false,
+>(rt: &R) -> Option<bool> {
+    let end = unflushed(rt).ok()?;
+    if end.faults.as_slice().ends_with(b"no memory\n") {
+        return None;
     }
+    Some(end.is(1, "fed 0 1 0\n", "bsi: write failed\n"))
 }
 
+// A file for whose opening there is no memory can't be opened.
 #[test]
 fn a_flush_of_files_that_fails(rt: HostRuntime) {
-    let once = is_unflushed(&rt);
-    assert!(rt; once || is_unflushed(&rt));
+    let mut done = is_unflushed(&rt);
+    if done != Some(true) {
+        give_up(&rt, done);
+        done = is_unflushed(&rt);
+    }
+    assert!(rt; done == Some(true));
 }
 
 #[test]

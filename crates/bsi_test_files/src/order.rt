@@ -1,7 +1,7 @@
 //! Which fault of a run is told first, and which rows a run names to its gate.
 
 use crate::inputs::{QUANTITIES, broken, long, text};
-use crate::runs::{RunInputs, end_once, ends};
+use crate::runs::{RunInputs, end_once, ends, give_up, was_refused};
 use bsi_files::{FilesFault, Gate, Stopping};
 use bsi_text::SourceFault;
 use std::sync::Wait;
@@ -109,34 +109,39 @@ impl Stopping for Follower {
 }
 
 // Whether a run ends so, behind this output, and its gate was called so often by feeder 1: each time for the next row,
-// but so many times for a row of a batch.
-fn is_followed_once<R: Threads + Wait + AllocGlobal + Sync>(
+// but so many times for a row of a batch. It gives none where memory was refused.
+fn follows<R: Threads + Wait + AllocGlobal + Sync>(
     rt: &R,
     files: RunInputs<'_>,
     run: Result<(), FilesFault>,
     output: &[u8],
     (passes, stops): (u64, u64),
-) -> bool {
+) -> Option<bool> {
     let gate = Follower::new();
-    let ended = match end_once(rt, files, &gate) {
-        Ok(ended) => ended.is(run, output),
-        Err(_) => false,
-    };
+    let ended = end_once(rt, files, &gate);
+    if was_refused(&ended) {
+        return None;
+    }
     let tried = stops == 0 || calls(&gate.tries) > 0;
-    let strange = calls(&gate.strange);
-    ended && tried && strange == 0 && calls(&gate.passes) == passes && calls(&gate.stops) == stops
+    let counted = calls(&gate.passes) == passes && calls(&gate.stops) == stops;
+    let ended = ended.ok()?;
+    Some(ended.is(run, output) && tried && counted && calls(&gate.strange) == 0)
 }
 
-// Rows for which a batch finds no memory go one by one, and nothing tells of it, so the run is made again.
-fn is_followed<R: Threads + Wait + AllocGlobal + Sync>(
-    rt: &R,
+// Rows for which a batch finds no memory go one by one, and no answer tells of it.
+fn is_followed(
+    rt: &HostRuntime,
     files: RunInputs<'_>,
     run: Result<(), FilesFault>,
     output: &[u8],
     counts: (u64, u64),
 ) -> bool {
-    is_followed_once(rt, files, run, output, counts)
-        || is_followed_once(rt, files, run, output, counts)
+    let done = follows(rt, files, run, output, counts);
+    if done == Some(true) {
+        return true;
+    }
+    give_up(rt, done);
+    follows(rt, files, run, output, counts) == Some(true)
 }
 
 // Of 1,100 rows the ring takes a batch of 1,024, and the table 10 rows of it. The next batch finds no room.

@@ -94,6 +94,14 @@ fn is_fed(ended: &Result<RunEnd, AllocError>, output: &[u8]) -> bool {
     }
 }
 
+/// Tells that a run that should end well did not, though no refused memory was told. Where none was refused,
+/// tools/refusals takes that for a fault.
+pub(crate) fn give_up(rt: &HostRuntime, done: Option<bool>) {
+    if done == Some(false) {
+        let _ = eprintln!(rt; "gave up: no memory for the fixture");
+    }
+}
+
 // Whether two files are fed so that each waits for the other. It gives none where memory was refused.
 fn is_met<R: Threads + Wait + AllocGlobal + Sync>(rt: &R) -> Option<bool> {
     let files = RunInputs {

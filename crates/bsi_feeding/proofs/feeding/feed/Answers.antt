@@ -1,10 +1,10 @@
-use Rattle.std.proofs.Common.{◌≡◌, Bool, true, Option, Some, IfSome, ap, arith, sym, subst, ◌∙◌}
+use Rattle.std.proofs.Common.{◌≡◌, [], Bool, true, Option, Some, IfSome, ap, arith, sym, subst, ◌∙◌}
 use Rattle.bsi_rings.specs.Rings.{Sending}
 use Rattle.bsi_reading.specs.declared.rows.SourceFault.{SourceFault}
 use Rattle.bsi_reading.proofs.Joining.{taken_both}
 use Rattle.bsi_reading.proofs.Taking.{taken_none}
 use Rattle.bsi_feeding.specs.Feeding.{HasFailed}
-use Rattle.bsi_feeding.proofs.Feeds.{failed_after, fed_first, none_more, none_taken, of_some, sent_more, sent_none}
+use Rattle.bsi_feeding.proofs.Feeds.{failed_after, fed_first, none_taken, of_some, passed_none, sent_more, sent_none, took_on}
 use Rattle.bsi_feeding.proofs.feeding.feed.Goals.{in-Stopped, in-Over, in-Failed}
 use Rattle.bsi_feeding.proofs.feeding.feed.Goals as goal
 
@@ -38,7 +38,7 @@ returns-in-batches-clause-fed g c =
       | in-Over w ↦
           fed (sent (ap (λ (s : Sending). s.sent) w.in-Over.ensures.0)) c.finish.ensures.accepted last
           (none_taken g.I.Read.remaining c.batches.source last w.in-Over.ensures.2) bad
-          (λ going fine. (c.feed_next.new.source, w.in-Over.ensures.1, w.in-Over.ensures.2, c.finish.ensures.bad))
+          (λ going fine. (w.in-Over.ensures.1, w.in-Over.ensures.2))
       | in-Failed w ↦
           let told : c.match-feed_next.stopped.1 ≡ Some w.in-Failed.fault = ap (λ (p : Bool × Option SourceFault). p.1) w.stopped-is in
           fed (sent (ap (λ (s : Sending). s.sent) w.in-Failed.ensures.0)) c.finish.ensures.accepted last w.in-Failed.ensures.2 bad (λ going fine. absurd (cc (told, c.finish.ensures.fault, fine)))
@@ -62,5 +62,7 @@ pub returns-clause-fed : goal.returns-clause-fed
 returns-clause-fed g c =
     fed_first g.I.Read.remaining c.args.feeder c.args.source c.batches.accepted c.batches.feeder c.batches.source c.batches.invariant.sent (taken_both g.I.Read.remaining) c.finish-2.result
     (of_some c.finish-2.result.closing c.finish-2.ensures.closing (λ closing closes. closes.rows)) c.finish-2.ensures.accepted c.batches.source
-    (none_more g.I.Read.remaining c.batches.source (taken_none g.I.Read.remaining c.batches.source.layout c.batches.source.input c.batches.source.counts)) c.finish-2.ensures.bad
+    (took_on g.I.Read.remaining c.batches.source c.batches.source []
+    (passed_none g.I.Read.remaining c.batches.source (taken_none g.I.Read.remaining c.batches.source.layout c.batches.source.input c.batches.source.counts)).gone
+    (taken_both g.I.Read.remaining)) c.finish-2.ensures.bad
     (λ going fine. absurd (cc (c.finish-2.ensures.stopped, going)))
