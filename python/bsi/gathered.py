@@ -25,12 +25,12 @@ class _Left(NamedTuple):
     upto: Optional[int] = None
     is_smooth: bool = True
 
-    def bounds(self, most: int, half: int) -> List[int]:
+    def bounds(self, most: int, many: int) -> List[int]:
         """Returns the numbers that are counted next."""
         first, last = self.low, self.high - 1
         if self.below is not None and self.upto is not None and self.is_smooth:
             between = self.upto - self.below
-            wanted = first + (half - self.below) * (self.high - first) // between
+            wanted = first + (many - self.below) * (self.high - first) // between
             # (numbers that lie there by chance are off by the root of how many they are)
             off = (last - first) // max(1, math.isqrt(between)) + 1
             first, last = max(first, min(wanted - off, last)), max(first, min(last, wanted + off))
@@ -38,9 +38,9 @@ class _Left(NamedTuple):
         step = -(-(last + 1 - first) // (most + 1))
         return list(range(first + step - 1, last + 1, step))
 
-    def after(self, bounds: List[int], counts: List[int], half: int) -> "_Left":
+    def after(self, bounds: List[int], counts: List[int], many: int) -> "_Left":
         """Returns what is left when the numbers up to each bound are counted."""
-        under = sum(count < half for count in counts)
+        under = sum(count < many for count in counts)
         low, below = (bounds[under - 1] + 1, counts[under - 1]) if under else (self.low, self.below)
         high, upto = (bounds[under], counts[under]) if under < len(bounds) else (self.high, self.upto)
         return _Left(low, high, below, upto, not self.is_smooth or 8 * (high - low) <= self.high - self.low)
@@ -49,9 +49,9 @@ class _Left(NamedTuple):
 class Gathered:
     """A store whose rows lie in several parts.
 
-    A lower median is found by counts: it is the least number with at least half of the numbers at or below it. A round
-    asks for the counts at `bounds` numbers at once. These lie near where the counts at both ends let it be expected,
-    and evenly spread after a round that was of little use."""
+    A number of a rank, as a lower median is, is found by counts: it is the least with so many numbers at or below it. A
+    round asks for the counts at `bounds` numbers at once. These lie near where the counts at both ends let it be
+    expected, and evenly spread after a round that was of little use."""
 
     def __init__(self, bounds: int):
         self._bounds = bounds
@@ -103,15 +103,25 @@ class Gathered:
         if not found:
             return None
         left = _Left(min(number for number, _ in found), max(number for number, _ in found))
-        half = (sum(count for _, count in found) + 1) // 2
+        return self._narrowed(name, fields, left, (sum(count for _, count in found) + 1) // 2)
+
+    def ranked(self, name: bytes, rank: int, fields: Fields) -> Optional[int]:
+        """Returns the number of a rank among those in these rows, from 0. There are more of them than that. The predicate
+        has at most 996 fields."""
+        with self.alone():
+            low, high = self.value(b"least", name, fields), self.value(b"greatest", name, fields)
+            return None if low is None or high is None else self._narrowed(name, fields, _Left(low, high), rank + 1)
+
+    def _narrowed(self, name: bytes, fields: Fields, left: _Left, many: int) -> Optional[int]:
+        """Returns the least number of what is left that has so many numbers at or below it."""
         while left.low < left.high:
-            if left.below == half - 1:
+            if left.below == many - 1:
                 return self.value(b"least", name, [*fields, name, b">=", b"%d" % left.low, b"and"])
-            if left.upto == half:
+            if left.upto == many:
                 return self.value(b"greatest", name, [*fields, name, b"<=", b"%d" % left.high, b"and"])
-            bounds = left.bounds(self._bounds, half)
+            bounds = left.bounds(self._bounds, many)
             counts = self.counts([[*fields, name, b"<=", b"%d" % bound, b"and"] for bound in bounds])
-            left = left.after(bounds, counts, half)
+            left = left.after(bounds, counts, many)
         return left.low
 
     def select(self, fields: Fields) -> Tuple[np.ndarray, int]:

@@ -156,6 +156,10 @@ class Handle:
         answer = self._ask(word, name, *fields)
         return answer.value if answer.present else None
 
+    def ranked(self, name: bytes, rank: int, fields: Sequence[bytes]) -> Optional[int]:
+        """Returns the number of a rank among those in these rows, from 0, or None past the last."""
+        return self.value(b"rank", name, [b"%d" % rank, *fields])
+
     def median_and_count(self, name: bytes, fields: Sequence[bytes]) -> Tuple[Optional[int], int]:
         """Returns the lower median number in these rows, and how many numbers there are."""
         return self.value(b"median", name, fields), self.count([*fields, name, b"null", b"not", b"and"])

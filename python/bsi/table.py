@@ -263,7 +263,7 @@ class Table:
     ) -> Any:
         """Returns the value of the column at a part of these rows from 0 to 1, or a list of such, as NumPy's method
         "lower" has it, or "linear": between two values a float, a Decimal or a datetime. None where there is no value.
-        It is found by a count for each bit of the column."""
+        It takes a count and the time of a median."""
         if interpolation not in ("lower", "linear"):
             raise ValueError(f"interpolation is 'lower' or 'linear', and not {interpolation!r}")
         if isinstance(q, Iterable) and not isinstance(q, (str, bytes)) and not is_scalar(q):
@@ -297,6 +297,10 @@ class Table:
         if isinstance(form.kind, Texts) and form.kind.grows:
             return self._place_at(name, rank, where)
         queries, within = self._queries(where, BOUND), self._within[name]
+        if len(queries) == 1:
+            number = self._store.ranked(within, rank, queries[0])
+            assert number is not None
+            return number
         low, high = (self._end(word, name, queries) for word in (b"least", b"greatest"))
         assert low is not None and high is not None
         while low < high:

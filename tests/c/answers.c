@@ -74,7 +74,13 @@ static void total(bsi_index *index, int column) {
         right &= !ask(index, query, &answer, places, 0) && answer.kind == BSI_VALUE && answer.present;
         right &= answer.value == each[k].want;
     }
-    snprintf(text, sizeof text, "%s: sum, least, greatest and median are those of a loop", names[column]);
+    for (size_t part = 0; part <= 7; part++) {
+        size_t rank = part * count / 7;
+        snprintf(query, sizeof query, "rank %s %zu b < 12", names[column], rank);
+        right &= !ask(index, query, &answer, places, 0) && answer.kind == BSI_VALUE && answer.present == (rank < count);
+        right &= rank >= count || answer.value == found[rank];
+    }
+    snprintf(text, sizeof text, "%s: sum, least, greatest, median and ranks are those of a loop", names[column]);
     check(right, text);
 }
 

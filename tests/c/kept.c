@@ -5,7 +5,7 @@ enum { ROWS = 150, ROOM = 4096 };
 
 static const char *schema = "column,a,slices,9\ncolumn,b,range,10 10,-50\ncolumn,c,equality,3 2\nlimit,1000\n";
 static const char *questions[] = {"count a < 200", "sum a b >= 0", "median b c = 2", "least c a > 100", "list b null",
-                                  "greatest a all", "sum b all", "list c >= 4 a <= 77 and"};
+                                  "greatest a all", "rank b 40 all", "list c >= 4 a <= 77 and"};
 enum { QUESTIONS = sizeof questions / sizeof *questions };
 static const uint8_t notes[] = "what the columns mean";
 

@@ -25,6 +25,18 @@ def column_record(chance, name):
     return f"column,{name},{form},{' '.join(map(str, sizes))}{offset}\n"
 
 
+def answer(machine, record):
+    """Returns the line that answers a question of a kept index: a query's, or a rank's."""
+    if record[0] != b"rank":
+        return files_model.answer(machine, record)
+    place = machine.position(record[1]) if len(record) > 3 and record[2].isdigit() else None
+    places = None if place is None else script_model.selected(machine, record[3:])
+    if places is None:
+        return files_model.BAD
+    numbers = sorted(row[place] for _, row in map(machine.indexed.__getitem__, places) if row[place] is not None)
+    return b"".join(b"value %d" % number for number in numbers[int(record[2]) :][:1]) or b"none"
+
+
 class Table:
     """A random table. `segments` has the rows of each segment, each with its feeder, and `ends` where it ends in the file."""
 
@@ -73,13 +85,14 @@ class Table:
     def asks(self):
         """Returns random questions, and a line that is none."""
         heads = [[word] for word in ("count", "list")] + [[word, self.chance.choice(self.names)] for word in TOTALS]
+        heads += [["rank", self.chance.choice(self.names), rank] for rank in ("0", str(self.chance.randrange(200)), "-1", str(2**64 - 1))]
         lines = [",".join([*head, *self.predicate()]) for head in 2 * heads]
-        return "\n".join([*lines, "wrong", ""]).encode()
+        return "\n".join([*lines, "wrong", f"rank,{self.names[0]}", f"rank,{self.names[0]},0", ""]).encode()
 
     def answers(self, asks):
         """Returns the lines that answer questions over the rows of all segments."""
         self.machine.indexed = sorted(itertools.chain(*self.segments), key=lambda row: row[0])
-        return script_model.text_of(files_model.answer(self.machine, record) for record in script_model.records(asks))
+        return script_model.text_of(answer(self.machine, record) for record in script_model.records(asks))
 
     def rows(self):
         return sum(map(len, self.segments))

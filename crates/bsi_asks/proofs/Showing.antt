@@ -9,6 +9,7 @@ use Rattle.bsi_rows.specs.declared.errors.AskError.TheVariants as ask
 use Rattle.bsi_rows.specs.declared.query.Answer.{Answer}
 use Rattle.bsi_rows.specs.declared.query.Query.{Query}
 use Rattle.bsi_asks.specs.AskLines.{IsAskLine, IsArrangedReply}
+use Rattle.bsi_asks.specs.declared.wording.Wording.TheVariants.{Queries}
 use Rattle.bsi_asks.specs.Matching.{AreMatched}
 use Rattle.bsi_asks.specs.Mixes.{file_by_file, AreAlike, IsMixOf}
 use Rattle.bsi_asks.specs.RowFiles.{file_at, FedCounts, RowFile}
@@ -22,7 +23,7 @@ reply_too schema a b alike query (Ok answer) is = (is.0, shown_too a b alike que
 reply_too schema a b alike query (Err ask.NoMemory) is = is
 reply_too schema a b alike query (Err (ask.BadColumn c)) is = is
 
-line_too : (schema : Declared) (a b : List FedRow) → AreAlike a b → (fields : List Field) (line : List ℕ) → IsAskLine schema a fields line → IsAskLine schema b fields line
+line_too : (schema : Declared) (a b : List FedRow) → AreAlike a b → (fields : List Field) (line : List ℕ) → IsAskLine Queries schema a fields line → IsAskLine Queries schema b fields line
 line_too schema a b alike fields line (inl none) = inl none
 line_too schema a b alike fields line (inr asks) = inr (record {
   query = asks.query;
@@ -32,8 +33,8 @@ line_too schema a b alike fields line (inr asks) = inr (record {
   line_is = asks.line_is;
 })
 
-each_too : (schema : Declared) (a b : List FedRow) → AreAlike a b → (records : List (List Field)) (lines : List (List ℕ)) → AreMatched (IsAskLine schema a) records lines
-    → AreMatched (IsAskLine schema b) records lines
+each_too : (schema : Declared) (a b : List FedRow) → AreAlike a b → (records : List (List Field)) (lines : List (List ℕ)) → AreMatched (IsAskLine Queries schema a) records lines
+    → AreMatched (IsAskLine Queries schema b) records lines
 each_too schema a b alike [] [] are = tt
 each_too schema a b alike [] (line ∷ lines) are = absurd are
 each_too schema a b alike (fields ∷ records) [] are = absurd are

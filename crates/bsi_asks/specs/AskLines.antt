@@ -1,7 +1,6 @@
 -- The line that answers a record of the asks file.
 use Rattle.std.specs.Prelude.{◌≡◌, ◌≢◌, ◌⊎◌, ℕ, List, None, Result, Ok, Err, length}
 use Rattle.std.specs.List.Sorted.{IsPermutation, IsSorted}
-use Rattle.bsi_records.specs.Events.{IsQuery}
 use Rattle.bsi_records.specs.Lines.{ask_line, bad_line}
 use Rattle.bsi_records.specs.Numbers.{Field}
 use Rattle.bsi_rows.specs.ByFeeder.{by_place}
@@ -15,6 +14,8 @@ use Rattle.bsi_rows.specs.declared.query.Answer.{Answer}
 use Rattle.bsi_rows.specs.declared.query.Answer.TheVariants.{Rows as rows_answer}
 use Rattle.bsi_rows.specs.declared.query.Query.{Query}
 use Rattle.bsi_rows.specs.declared.query.Total.TheVariants as total
+use Rattle.bsi_asks.specs.Wordings.{Words}
+use Rattle.bsi_asks.specs.declared.wording.Wording.{Wording}
 
 -- the answer to a query as its line has it: rows stand by feeder and number
 abbrev pub IsArrangedAnswer : Query → List FedRow → Answer → Type 0
@@ -31,17 +32,18 @@ IsArrangedReply schema rows query (Err refused) =
     IsReply schema rows query (Err refused) × (CountsConjunction query → refused ≢ NoMemory)
 
 -- a record that asks nothing has the line `bad`
-pub record AsksNothing (schema : Declared) (fields : List Field) (line : List ℕ) : Type 0 where
-  pub none : (query : Query) → IsQuery schema fields query → ⊥
+pub record AsksNothing (wording : Wording) (schema : Declared) (fields : List Field) (line : List ℕ) : Type 0 where
+  pub none : (query : Query) → Words wording schema fields query → ⊥
   pub line_is : line ≡ bad_line
 
 -- one that asks has the line of the reply that a table of these rows gives
-pub record Asks (schema : Declared) (rows : List FedRow) (fields : List Field) (line : List ℕ) : Type 0 where
+pub record Asks (wording : Wording) (schema : Declared) (rows : List FedRow) (fields : List Field) (line : List ℕ)
+    : Type 0 where
   pub query : Query
   pub reply : Result Answer AskError
-  pub asked : IsQuery schema fields query
+  pub asked : Words wording schema fields query
   pub lawful : IsArrangedReply schema rows query reply
   pub line_is : line ≡ ask_line reply
 
-abbrev pub IsAskLine : Declared → List FedRow → List Field → List ℕ → Type 0
-IsAskLine schema rows fields line = AsksNothing schema fields line ⊎ Asks schema rows fields line
+abbrev pub IsAskLine : Wording → Declared → List FedRow → List Field → List ℕ → Type 0
+IsAskLine wording schema rows fields line = AsksNothing wording schema fields line ⊎ Asks wording schema rows fields line

@@ -5,4 +5,5 @@ pub mod Matching
 pub mod Mixes
 pub mod RowFiles
 pub mod Runs
+pub mod Wordings
 pub mod Writing

@@ -19,9 +19,9 @@ ghost use Rattle.bsi_asks.specs.Runs.{fed_lines, AreLines};
 ghost use Rattle.bsi_asks.specs.Writing.{AreOut, WritesAll, WritesFirst};
 ghost use Rattle.bsi_rows.specs.Table.{max_feeders};
 
-use crate::{Fed, FilesFault, NoMemory, Which, file_number};
+use crate::{Fed, FilesFault, NoMemory, Which, Wording, file_number};
 use bsi_reading::{RecordSource, write_bytes};
-use bsi_records::{read_query, write_bad, write_fed, write_reply};
+use bsi_records::{write_bad, write_fed, write_reply};
 use bsi_rows::{Reply, arrange};
 use bsi_table::{Answer, Index};
 use csv::ByteRecord;
@@ -47,7 +47,7 @@ pub fn answer_all<A: Read + Drop, W: Write>(
         (W.contents writer.old) (W.contents writer.new))) }
 {
     tell_feds(alloc, fed, writer)?;
-    answer_asks(alloc, table, asks, writer)
+    answer_asks(alloc, table, Wording::Queries, asks, writer)
 }
 
 /// Writes a line for each record of a text: the answer to its question over the rows of an index, or that it is bad.
@@ -55,20 +55,21 @@ pub fn answer_all<A: Read + Drop, W: Write>(
 pub fn answer_asks<A: Read + Drop, W: Write>(
     alloc: Global,
     table: &Index,
+    wording: Wording,
     asks: A,
     writer: &mut W,
 ) -> Result<(), FilesFault>
     ensures late { IfErr result (λ fault. is_late fault ≡ true) }
     ensures ok { OnOk result (IfSome (A.remaining asks) (λ bytes.
-        WritesAll (AreMatched (IsAskLine table.now.schema table.now.rows)) bytes
+        WritesAll (AreMatched (IsAskLine wording table.now.schema table.now.rows)) bytes
         (W.contents writer.old) (W.contents writer.new))) }
     ensures part { IfErr result (λ fault. IfSome (A.remaining asks) (λ bytes.
-        WritesFirst (AreMatched (IsAskLine table.now.schema table.now.rows)) bytes fault
+        WritesFirst (AreMatched (IsAskLine wording table.now.schema table.now.rows)) bytes fault
         (W.contents writer.old) (W.contents writer.new))) }
 {
     let mut line = Vec::new(alloc);
     let mut records = RecordSource::new(alloc, asks);
-    answer_records(alloc, table, &mut records, &mut line, writer)
+    answer_records(alloc, table, wording, &mut records, &mut line, writer)
 }
 
 /// Writes a line for each of at most 64 feeders, in their order. After a fault some first lines stand, whole unless the
@@ -102,6 +103,7 @@ fn tell(feeder: u32, end: &Fed, line: &mut Vec<u8>) -> Result<(), NoMemory>
 fn answer_records<A: Read + Drop, W: Write>(
     alloc: Global,
     table: &Index,
+    wording: Wording,
     records: &mut RecordSource<A>,
     line: &mut Vec<u8>,
     writer: &mut W,
@@ -110,10 +112,10 @@ fn answer_records<A: Read + Drop, W: Write>(
     requires start { reader_state records.old.input ≡ st.StartRecord }
     ensures late { IfErr result (λ fault. is_late fault ≡ true) }
     ensures ok { OnOk result (FromText (source_of A.remaining records.old.input) (λ bytes.
-        WritesAll (AreMatched (IsAskLine table.now.schema table.now.rows)) bytes
+        WritesAll (AreMatched (IsAskLine wording table.now.schema table.now.rows)) bytes
         (W.contents writer.old) (W.contents writer.new))) }
     ensures part { IfErr result (λ fault. FromText (source_of A.remaining records.old.input)
-        (λ bytes. WritesFirst (AreMatched (IsAskLine table.now.schema table.now.rows)) bytes fault
+        (λ bytes. WritesFirst (AreMatched (IsAskLine wording table.now.schema table.now.rows)) bytes fault
         (W.contents writer.old) (W.contents writer.new))) }
 {
     let mut fields = ByteRecord::new(alloc);
@@ -124,7 +126,7 @@ fn answer_records<A: Read + Drop, W: Write>(
             Ok(false) => return Ok(()),
             Err(fault) => return Err(FilesFault::of_text(Which::AsksFile, fault)),
         }
-        answer(alloc, table, &fields, line)?;
+        answer(alloc, table, wording, &fields, line)?;
         write_bytes(writer, line.as_slice())?;
     }
     // No text has so many records, so the loop has returned.
@@ -135,16 +137,17 @@ fn answer_records<A: Read + Drop, W: Write>(
 fn answer(
     alloc: Global,
     table: &Index,
+    wording: Wording,
     fields: &ByteRecord,
     line: &mut Vec<u8>,
 ) -> Result<(), FilesFault>
     ensures late { IfErr result (λ fault. is_late fault ≡ true) }
     ensures short { IfErr result (λ fault. fault ≢ FilesFault.TooLong Which.AsksFile) }
     ensures line { OnOk result
-        (IsAskLine table.now.schema table.now.rows (fields_of fields.now) line.new.items) }
+        (IsAskLine wording table.now.schema table.now.rows (fields_of fields.now) line.new.items) }
 {
     line.clear();
-    let Some(query) = read_query(alloc, table.schema(), fields)? else {
+    let Some(query) = wording.read(alloc, table.schema(), fields)? else {
         write_bad(line)?;
         return Ok(());
     };

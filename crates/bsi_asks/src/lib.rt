@@ -6,8 +6,10 @@ mod asks;
 mod faults;
 mod fed;
 pub mod laws;
+mod wording;
 
 pub use asks::{answer_all, answer_asks, tell_feds};
 pub use faults::{FaultText, FilesFault, MAX_FAULT_TEXT, Which};
 pub use fed::{Fed, file_number};
 pub use std::alloc::AllocError as NoMemory;
+pub use wording::Wording;

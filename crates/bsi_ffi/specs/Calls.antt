@@ -3,9 +3,9 @@ use Rattle.std.specs.Prelude.{◌≡◌, ◌≢◌, ℕ, ◌+◌, ◌*◌, ◌%�
 use Rattle.std.specs.Int.{cast_unsigned, w128}
 use Rattle.bsi_bits.specs.BitList.{word_count}
 use Rattle.bsi_bits.specs.Packed.{bit_of, end_of_u64}
-use Rattle.bsi_records.specs.Events.{IsQuery}
 use Rattle.bsi_records.specs.Numbers.{Field}
 use Rattle.bsi_records.specs.Predicates.{IsPredicate}
+use Rattle.bsi_records.specs.Questions.{IsQuestion}
 use Rattle.bsi_rows.specs.Answers.{IsAnswer}
 use Rattle.bsi_rows.specs.RowBlocks.{max_block_rows}
 use Rattle.bsi_rows.specs.Rows.{holds, row_entries}
@@ -158,12 +158,12 @@ LeavesRest answer before places = drop (places_of answer) places ≡ drop (place
 -- of a query that the fields ask, and of its answer over the rows, this is so
 abbrev pub IsAsked : Table → List Field → (Answer → Type 0) → Type 0
 IsAsked table fields Is =
-    (query : Query) × (reply : Answer) × IsQuery table.schema fields query × IsAnswer query table.rows reply × Is reply
+    (query : Query) × (reply : Answer) × IsQuestion table.schema fields query × IsAnswer query table.rows reply × Is reply
 
 abbrev pub IsReplied : Opened → List Field → FlatAnswer → List Place → Ending → Type 0
 IsReplied opened fields answer places (Ok done) =
     IsAsked opened.table fields (λ reply. IsWritten reply answer places)
-IsReplied opened fields answer places (Err BadQuery) = (query : Query) → IsQuery opened.table.schema fields query → ⊥
+IsReplied opened fields answer places (Err BadQuery) = (query : Query) → IsQuestion opened.table.schema fields query → ⊥
 IsReplied opened fields answer places (Err NoRoom) =
     IsAsked opened.table fields (λ reply. IsShort reply answer places)
 IsReplied opened fields answer places (Err NoMemory) = Unit {0}

@@ -5,7 +5,7 @@ ghost use Rattle.bsi_ffi.specs.Calls.{as_pairs, IsReplied, IsShort, IsWritten, L
 
 use crate::opened::Opened;
 use crate::refusal::Refusal;
-use bsi_records::read_query;
+use bsi_records::read_question;
 use bsi_table::{Answer, AskError};
 use csv::ByteRecord;
 use std::alloc::Global;
@@ -68,7 +68,7 @@ pub(crate) fn reply(
 {
     let index = opened.index();
     let fields = ByteRecord::from_fields(alloc, fields)?;
-    let Some(query) = read_query(alloc, index.schema(), &fields)? else {
+    let Some(query) = read_question(alloc, index.schema(), &fields)? else {
         return Err(Refusal::BadQuery);
     };
     match index.ask(&query) {

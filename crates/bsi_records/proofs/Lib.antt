@@ -5,6 +5,7 @@ pub mod EventWords
 mod Events
 mod Fields
 mod Parts
+pub mod Ranked
 mod RowTexts
 mod SpellReading
 mod SpellSteps

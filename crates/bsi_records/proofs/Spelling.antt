@@ -89,13 +89,13 @@ same_meaning schema named fields P Q one two row =
     sym (holds_plain P row) ∙ ap (λ R. holds R row) (same_plain schema named fields P Q one two) ∙ holds_plain Q row
 
 -- a column that is there is not missing
-not_missing : (columns : List NamedColumn) (name : Field) (c : ℕ) → position_of columns name ≡ Some c → missing_of (length columns) (c ∷ []) ≡ None
+pub not_missing : (columns : List NamedColumn) (name : Field) (c : ℕ) → position_of columns name ≡ Some c → missing_of (length columns) (c ∷ []) ≡ None
 not_missing columns name c at =
     let found = position-Some (λ (column : NamedColumn). bytes_eq name column.name) columns c no_column at in
     let below : nat_le (length columns) c ≡ false = grind (arith, nat_tests, found.0) in
     ap (λ b. if b then Some c else None) below
 
-neither_missing : (count : ℕ) (first second : List ℕ) → missing_of count first ≡ None → missing_of count second ≡ None → missing_of count (first ++ second) ≡ None
+pub neither_missing : (count : ℕ) (first second : List ℕ) → missing_of count first ≡ None → missing_of count second ≡ None → missing_of count (first ++ second) ≡ None
 neither_missing count first second one two = find-append (λ k. nat_le count k) first second ∙ ap (λ o. option_or o (missing_of count second)) one ∙ two
 
 -- the columns of a predicate that is spelled are there
@@ -169,7 +169,7 @@ column_total_there schema word (name ∷ rest) found is =
     ap (λ (f : Total × List Field). missing_of (length schema.columns) (columns_of_total f.0)) (sym (some_same (with rest (makes c)) found is))
     ∙ ap (missing_of (length schema.columns)) (makes_one word makes c word_is) ∙ not_missing schema.columns name c place
 
-total_there : (schema : Declared) (fields : List Field) (found : Total × List Field) → total_of schema fields ≡ Some found
+pub total_there : (schema : Declared) (fields : List Field) (found : Total × List Field) → total_of schema fields ≡ Some found
     → missing_of (length schema.columns) (columns_of_total found.0) ≡ None
 total_there schema [] found is = absurd (none_is_some found is)
 total_there schema (word ∷ rest) found is =

@@ -5,6 +5,7 @@ use Rattle.bsi_reading.specs.SchemaTexts.{IsSchemaText}
 use Rattle.bsi_store.specs.Lines.{count_line}
 use Rattle.bsi_rows.specs.Table.{Table}
 use Rattle.bsi_asks.specs.AskLines.{IsAskLine}
+use Rattle.bsi_asks.specs.declared.wording.Wording.TheVariants.{Questions}
 use Rattle.bsi_asks.specs.Matching.{AreMatched}
 use Rattle.bsi_asks.specs.Writing.{WritesAll}
 use Rattle.bsi_saved.specs.Faults.{IsOpened}
@@ -26,7 +27,7 @@ pub record HasAsked {S : Type 0} (rem : S → Option (List ℕ)) (so_far : Bool)
     : Type 0 where
   pub table : Table
   pub kept : IsKeptIn rem so_far table
-  pub answered : IfSome asks (λ asked. WritesAll (AreMatched (IsAskLine table.schema table.rows)) asked before after)
+  pub answered : IfSome asks (λ asked. WritesAll (AreMatched (IsAskLine Questions table.schema table.rows)) asked before after)
 
 -- a file was opened that keeps a table, and a text that declares its columns and its limit, how many feeders and rows it
 -- has, and some more were put after what a writer held

@@ -1,0 +1,14 @@
+-- What records may ask.
+use Rattle.std.specs.Prelude.{List}
+use Rattle.bsi_records.specs.Events.{IsQuery}
+use Rattle.bsi_records.specs.Numbers.{Field}
+use Rattle.bsi_records.specs.Questions.{IsQuestion}
+use Rattle.bsi_rows.specs.declared.query.Query.{Query}
+use Rattle.bsi_schema.specs.Columns.{Declared}
+use Rattle.bsi_asks.specs.declared.wording.Wording.{Wording}
+use Rattle.bsi_asks.specs.declared.wording.Wording.TheVariants.{Queries, Questions}
+
+-- a record of these fields asks for this query
+abbrev pub Words : Wording → Declared → List Field → Query → Type 0
+Words Queries schema fields query = IsQuery schema fields query
+Words Questions schema fields query = IsQuestion schema fields query
