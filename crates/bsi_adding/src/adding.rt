@@ -5,8 +5,8 @@ ghost use Rattle.std.specs.Io.KnownBytes.{Appends};
 ghost use Rattle.bsi_asks.specs.RowFiles.{fed_counts};
 ghost use Rattle.bsi_asks.specs.Runs.{HasLoaded};
 ghost use Rattle.bsi_rows.specs.Table.{max_feeders, no_rows, with_rows};
-ghost use Rattle.bsi_saved.specs.Saved.{kept_file, max_notes};
-ghost use Rattle.bsi_adding.specs.Loads.{HasAdded};
+ghost use Rattle.bsi_saved.specs.Saved.{kept_file, max_notes, MayBeKept};
+ghost use Rattle.bsi_adding.specs.Loads.{HasAdded, IsAddFault, IsOfNoBytes};
 ghost use Rattle.std.specs.List.{Contains};
 ghost use Rattle.bsi_store.specs.Faults.{Names};
 ghost use Rattle.bsi_table.specs.Index.{table_of};
@@ -49,7 +49,9 @@ pub fn add_rows<
 >(rt: &R, paths: &AddPaths<'a>, output: &mut O, gate: &G) -> Result<(), StoreFault<'a>>
     requires { G.STOPS ≡ false }
     ensures added { OnOk result (HasAdded S.remaining S.contents paths.now.so_far
-        (O.contents output.old) (O.contents output.new)) }
+        (length paths.now.rows.items) (O.contents output.old) (O.contents output.new)) }
+    ensures fault { IfErr result
+        (IsAddFault S.remaining paths.now.so_far (length paths.now.rows.items)) }
     ensures named { IfErr result
         (Names (λ named. (named ≡ paths.now.kept) ⊎ Contains paths.now.rows.items named)) }
 {
@@ -83,6 +85,8 @@ fn load_more<
         HasLoaded kept.now.schema kept.now.limit texts loaded.table.rows
         (map fed_counts loaded.fed.items)) }
     ensures few { IfOk result (λ loaded. length loaded.fed.items ≤ max_feeders) }
+    ensures fault { IfErr result (λ fault. IsOfNoBytes fault ⊎ ((kept.now.feeders < length rows.items)
+        × (fault ≡ StoreFault.Unusable path.entry (FileFault.TooManyFiles kept.now.feeders)))) }
     ensures named { IfErr result (Names (λ named. named ≡ path.entry)) }
 {
     if rows.len() > kept.feeders() as usize {
@@ -125,6 +129,8 @@ fn put_segment<'a, S: Write + OpenFile>(
     requires { length kept.now.notes.items ≤ max_notes }
     ensures put { OnOk result (Appends (S.contents file.old) (S.contents file.new)
         (kept_file (table_of more.now) kept.now.notes.items)) }
+    ensures keeps { OnOk result (MayBeKept (table_of more.now) kept.now.notes.items) }
+    ensures fault { IfErr result IsOfNoBytes }
     ensures named { IfErr result (Names (λ named. named ≡ path.entry)) }
 {
     if kept.fault.is_some() && file.set_len(kept.bytes).is_err() {

@@ -3,7 +3,7 @@
 ghost use Rattle.std.specs.Prelude.{◌≡◌, [], IfErr, IfOk, OnOk};
 ghost use Rattle.std.specs.Io.KnownBytes.{Appends};
 ghost use Rattle.bsi_table.specs.Index.{table_of};
-ghost use Rattle.bsi_saved.specs.Saved.{kept_file};
+ghost use Rattle.bsi_saved.specs.Saved.{kept_file, MayBeKept};
 ghost use Rattle.bsi_store.specs.Faults.{Names};
 
 use crate::opening::claim;
@@ -51,6 +51,7 @@ impl<'a, S: Read + Write + OpenFile + LockFile + Drop> NewFile<'a, S> {
     pub(crate) fn write(&mut self, alloc: Global, index: &Index) -> Result<(), StoreFault<'a>>
         ensures written { OnOk result (Appends (S.contents self.old.file) (S.contents self.new.file)
             (kept_file (table_of index.now) [])) }
+        ensures keeps { OnOk result (MayBeKept (table_of index.now) []) }
         ensures named { IfErr result (Names (λ named. named ≡ self.old.path)) }
         ensures path { self.new.path ≡ self.old.path }
     {

@@ -2,6 +2,7 @@
 
 ghost use Rattle.std.specs.Prelude.{◌≡◌, IfErr, IfOk, length};
 ghost use Rattle.std.specs.List.{Contains};
+ghost use Rattle.bsi_adding.specs.Loads.{IsOfNoBytes};
 ghost use Rattle.bsi_store.specs.Faults.{Names};
 
 use bsi_asks::FilesFault;
@@ -18,6 +19,7 @@ pub(crate) fn open_each<'a, R: AllocGlobal + Files<File = S>, S: Read + Drop>(
     paths: &[&'a str],
 ) -> Result<Vec<S>, StoreFault<'a>>
     ensures many { IfOk result (λ files. length files.items ≡ length paths.now) }
+    ensures fault { IfErr result IsOfNoBytes }
     ensures named { IfErr result (Names (Contains paths.now)) }
 {
     let mut files = Vec::with_capacity(rt.alloc(), paths.len())?;
@@ -33,7 +35,8 @@ pub(crate) fn open_to_add<'a, R: Files<File = S>, S: OpenFile + LockFile + Drop>
     rt: &R,
     path: &'a str,
 ) -> Result<S, StoreFault<'a>>
-    ensures { IfErr result (Names (λ named. named ≡ path.entry)) }
+    ensures fault { IfErr result IsOfNoBytes }
+    ensures named { IfErr result (Names (λ named. named ≡ path.entry)) }
 {
     let mut options = OpenOptions::new();
     options.read(true).append(true);

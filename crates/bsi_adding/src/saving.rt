@@ -42,8 +42,8 @@ pub fn save_rows<
     G: Gate + Stopping + Sync,
 >(rt: &R, paths: &SavePaths<'a>, output: &mut O, gate: &G) -> Result<(), StoreFault<'a>>
     requires { G.STOPS ≡ false }
-    ensures saved { OnOk result
-        (HasSaved S.remaining S.contents (O.contents output.old) (O.contents output.new)) }
+    ensures saved { OnOk result (HasSaved S.remaining S.contents (length paths.now.rows.items)
+        (O.contents output.old) (O.contents output.new)) }
     ensures named { IfErr result (Names (λ named. (named ≡ paths.now.schema)
         ⊎ ((named ≡ paths.now.to) ⊎ Contains paths.now.rows.items named))) }
 {
@@ -70,7 +70,8 @@ fn save_or_remove<
 ) -> Result<Vec<u8>, StoreFault<'a>>
     requires some { 0 < length rows.items }
     requires never { G.STOPS ≡ false }
-    ensures saved { IfOk result (λ text. Tells (HasSaved S.remaining S.contents) text.items) }
+    ensures saved { IfOk result (λ text.
+        Tells (HasSaved S.remaining S.contents (length rows.items)) text.items) }
     ensures named { IfErr result (Names (λ named. named ≡ new.old.path)) }
 {
     match save_into(rt, schema, rows, new, gate) {
@@ -97,7 +98,8 @@ fn save_into<
 ) -> Result<Vec<u8>, StoreFault<'a>>
     requires some { 0 < length rows.items }
     requires never { G.STOPS ≡ false }
-    ensures saved { IfOk result (λ text. Tells (HasSaved S.remaining S.contents) text.items) }
+    ensures saved { IfOk result (λ text.
+        Tells (HasSaved S.remaining S.contents (length rows.items)) text.items) }
     ensures named { IfErr result (Names (λ named. named ≡ new.old.path)) }
 {
     if rows.len() > MAX_FEEDERS as usize {

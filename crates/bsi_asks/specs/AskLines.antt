@@ -14,7 +14,7 @@ use Rattle.bsi_rows.specs.declared.query.Answer.{Answer}
 use Rattle.bsi_rows.specs.declared.query.Answer.TheVariants.{Rows as rows_answer}
 use Rattle.bsi_rows.specs.declared.query.Query.{Query}
 use Rattle.bsi_rows.specs.declared.query.Total.TheVariants as total
-use Rattle.bsi_asks.specs.Wordings.{Words}
+use Rattle.bsi_asks.specs.Wordings.{AsksFor}
 use Rattle.bsi_asks.specs.declared.wording.Wording.{Wording}
 
 -- the answer to a query as its line has it: rows stand by feeder and number
@@ -33,7 +33,7 @@ IsArrangedReply schema rows query (Err refused) =
 
 -- a record that asks nothing has the line `bad`
 pub record AsksNothing (wording : Wording) (schema : Declared) (fields : List Field) (line : List ℕ) : Type 0 where
-  pub none : (query : Query) → Words wording schema fields query → ⊥
+  pub none : (query : Query) → AsksFor wording schema fields query → ⊥
   pub line_is : line ≡ bad_line
 
 -- one that asks has the line of the reply that a table of these rows gives
@@ -41,7 +41,7 @@ pub record Asks (wording : Wording) (schema : Declared) (rows : List FedRow) (fi
     : Type 0 where
   pub query : Query
   pub reply : Result Answer AskError
-  pub asked : Words wording schema fields query
+  pub asked : AsksFor wording schema fields query
   pub lawful : IsArrangedReply schema rows query reply
   pub line_is : line ≡ ask_line reply
 

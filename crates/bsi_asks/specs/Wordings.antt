@@ -9,6 +9,6 @@ use Rattle.bsi_asks.specs.declared.wording.Wording.{Wording}
 use Rattle.bsi_asks.specs.declared.wording.Wording.TheVariants.{Queries, Questions}
 
 -- a record of these fields asks for this query
-abbrev pub Words : Wording → Declared → List Field → Query → Type 0
-Words Queries schema fields query = IsQuery schema fields query
-Words Questions schema fields query = IsQuestion schema fields query
+abbrev pub AsksFor : Wording → Declared → List Field → Query → Type 0
+AsksFor Queries schema fields query = IsQuery schema fields query
+AsksFor Questions schema fields query = IsQuestion schema fields query

@@ -3,7 +3,7 @@
 ghost use Rattle.std.specs.Prelude.{IfOk};
 ghost use Rattle.csv.specs.Records.{fields_of};
 ghost use Rattle.bsi_records.specs.Reading.{IsReadAs};
-ghost use Rattle.bsi_asks.specs.Wordings.{Words};
+ghost use Rattle.bsi_asks.specs.Wordings.{AsksFor};
 
 use crate::NoMemory;
 use bsi_records::{read_query, read_question};
@@ -28,7 +28,7 @@ impl Wording {
         schema: &Schema,
         fields: &ByteRecord,
     ) -> Result<Option<Query>, NoMemory>
-        ensures { IfOk result (IsReadAs (Words self schema.now (fields_of fields.now))) }
+        ensures { IfOk result (IsReadAs (AsksFor self schema.now (fields_of fields.now))) }
     {
         match self {
             Wording::Queries => read_query(alloc, schema, fields),

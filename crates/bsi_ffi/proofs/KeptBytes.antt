@@ -1,5 +1,5 @@
 -- What the bytes in memory keep, of which a reader told what it had.
-use Rattle.std.proofs.Common.{◌≡◌, ◌⊎◌, inl, inr, ℕ, List, [], ◌++◌, Option, None, Some, length, take, refl, sym, ap, subst, ◌∙◌}
+use Rattle.std.proofs.Common.{◌≡◌, ◌⊎◌, inl, inr, ℕ, ◌≤◌, List, [], ◌++◌, Option, None, Some, length, take, refl, sym, ap, subst, ◌∙◌, arith, length-append}
 use Rattle.std.specs.Prelude.{IfErr, Result, Ok, Err}
 use Rattle.std.specs.Io.KnownBytes.{Consumes}
 use Rattle.std.proofs.lemmas.List.{append-nil, take_at}
@@ -16,6 +16,10 @@ use Rattle.bsi_ffi.specs.declared.refusal.Refusal.TheVariants as refusal
 first_bytes : (bytes : List ℕ) (after : Option (List ℕ)) (first : List ℕ) → Consumes (Some bytes) after first → take (length first) bytes ≡ first
 first_bytes bytes None first taken = absurd taken
 first_bytes bytes (Some rest) first taken = ap (take (length first)) taken ∙ take_at first rest (length first) refl
+
+first_short : (bytes : List ℕ) (middle : Option (List ℕ)) (first : List ℕ) → Consumes (Some bytes) middle first → length first ≤ length bytes
+first_short bytes None first taken = absurd taken
+first_short bytes (Some rest) first taken = omega (arith, ap (λ (bs : List ℕ). length bs) taken, length-append first rest)
 
 -- and all of them, where it ended behind them
 all_bytes : (bytes : List ℕ) (t : Table) (middle after : Option (List ℕ)) (first : List ℕ) → Consumes (Some bytes) middle first → EndsBy t middle after None → bytes ≡ first
@@ -38,7 +42,12 @@ module _ (bytes : List ℕ) (after : Option (List ℕ)) (t : Table) (notes : Lis
   first_keep fault opened =
       let same : take size bytes ≡ opened.read.bytes =
       ap (λ n. take n bytes) opened.read.size_is ∙ first_bytes bytes opened.middle opened.read.bytes opened.read.taken in
-      inr (t, notes, subst (λ (bs : List ℕ). Keeps bs t notes) (sym same) opened.read.keeps)
+      inr (
+        omega (arith, opened.read.size_is, first_short bytes opened.middle opened.read.bytes opened.read.taken),
+        t,
+        notes,
+        subst (λ (bs : List ℕ). Keeps bs t notes) (sym same) opened.read.keeps,
+      )
 
   -- a fault behind them is the refusal's
   pub refused_behind : (fault : OpenFault) → IsOpened (Some bytes) after t notes size (Some fault) → IsKeptRefusal bytes size (kept_refusal fault)
@@ -76,4 +85,4 @@ pub whole_keep : (bytes : List ℕ) (t : Table) (notes : List ℕ) (whole : ℕ)
 whole_keep bytes t notes whole keeps is =
     let all : take (length bytes) bytes ≡ bytes =
     ap (λ (xs : List ℕ). take (length bytes) xs) (sym (append-nil bytes)) ∙ take_at bytes [] (length bytes) refl in
-    inr (t, notes, subst (λ (bs : List ℕ). Keeps bs t notes) (sym (ap (λ n. take n bytes) is ∙ all)) keeps)
+    inr (omega (arith, is), t, notes, subst (λ (bs : List ℕ). Keeps bs t notes) (sym (ap (λ n. take n bytes) is ∙ all)) keeps)

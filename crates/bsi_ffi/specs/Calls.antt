@@ -16,7 +16,7 @@ use Rattle.bsi_rows.specs.declared.query.Pred.{Pred}
 use Rattle.bsi_rows.specs.declared.query.Query.{Query}
 use Rattle.bsi_reading.specs.SchemaTexts.{DeclaresNoColumn, DeclaresTooLong, IsBadRecord, IsSchemaText}
 use Rattle.bsi_saved.specs.Faults.{IsFirstFault, IsOpened}
-use Rattle.bsi_saved.specs.Saved.{kept_file, max_notes, Keeps}
+use Rattle.bsi_saved.specs.Saved.{kept_file, max_notes, Keeps, MayBeKept}
 use Rattle.bsi_saved.specs.declared.fault.OpenFault.{OpenFault}
 use Rattle.bsi_saved.specs.declared.fault.OpenFault.TheVariants as open_fault
 use Rattle.bsi_ffi.specs.Columns.{are_columns, given_rows, row_count, AreTaken, IsFirstMisfit}
@@ -219,11 +219,11 @@ IsDescribing held bytes size ending = WhereOpen held (λ opened ending. IsDescri
 
 -- ---- keeping
 
--- the first bytes keep the index and these notes
+-- the first bytes are a file that keeps the index and these notes
 abbrev pub IsKept : Opened → List ℕ → List ℕ → ℕ → Ending → Type 0
 IsKept opened notes bytes size (Ok done) =
     (length notes ≤ max_notes) × (size ≡ length (kept_file opened.table notes))
-    × (take size bytes ≡ kept_file opened.table notes)
+    × (take size bytes ≡ kept_file opened.table notes) × MayBeKept opened.table notes
 IsKept opened notes bytes size (Err LongNotes) = max_notes < length notes
 IsKept opened notes bytes size (Err NoRoom) =
     (length notes ≤ max_notes) × (size ≡ length (kept_file opened.table notes)) × (length bytes < size)
@@ -252,7 +252,8 @@ Meets bytes whole fault =
 
 -- the first so many bytes keep an index, or they are none
 abbrev pub FirstKeep : List ℕ → ℕ → Type 0
-FirstKeep bytes whole = (whole ≡ 0) ⊎ ((t : Table) × (notes : List ℕ) × Keeps (take whole bytes) t notes)
+FirstKeep bytes whole =
+    (whole ≡ 0) ⊎ ((whole ≤ length bytes) × (t : Table) × (notes : List ℕ) × Keeps (take whole bytes) t notes)
 
 -- the bytes are refused, and so many first ones keep an index
 abbrev pub IsKeptRefusal : List ℕ → ℕ → Refusal → Type 0
@@ -277,7 +278,7 @@ AreLong bytes room size =
 abbrev pub IsReopening : Option State → List ℕ → List ℕ → ℕ → ℕ → Option State → Ending → Type 0
 IsReopening before bytes room size whole after (Ok done) =
     (opened_in before ≡ None) × MatchOption (opened_in after) ⊥ (IsKeptBy bytes (take size room))
-    × (is_shared after ≡ false) × (whole ≡ length bytes)
+    × (is_shared after ≡ false) × (size ≤ length room) × (whole ≡ length bytes)
 IsReopening before bytes room size whole after (Err Open) = IsSome (opened_in before) × (whole ≡ 0)
 IsReopening before bytes room size whole after (Err NoRoom) =
     (opened_in before ≡ None) × AreLong bytes room size × (whole ≡ length bytes)

@@ -1,6 +1,6 @@
 //! Bytes that keep an index: made, and opened again.
 
-ghost use Rattle.std.specs.Prelude.{◌≡◌, ◌≢◌, ◌<◌, IfErr, IfOk, OnErr, OnOk, drop, length, take};
+ghost use Rattle.std.specs.Prelude.{◌≡◌, ◌≢◌, ◌<◌, ◌≤◌, IfErr, IfOk, OnErr, OnOk, drop, length, take};
 ghost use Rattle.bsi_reading.specs.SchemaTexts.{IsSchemaText};
 ghost use Rattle.bsi_saved.specs.Saved.{Keeps};
 ghost use Rattle.bsi_ffi.specs.Calls.{kept_refusal, IsKept, IsKeptRefusal};
@@ -46,6 +46,7 @@ pub(crate) fn keep(
 pub(crate) fn fill(from: &[u8], room: &mut [u8], size: &mut usize) -> Result<(), Refusal>
     ensures size { size.new ≡ length from.now }
     ensures copied { OnOk result (take size.new room.new ≡ from.now) }
+    ensures within { OnOk result (size.new ≤ length room.new) }
     ensures rest { OnOk result (drop size.new room.new ≡ drop size.new room.old) }
     ensures unfilled { OnErr result (room.new ≡ room.old) }
     ensures short { OnErr result (length room.new < size.new) }

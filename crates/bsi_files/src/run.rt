@@ -112,6 +112,7 @@ pub fn load_files<
     requires few { length sources.items ≤ max_feeders }
     ensures schema { IfOk result (λ loaded. loaded.table.schema ≡ schema) }
     ensures limit { IfOk result (λ loaded. loaded.table.limit ≡ limit) }
+    ensures feeders { IfOk result (λ loaded. loaded.table.feeders ≡ length sources.items) }
     ensures counts { IfOk result (λ loaded. length loaded.fed.items ≡ length sources.items) }
     ensures headers { OnOk result ((texts : List (List ℕ)) →
         map I.remaining sources.items ≡ map Some texts → All (HasHeader schema) texts) }
@@ -163,6 +164,7 @@ fn load_in<
         loaded.table.rows sources.items loaded.fed.items) }
     ensures schema { IfOk result (λ loaded. loaded.table.schema ≡ schema) }
     ensures limit { IfOk result (λ loaded. loaded.table.limit ≡ limit) }
+    ensures feeders { IfOk result (λ loaded. loaded.table.feeders ≡ length sources.items) }
 {
     match open::<B>(rt.alloc(), history, schema, capacities, limit, 0) {
         Ok(
@@ -200,6 +202,7 @@ impl<B: Naming, R: Wait> OwnedLoader<'_, B, R> {
         ensures rows { IfOk result (λ table. table.rows ≡ self.entry.loader.published ++ self.entry.loader.held) }
         ensures schema { IfOk result (λ table. table.schema ≡ self.entry.loader.system.schema) }
         ensures limit { IfOk result (λ table. table.limit ≡ self.entry.loader.system.limit) }
+        ensures feeders { IfOk result (λ table. table.feeders ≡ length self.entry.loader.system.channels) }
         ensures within { IfOk result (λ table. length table.rows ≤ self.entry.loader.system.limit) }
         ensures always { AlwaysHolds self.entry.loader }
     {
@@ -233,6 +236,8 @@ fn feed_files<
         loaded.table.rows sources.items loaded.fed.items) }
     ensures schema { IfOk result (λ loaded. loaded.table.schema ≡ loader.system.schema) }
     ensures limit { IfOk result (λ loaded. loaded.table.limit ≡ loader.system.limit) }
+    ensures feeders { IfOk result (λ loaded.
+        loaded.table.feeders ≡ length loader.system.channels) }
 {
     let flags = RunFlags::new(gate);
     let shared = &flags;
@@ -250,6 +255,8 @@ fn feed_files<
                 loaded.table.schema ≡ owned.entry.loader.system.schema) }
             ensures limit { IfOk result (λ loaded.
                 loaded.table.limit ≡ owned.entry.loader.system.limit) }
+            ensures feeders { IfOk result (λ loaded.
+                loaded.table.feeders ≡ length owned.entry.loader.system.channels) }
         { feed_in(scope, rt, shared, owned, feeders, sources) },
     )
 }
@@ -277,6 +284,8 @@ fn feed_in<
     ensures schema { IfOk result (λ loaded.
         loaded.table.schema ≡ owned.entry.loader.system.schema) }
     ensures limit { IfOk result (λ loaded. loaded.table.limit ≡ owned.entry.loader.system.limit) }
+    ensures feeders { IfOk result (λ loaded.
+        loaded.table.feeders ≡ length owned.entry.loader.system.channels) }
 {
     let fed = load_all(scope, rt, flags, &mut owned.loader, feeders, sources)?;
     let table = owned.into_table()?;

@@ -5,6 +5,7 @@ pub use Rattle.bsi_load.specs.Sizes
 pub use Rattle.bsi_orders.specs.Orders
 pub use Rattle.bsi_orders.specs.Rows as ColumnRows
 pub use Rattle.bsi_orders.specs.Totals
+pub use Rattle.bsi_parallel.specs.Replies
 pub use Rattle.bsi_system.specs.Opening
 pub use Rattle.bsi_system.specs.Running
 pub use Rattle.bsi_table.specs.Answers

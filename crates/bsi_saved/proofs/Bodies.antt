@@ -5,22 +5,12 @@ use Rattle.std.proofs.lemmas.Bool.Decides.{nat_tests}
 use Rattle.bsi_schema.specs.Columns.{Declared, IsDeclared}
 use Rattle.bsi_rows.specs.Refusals.{index_refusal}
 use Rattle.bsi_rows.specs.Table.{max_rows, Table}
+use Rattle.bsi_table.proofs.Refusing.{not_refused}
 use Rattle.bsi_kept.specs.Bytes.{text_words, AreBytes}
 use Rattle.bsi_kept.specs.Schemas.{schema_words}
 use Rattle.bsi_kept.proofs.Coding.{behind, same_schema, same_text}
 use Rattle.bsi_saved.specs.Saved.{body, max_notes, rows_words, AreRows, MayBeKept}
 use Rattle.bsi_saved.specs.Taking.{AreSizes, HoldsRows}
-
--- an index of some columns and of such a limit is not refused
-pub not_refused : (schema : Declared) (limit : ℕ) → 0 < length schema.columns → 1 ≤ limit → limit ≤ max_rows → index_refusal schema limit ≡ None
-not_refused schema limit some least most = grind (arith, nat_tests)
-
-pub some_columns : (schema : Declared) (limit : ℕ) → index_refusal schema limit ≡ None → 0 < length schema.columns
-some_columns schema limit taken = by (nat_eq (length schema.columns) 0) refl
-  where
-    by : (b : Bool) → nat_eq (length schema.columns) 0 ≡ b → 0 < length schema.columns
-    by true zero = absurd (let same = taken in cc (same, zero))
-    by false some = grind (arith, nat_tests, some)
 
 -- words of a body that begin with a text, behind the three sizes
 module _ (words text rest : List ℕ) (t : Table) (notes : List ℕ) (kept : MayBeKept t notes) (is : words ≡ body t notes)

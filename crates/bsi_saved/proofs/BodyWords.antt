@@ -1,6 +1,6 @@
 -- The words of a body: each is a number of 64 bits, and so is how many there are.
 use Rattle.std.proofs.Common.{◌≡◌, ℕ, zero, suc, ◌+◌, ◌-◌, ◌*◌, ◌<◌, ◌≤◌, ◌^◌, Bool, true, false, List, [], ◌∷◌, ◌++◌, All, length, map, get_or, take, drop, inl, inr, refl, sym, ap, subst, ◌∙◌, arith, length-append, length-take, get_or-take, get_or-drop}
-use Rattle.std.specs.Prelude.{nat_eq, nat_le, if◌then◌else◌, ◌&&◌, None, not, IsTrue}
+use Rattle.std.specs.Prelude.{nat_eq, nat_le, if◌then◌else◌, ◌&&◌, not, IsTrue}
 use Rattle.std.specs.Cmp.{first_so, second_so}
 use Rattle.std.specs.Int.{w64, cast_unsigned, div_ceil}
 use Rattle.std.specs.List.{flat_map, list_all, range_with_len}
@@ -21,9 +21,9 @@ use Rattle.bsi_schema.specs.Columns.{column_at, no_column, Declared, IsDeclared,
 use Rattle.bsi_schema.specs.Names.{begins_lower, is_name, is_name_byte, is_word}
 use Rattle.bsi_schema.specs.declared.form.Form.{Form}
 use Rattle.bsi_schema.specs.declared.form.Form.TheVariants.{Slices, Equality, Range}
-use Rattle.bsi_rows.specs.Refusals.{index_refusal}
 use Rattle.bsi_rows.specs.Rows.{column_of, feeders_of, FedRow}
-use Rattle.bsi_rows.specs.Table.{max_rows, Table}
+use Rattle.bsi_rows.specs.Table.{Table}
+use Rattle.bsi_table.proofs.Refusing.{limit_within}
 use Rattle.bsi_table.specs.Bitmaps.{bitmap_count, bitmaps_of}
 use Rattle.bsi_kept.specs.Bitmaps.{packed, value, word_of_bits}
 use Rattle.bsi_kept.specs.Bytes.{packed_bytes, text_words, AreBytes}
@@ -232,13 +232,10 @@ module _ (schema : Declared) (rows : List FedRow) (feeders : ℕ) (declared : Is
 
 -- ---- a body
 
-pub limit_within : (schema : Declared) (limit : ℕ) → index_refusal schema limit ≡ None → limit ≤ max_rows
-limit_within schema limit taken = grind (arith, nat_tests, taken)
-
 -- the words of a body are words
 pub are_words : (t : Table) (notes : List ℕ) → MayBeKept t notes → AreWords (body t notes)
 are_words t notes kept =
-    let limit = limit_within t.schema t.limit kept.taken in
+    let limit = (limit_within t.schema t.limit kept.taken).1 in
     let few : length t.rows ≤ 2 ^ 32 = omega (arith, limit, kept.within) in
     let rows = both (2 ^ 44) (2 ^ 30) (columns_words t.schema t.rows 0 (length t.schema.columns)) (feeder_words t.feeders (feeders_of t.rows))
     (columns_fit t.schema t.rows t.feeders kept.declared kept.rows few) (feeders_fit t.schema t.rows t.feeders kept.declared kept.rows few kept.feeders.1) in

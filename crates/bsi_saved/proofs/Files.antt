@@ -49,20 +49,23 @@ consumes_more (Some us) (Some vs) (Some ws) xs ys first second =
 -- ---- what was read
 
 -- one segment keeps a table
+pub first_kept : (t : Table) (notes : List ℕ) → MayBeKept t notes → Keeps (kept_file t notes) t notes
+first_kept t notes kept = record {
+  before = [];
+  last = part t.rows notes;
+  bytes_are = sym (append-nil (kept_file t notes));
+  rows_are = sym (append-nil t.rows);
+  notes_are = refl;
+  each = All-cons (λ (p : Part). MayBeKept (with_only t p.rows) p.notes) (part t.rows notes) [] kept (All-nil (λ (p : Part). MayBeKept (with_only t p.rows) p.notes));
+  within = kept.within;
+}
+
 pub first_read : (a b : Option (List ℕ)) (t : Table) (notes : List ℕ) (size : ℕ) → Consumes a b (kept_file t notes) → MayBeKept t notes → size ≡ length (kept_file t notes)
     → HasRead a b t notes size
 first_read a b t notes size taken kept is = record {
   bytes = kept_file t notes;
   taken = taken;
-  keeps = record {
-    before = [];
-    last = part t.rows notes;
-    bytes_are = sym (append-nil (kept_file t notes));
-    rows_are = sym (append-nil t.rows);
-    notes_are = refl;
-    each = All-cons (λ (p : Part). MayBeKept (with_only t p.rows) p.notes) (part t.rows notes) [] kept (All-nil (λ (p : Part). MayBeKept (with_only t p.rows) p.notes));
-    within = kept.within;
-  };
+  keeps = first_kept t notes kept;
   size_is = is;
 }
 

@@ -13,7 +13,7 @@ use Rattle.bsi_kept.specs.declared.fault.SegmentFault.TheVariants as segment_fau
 use Rattle.bsi_kept.proofs.Cut as kept_cut
 use Rattle.bsi_kept.proofs.Unique.{no_fault, only_these, some_bytes}
 use Rattle.bsi_saved.specs.Faults.{open_fault, EndsBy, HasRead, IsFirstFault, IsNextFault, IsOpened, KeepsNone, KeepsOther, MayFollow}
-use Rattle.bsi_saved.specs.Opens.{cut_fault, first_cut_fault, IsCutSegment, IsHindered, IsOpenedOf}
+use Rattle.bsi_saved.specs.Opens.{cut_fault, first_cut_fault, IsCutSegment, Hinders, IsNoFurther, IsOpenedOf}
 use Rattle.bsi_saved.specs.Saved.{body, kept_file, part_bytes, with_only, Keeps, MayBeKept, Part}
 use Rattle.bsi_saved.specs.declared.fault.OpenFault.{OpenFault}
 use Rattle.bsi_saved.specs.declared.fault.OpenFault.TheVariants.{NotKept, OtherVersion, CutShort, Damaged, Read, NoMemory}
@@ -21,14 +21,14 @@ use Rattle.bsi_saved.proofs.BodyWords.{are_words}
 use Rattle.bsi_saved.proofs.Files.{file_of, length-file_of}
 use Rattle.bsi_saved.proofs.OneTable.{last_is, rest_same, segment_same, AreKept}
 
-hinders : (fault : SegmentFault) → (fault ≡ segment_fault.Unread) ⊎ (fault ≡ segment_fault.NoMemory) → IsHindered (open_fault fault)
+hinders : (fault : SegmentFault) → (fault ≡ segment_fault.Unread) ⊎ (fault ≡ segment_fault.NoMemory) → Hinders (open_fault fault)
 hinders fault (inl is) = inl (ap open_fault is)
 hinders fault (inr is) = inr (ap open_fault is)
 
 -- ---- where the segment of a table stands
 
 module _ (v : Table) (notes rest : List ℕ) (kept : MayBeKept v notes) where
-  met_at : (after : Option (List ℕ)) (fault : SegmentFault) → MeetsFault (Some (kept_file v notes ++ rest)) after fault → IsHindered (open_fault fault)
+  met_at : (after : Option (List ℕ)) (fault : SegmentFault) → MeetsFault (Some (kept_file v notes ++ rest)) after fault → Hinders (open_fault fault)
   met_at after fault met =
       hinders fault (no_fault (body v notes) rest (are_words v notes kept) after fault
       (subst (λ bs. MeetsFault (Some (bs ++ rest)) after fault) (sym (file_of (body v notes) v notes refl)) met))
@@ -44,7 +44,7 @@ module _ (v : Table) (notes rest : List ℕ) (kept : MayBeKept v notes) where
       other.none (subst Is (segment_same v other.other notes other.notes kept other.kept rest more other.taken).0 so)
 
   -- the only fault is of the reader or of memory
-  next_fault : (Is : Table → Type 0) → Is v → (after : Option (List ℕ)) (fault : OpenFault) → IsNextFault Is (Some (kept_file v notes ++ rest)) after fault → IsHindered fault
+  next_fault : (Is : Table → Type 0) → Is v → (after : Option (List ℕ)) (fault : OpenFault) → IsNextFault Is (Some (kept_file v notes ++ rest)) after fault → Hinders fault
   next_fault Is so after NotKept met = met_at after segment_fault.NotOurs met
   next_fault Is so after OtherVersion met = met_at after segment_fault.OtherVersion met
   next_fault Is so after CutShort met = met_at after segment_fault.CutShort met
@@ -58,7 +58,7 @@ module _ (v : Table) (notes rest : List ℕ) (kept : MayBeKept v notes) where
   there_is after only =
       some_bytes (body v notes) rest after (subst (λ bs. HasOnly (Some (bs ++ rest)) after []) (sym (file_of (body v notes) v notes refl)) only)
 
-  start_fault : (after : Option (List ℕ)) (fault : OpenFault) → IsFirstFault (Some (kept_file v notes ++ rest)) after fault → IsHindered fault
+  start_fault : (after : Option (List ℕ)) (fault : OpenFault) → IsFirstFault (Some (kept_file v notes ++ rest)) after fault → Hinders fault
   start_fault after NotKept (inl met) = met_at after segment_fault.NotOurs met
   start_fault after NotKept (inr none) = absurd (there_is after none)
   start_fault after OtherVersion met = next_fault (λ t. Unit {0}) tt after OtherVersion met
@@ -87,7 +87,7 @@ module _ (cut : List ℕ) (is : IsCutSegment cut) where
   no_table v notes after kept taken =
       no_segment (body v notes) after (are_words v notes kept) (subst (Consumes (Some cut) after) (sym (file_of (body v notes) v notes refl)) taken)
 
-  cut_at : (after : Option (List ℕ)) (fault : SegmentFault) → MeetsFault (Some cut) after fault → ((open_fault fault ≡ CutShort) × (0 < length cut)) ⊎ IsHindered (open_fault fault)
+  cut_at : (after : Option (List ℕ)) (fault : SegmentFault) → MeetsFault (Some cut) after fault → ((open_fault fault ≡ CutShort) × (0 < length cut)) ⊎ Hinders (open_fault fault)
   unfolding words
   cut_at after fault met = elim (kept_cut.cut_fault (body is.table is.notes) cut is.rest (are_words is.table is.notes is.kept) whole_is after fault met) [
     | inl short ↦ inl (ap open_fault short.0, short.1)
@@ -95,7 +95,7 @@ module _ (cut : List ℕ) (is : IsCutSegment cut) where
   ]
 
   next_cut_fault : (Is : Table → Type 0) (after : Option (List ℕ)) (fault : OpenFault) → IsNextFault Is (Some cut) after fault
-      → ((fault ≡ CutShort) × (0 < length cut)) ⊎ IsHindered fault
+      → ((fault ≡ CutShort) × (0 < length cut)) ⊎ Hinders fault
   next_cut_fault Is after NotKept met = cut_at after segment_fault.NotOurs met
   next_cut_fault Is after OtherVersion met = cut_at after segment_fault.OtherVersion met
   next_cut_fault Is after CutShort met = cut_at after segment_fault.CutShort met
@@ -107,7 +107,7 @@ module _ (cut : List ℕ) (is : IsCutSegment cut) where
 
   -- what is met there
   ends_cut : (u : Table) (after : Option (List ℕ)) (fault : Option OpenFault) → EndsBy u (Some cut) after fault
-      → (fault ≡ cut_fault cut) ⊎ ((hindered : OpenFault) × IsHindered hindered × (fault ≡ Some hindered))
+      → (fault ≡ cut_fault cut) ⊎ ((hindered : OpenFault) × Hinders hindered × (fault ≡ Some hindered))
   ends_cut u None None only = absurd only.taken
   ends_cut u (Some more) None only = inl (sym (ap cut_fault (only.taken ∙ only.ended)))
   ends_cut u after (Some fault) met = elim (next_cut_fault (MayFollow u) after fault met) [
@@ -119,7 +119,7 @@ module _ (cut : List ℕ) (is : IsCutSegment cut) where
       some_cut [] some = absurd (omega (arith, some))
       some_cut (byte ∷ bytes) some = refl
 
-  of_cut : (fault : OpenFault) → ((fault ≡ CutShort) × (0 < length cut)) ⊎ IsHindered fault → (fault ≡ first_cut_fault cut) ⊎ IsHindered fault
+  of_cut : (fault : OpenFault) → ((fault ≡ CutShort) × (0 < length cut)) ⊎ Hinders fault → (fault ≡ first_cut_fault cut) ⊎ Hinders fault
   of_cut fault (inr hindered) = inr hindered
   of_cut fault (inl short) = inl (short.0 ∙ sym (some_cut cut short.1))
     where
@@ -128,7 +128,7 @@ module _ (cut : List ℕ) (is : IsCutSegment cut) where
       some_cut (byte ∷ bytes) some = refl
 
   -- the fault of a first segment that is cut
-  pub first_cut : (after : Option (List ℕ)) (fault : OpenFault) → IsFirstFault (Some cut) after fault → (fault ≡ first_cut_fault cut) ⊎ IsHindered fault
+  pub first_cut : (after : Option (List ℕ)) (fault : OpenFault) → IsFirstFault (Some cut) after fault → (fault ≡ first_cut_fault cut) ⊎ Hinders fault
   first_cut after NotKept (inl met) = of_cut NotKept (cut_at after segment_fault.NotOurs met)
   first_cut None NotKept (inr none) = absurd none.taken
   first_cut (Some more) NotKept (inr none) = inl (sym (ap first_cut_fault (none.taken ∙ none.ended)))
@@ -140,63 +140,88 @@ module _ (cut : List ℕ) (is : IsCutSegment cut) where
 
 -- ---- files
 
-module _ (t u : Table) (cut : List ℕ) (is : IsCutSegment cut) where
-  -- segments that were read of a file are its first ones
-  first_parts : (ps qs : List Part) (rest : List ℕ) → AreKept t ps → AreKept u qs → flat_map (part_bytes t) ps ++ cut ≡ flat_map (part_bytes u) qs ++ rest
-      → (more : List Part) × (ps ≡ qs ++ more) × (flat_map (part_bytes t) more ++ cut ≡ rest)
-  first_parts ps [] rest ps_are qs_are same = (ps, refl, same)
-  first_parts [] (q ∷ qs) rest ps_are qs_are same =
-      absurd (no_table cut is (with_only u q.rows) q.notes (Some (flat_map (part_bytes u) qs ++ rest))
-      (All-head (λ (r : Part). MayBeKept (with_only u r.rows) r.notes) q qs qs_are)
-      (same ∙ append_assoc (part_bytes u q) (flat_map (part_bytes u) qs) rest))
-  first_parts (p ∷ ps) (q ∷ qs) rest ps_are qs_are same =
+-- one of two lists of segments, with what is behind them, is a first part of the other
+module _ (t u : Table) (tail : List ℕ) where
+  either_parts : (ps qs : List Part) (rest : List ℕ) → AreKept t ps → AreKept u qs → flat_map (part_bytes t) ps ++ tail ≡ flat_map (part_bytes u) qs ++ rest
+      → ((more : List Part) × (ps ≡ qs ++ more) × (flat_map (part_bytes t) more ++ tail ≡ rest))
+      ⊎ ((q : Part) × (more : List Part) × (qs ≡ ps ++ q ∷ more) × (tail ≡ part_bytes u q ++ (flat_map (part_bytes u) more ++ rest)))
+  either_parts ps [] rest ps_are qs_are same = inl (ps, refl, same)
+  either_parts [] (q ∷ qs) rest ps_are qs_are same = inr (q, qs, refl, same ∙ append_assoc (part_bytes u q) (flat_map (part_bytes u) qs) rest)
+  either_parts (p ∷ ps) (q ∷ qs) rest ps_are qs_are same =
       let p_is = All-head (λ (r : Part). MayBeKept (with_only t r.rows) r.notes) p ps ps_are in
       let q_is = All-head (λ (r : Part). MayBeKept (with_only u r.rows) r.notes) q qs qs_are in
-      let opened = sym (append_assoc (part_bytes t p) (flat_map (part_bytes t) ps) cut) ∙ same ∙ append_assoc (part_bytes u q) (flat_map (part_bytes u) qs) rest in
-      let first = segment_same (with_only t p.rows) (with_only u q.rows) p.notes q.notes p_is q_is (flat_map (part_bytes t) ps ++ cut) (flat_map (part_bytes u) qs ++ rest) opened in
-      let behind = rest_same (with_only t p.rows) (with_only u q.rows) p.notes q.notes p_is q_is (flat_map (part_bytes t) ps ++ cut) (flat_map (part_bytes u) qs ++ rest) opened in
+      let opened = sym (append_assoc (part_bytes t p) (flat_map (part_bytes t) ps) tail) ∙ same ∙ append_assoc (part_bytes u q) (flat_map (part_bytes u) qs) rest in
+      let first = segment_same (with_only t p.rows) (with_only u q.rows) p.notes q.notes p_is q_is (flat_map (part_bytes t) ps ++ tail) (flat_map (part_bytes u) qs ++ rest) opened in
+      let behind = rest_same (with_only t p.rows) (with_only u q.rows) p.notes q.notes p_is q_is (flat_map (part_bytes t) ps ++ tail) (flat_map (part_bytes u) qs ++ rest) opened in
       let here : p ≡ q = λ i. record { rows = (first.0 i).rows; notes = first.1 i } in
-      let found = first_parts ps qs rest (All-tail (λ (r : Part). MayBeKept (with_only t r.rows) r.notes) p ps ps_are) (All-tail (λ (r : Part). MayBeKept (with_only u r.rows) r.notes) q qs qs_are) behind in
-      (found.0, ap₂ (λ (r : Part) rs. r ∷ rs) here found.1, found.2)
+      elim (either_parts ps qs rest (All-tail (λ (r : Part). MayBeKept (with_only t r.rows) r.notes) p ps ps_are) (All-tail (λ (r : Part). MayBeKept (with_only u r.rows) r.notes) q qs qs_are) behind) [
+        | inl found ↦ inl (found.0, ap₂ (λ (r : Part) rs. r ∷ rs) here found.1, found.2)
+        | inr found ↦ inr (found.0, found.1, ap₂ (λ (r : Part) rs. r ∷ rs) (sym here) found.2, found.3)
+      ]
 
-  -- of the same schema, feeders and limit
-  first_frame : (ps qs : List Part) (rest : List ℕ) → 0 < length qs → AreKept t ps → AreKept u qs → flat_map (part_bytes t) ps ++ cut ≡ flat_map (part_bytes u) qs ++ rest
-      → with_only t [] ≡ with_only u []
-  first_frame ps [] rest some ps_are qs_are same = absurd (omega (arith, some))
-  first_frame [] (q ∷ qs) rest some ps_are qs_are same =
-      absurd (no_table cut is (with_only u q.rows) q.notes (Some (flat_map (part_bytes u) qs ++ rest))
-      (All-head (λ (r : Part). MayBeKept (with_only u r.rows) r.notes) q qs qs_are)
-      (same ∙ append_assoc (part_bytes u q) (flat_map (part_bytes u) qs) rest))
-  first_frame (p ∷ ps) (q ∷ qs) rest some ps_are qs_are same =
+  -- they are of the same schema, feeders and limit
+  first_frame : (ps qs : List Part) (rest : List ℕ) → 0 < length ps → 0 < length qs → AreKept t ps → AreKept u qs
+      → flat_map (part_bytes t) ps ++ tail ≡ flat_map (part_bytes u) qs ++ rest → with_only t [] ≡ with_only u []
+  first_frame [] qs rest some many ps_are qs_are same = absurd (omega (arith, some))
+  first_frame (p ∷ ps) [] rest some many ps_are qs_are same = absurd (omega (arith, many))
+  first_frame (p ∷ ps) (q ∷ qs) rest some many ps_are qs_are same =
       let p_is = All-head (λ (r : Part). MayBeKept (with_only t r.rows) r.notes) p ps ps_are in
       let q_is = All-head (λ (r : Part). MayBeKept (with_only u r.rows) r.notes) q qs qs_are in
-      let opened = sym (append_assoc (part_bytes t p) (flat_map (part_bytes t) ps) cut) ∙ same ∙ append_assoc (part_bytes u q) (flat_map (part_bytes u) qs) rest in
-      let first = segment_same (with_only t p.rows) (with_only u q.rows) p.notes q.notes p_is q_is (flat_map (part_bytes t) ps ++ cut) (flat_map (part_bytes u) qs ++ rest) opened in
+      let opened = sym (append_assoc (part_bytes t p) (flat_map (part_bytes t) ps) tail) ∙ same ∙ append_assoc (part_bytes u q) (flat_map (part_bytes u) qs) rest in
+      let first = segment_same (with_only t p.rows) (with_only u q.rows) p.notes q.notes p_is q_is (flat_map (part_bytes t) ps ++ tail) (flat_map (part_bytes u) qs ++ rest) opened in
       ap (λ (v : Table). with_only v []) first.0
 
-module _ (bytes cut : List ℕ) (t u : Table) (notes others : List ℕ) (size : ℕ) (after : Option (List ℕ)) (fault : Option OpenFault)
-    (keeps : Keeps bytes t notes) (is : IsCutSegment cut) where
+-- one of some segments that are kept
+kept_at : (t : Table) (rs : List Part) (r : Part) (others : List Part) → AreKept t (rs ++ r ∷ others) → MayBeKept (with_only t r.rows) r.notes
+kept_at t [] r others are = All-head (λ (x : Part). MayBeKept (with_only t x.rows) x.notes) r others are
+kept_at t (s ∷ rs) r others are = kept_at t rs r others (All-tail (λ (x : Part). MayBeKept (with_only t x.rows) x.notes) s (rs ++ r ∷ others) are)
+
+module _ (bytes tail : List ℕ) (t u : Table) (notes others : List ℕ) (size : ℕ) (after : Option (List ℕ)) (fault : Option OpenFault)
+    (keeps : Keeps bytes t notes) (none : IsNoFurther t tail) where
   ps : List Part
   ps = keeps.before ++ keeps.last ∷ []
 
   -- a file was read, and so many of its segments are left
-  module _ (rest : List ℕ) (read : HasRead (Some (bytes ++ cut)) (Some rest) u others size) (ends : EndsBy u (Some rest) after fault) where
+  module _ (rest : List ℕ) (read : HasRead (Some (bytes ++ tail)) (Some rest) u others size) (ends : EndsBy u (Some rest) after fault) where
     qs : List Part
     qs = read.keeps.before ++ read.keeps.last ∷ []
 
-    same : flat_map (part_bytes t) ps ++ cut ≡ flat_map (part_bytes u) qs ++ rest
+    same : flat_map (part_bytes t) ps ++ tail ≡ flat_map (part_bytes u) qs ++ rest
     unfolding ps qs
-    same = ap (λ bs. bs ++ cut) (sym keeps.bytes_are) ∙ read.taken ∙ ap (λ bs. bs ++ rest) read.keeps.bytes_are
-
-    found : (more : List Part) × (ps ≡ qs ++ more) × (flat_map (part_bytes t) more ++ cut ≡ rest)
-    unfolding ps qs
-    found = first_parts t u cut is (keeps.before ++ keeps.last ∷ []) (read.keeps.before ++ read.keeps.last ∷ []) rest keeps.each read.keeps.each same
+    same = ap (λ bs. bs ++ tail) (sym keeps.bytes_are) ∙ read.taken ∙ ap (λ bs. bs ++ rest) read.keeps.bytes_are
 
     frame : with_only t [] ≡ with_only u []
     unfolding ps qs
     frame =
-        first_frame t u cut is (keeps.before ++ keeps.last ∷ []) (read.keeps.before ++ read.keeps.last ∷ []) rest
-        (omega (arith, length-append read.keeps.before (read.keeps.last ∷ []))) keeps.each read.keeps.each same
+        first_frame t u tail (keeps.before ++ keeps.last ∷ []) (read.keeps.before ++ read.keeps.last ∷ []) rest
+        (omega (arith, length-append keeps.before (keeps.last ∷ []))) (omega (arith, length-append read.keeps.before (read.keeps.last ∷ []))) keeps.each read.keeps.each same
+
+    -- no segment was read behind those of the file
+    no_more : (q : Part) (more : List Part) → qs ≡ ps ++ q ∷ more → tail ≡ part_bytes u q ++ (flat_map (part_bytes u) more ++ rest) → ⊥
+    unfolding ps qs
+    no_more q more parts left = none (with_only u q.rows) q.notes (flat_map (part_bytes u) more ++ rest) (kept_at u (keeps.before ++ keeps.last ∷ []) q more (subst (AreKept u) parts read.keeps.each)) follows left
+      where
+        rows : u.rows ≡ t.rows ++ (q.rows ++ flat_map (λ (r : Part). r.rows) more)
+        rows =
+            read.keeps.rows_are ∙ ap (flat_map (λ (p : Part). p.rows)) parts
+            ∙ flat_map-append (λ (p : Part). p.rows) (keeps.before ++ keeps.last ∷ []) (q ∷ more)
+            ∙ ap (λ rs. rs ++ (q.rows ++ flat_map (λ (r : Part). r.rows) more)) (sym keeps.rows_are)
+
+        follows : MayFollow t (with_only u q.rows)
+        follows = record {
+          schema = sym (ap (λ (v : Table). v.schema) frame);
+          feeders = sym (ap (λ (v : Table). v.feeders) frame);
+          limit = sym (ap (λ (v : Table). v.limit) frame);
+          within =
+              omega (
+                arith,
+                read.keeps.within,
+                ap (λ (rs : List FedRow). length rs) rows,
+                length-append t.rows (q.rows ++ flat_map (λ (r : Part). r.rows) more),
+                length-append q.rows (flat_map (λ (r : Part). r.rows) more),
+                ap (λ (v : Table). v.limit) frame,
+              );
+        }
 
     rows_are : (more : List Part) → ps ≡ qs ++ more → t.rows ≡ u.rows ++ flat_map (λ (p : Part). p.rows) more
     unfolding ps qs
@@ -215,32 +240,28 @@ module _ (bytes cut : List ℕ) (t u : Table) (notes others : List ℕ) (size : 
     }
 
     -- no segment is left
-    all_read : ps ≡ qs → cut ≡ rest → IsOpenedOf t notes (length bytes) (cut_fault cut) u others size fault
+    all_read : ps ≡ qs → tail ≡ rest → IsOpenedOf t notes (length bytes) (EndsBy t (Some tail) after) u others size fault
     unfolding ps qs
-    all_read parts left = elim (ends_cut cut is u after fault (subst (λ bs. EndsBy u (Some bs) after fault) (sym left) ends)) [
-      | inl met ↦ inl (sym (table_is [] (parts ∙ sym (append-nil qs)) ∙ (λ i. record u { rows = append-nil u.rows i })), notes_are, size_is, met)
-      | inr hindered ↦ inr ([], hindered.0, table_is [] (parts ∙ sym (append-nil qs)), hindered.1, hindered.2)
-    ]
+    all_read parts left = inl (sym table, notes_are, size_is, subst (λ v. EndsBy v (Some tail) after fault) (sym table) (subst (λ bs. EndsBy u (Some bs) after fault) (sym left) ends))
       where
+        table : t ≡ u
+        table = table_is [] (parts ∙ sym (append-nil qs)) ∙ (λ i. record u { rows = append-nil u.rows i })
+
         notes_are : others ≡ notes
         notes_are =
             read.keeps.notes_are ∙ ap (λ (p : Part). p.notes) (sym (last_is keeps.before read.keeps.before keeps.last read.keeps.last parts)) ∙ sym keeps.notes_are
 
         size_is : size ≡ length bytes
         size_is =
-            omega (arith, read.size_is, length-append bytes cut, length-append read.bytes rest, ap (λ (bs : List ℕ). length bs) read.taken, ap (λ (bs : List ℕ). length bs) left)
+            omega (arith, read.size_is, length-append bytes tail, length-append read.bytes rest, ap (λ (bs : List ℕ). length bs) read.taken, ap (λ (bs : List ℕ). length bs) left)
 
     -- some are
-    some_left : (p : Part) (more : List Part) → ps ≡ qs ++ p ∷ more → flat_map (part_bytes t) (p ∷ more) ++ cut ≡ rest → IsOpenedOf t notes (length bytes) (cut_fault cut) u others size fault
+    some_left : (p : Part) (more : List Part) → ps ≡ qs ++ p ∷ more → flat_map (part_bytes t) (p ∷ more) ++ tail ≡ rest → IsOpenedOf t notes (length bytes) (EndsBy t (Some tail) after) u others size fault
     unfolding ps qs
-    some_left p more parts left = by fault (subst (λ bs. EndsBy u (Some bs) after fault) (sym left ∙ append_assoc (part_bytes t p) (flat_map (part_bytes t) more) cut) ends)
+    some_left p more parts left = by fault (subst (λ bs. EndsBy u (Some bs) after fault) (sym left ∙ append_assoc (part_bytes t p) (flat_map (part_bytes t) more) tail) ends)
       where
         kept : MayBeKept (with_only t p.rows) p.notes
-        kept = last_kept (read.keeps.before ++ read.keeps.last ∷ []) p more (subst (AreKept t) parts keeps.each)
-          where
-            last_kept : (rs : List Part) (r : Part) (others : List Part) → AreKept t (rs ++ r ∷ others) → MayBeKept (with_only t r.rows) r.notes
-            last_kept [] r others are = All-head (λ (x : Part). MayBeKept (with_only t x.rows) x.notes) r others are
-            last_kept (s ∷ rs) r others are = last_kept rs r others (All-tail (λ (x : Part). MayBeKept (with_only t x.rows) x.notes) s (rs ++ r ∷ others) are)
+        kept = kept_at t (read.keeps.before ++ read.keeps.last ∷ []) p more (subst (AreKept t) parts keeps.each)
 
         follows : MayFollow u (with_only t p.rows)
         follows = record {
@@ -258,29 +279,48 @@ module _ (bytes cut : List ℕ) (t u : Table) (notes others : List ℕ) (size : 
               );
         }
 
-        by : (met : Option OpenFault) → EndsBy u (Some (part_bytes t p ++ (flat_map (part_bytes t) more ++ cut))) after met
-            → IsOpenedOf t notes (length bytes) (cut_fault cut) u others size met
-        by None only = absurd (there_is (with_only t p.rows) p.notes (flat_map (part_bytes t) more ++ cut) kept after only)
+        by : (met : Option OpenFault) → EndsBy u (Some (part_bytes t p ++ (flat_map (part_bytes t) more ++ tail))) after met
+            → IsOpenedOf t notes (length bytes) (EndsBy t (Some tail) after) u others size met
+        by None only = absurd (there_is (with_only t p.rows) p.notes (flat_map (part_bytes t) more ++ tail) kept after only)
         by (Some met) is_met =
             inr (
               flat_map (λ (r : Part). r.rows) (p ∷ more),
               met,
               table_is (p ∷ more) parts,
-              next_fault (with_only t p.rows) p.notes (flat_map (part_bytes t) more ++ cut) kept (MayFollow u) follows after met is_met,
+              next_fault (with_only t p.rows) p.notes (flat_map (part_bytes t) more ++ tail) kept (MayFollow u) follows after met is_met,
               refl,
             )
 
-    by_left : (more : List Part) → ps ≡ qs ++ more → flat_map (part_bytes t) more ++ cut ≡ rest → IsOpenedOf t notes (length bytes) (cut_fault cut) u others size fault
+    by_left : (more : List Part) → ps ≡ qs ++ more → flat_map (part_bytes t) more ++ tail ≡ rest → IsOpenedOf t notes (length bytes) (EndsBy t (Some tail) after) u others size fault
     by_left [] parts left = all_read (parts ∙ append-nil qs) left
     by_left (p ∷ more) parts left = some_left p more parts left
 
-  pub opened_of : IsOpened (Some (bytes ++ cut)) after u others size fault → IsOpenedOf t notes (length bytes) (cut_fault cut) u others size fault
+    opened_so : IsOpenedOf t notes (length bytes) (EndsBy t (Some tail) after) u others size fault
+    unfolding ps qs
+    opened_so = elim (either_parts t u tail (keeps.before ++ keeps.last ∷ []) (read.keeps.before ++ read.keeps.last ∷ []) rest keeps.each read.keeps.each same) [
+      | inl found ↦ by_left found.0 found.1 found.2
+      | inr found ↦ absurd (no_more found.0 found.1 found.2 found.3)
+    ]
+
+  pub opened_of : IsOpened (Some (bytes ++ tail)) after u others size fault → IsOpenedOf t notes (length bytes) (EndsBy t (Some tail) after) u others size fault
   opened_of opened = by opened.middle opened.read opened.end
     where
-      by : (middle : Option (List ℕ)) → HasRead (Some (bytes ++ cut)) middle u others size → EndsBy u middle after fault
-          → IsOpenedOf t notes (length bytes) (cut_fault cut) u others size fault
+      by : (middle : Option (List ℕ)) → HasRead (Some (bytes ++ tail)) middle u others size → EndsBy u middle after fault
+          → IsOpenedOf t notes (length bytes) (EndsBy t (Some tail) after) u others size fault
       by None read ends = absurd read.taken
-      by (Some rest) read ends = (let left = found rest read ends in by_left rest read ends left.0 left.1 left.2)
+      by (Some rest) read ends = opened_so rest read ends
+
+-- what is met where a further segment is cut is the cut
+pub opened_cut : (bytes cut : List ℕ) (t u : Table) (notes others : List ℕ) (size : ℕ) (after : Option (List ℕ)) (fault : Option OpenFault) → Keeps bytes t notes → IsCutSegment cut
+    → IsOpened (Some (bytes ++ cut)) after u others size fault → IsOpenedOf t notes (length bytes) (λ met. met ≡ cut_fault cut) u others size fault
+opened_cut bytes cut t u notes others size after fault keeps is opened =
+    elim (opened_of bytes cut t u notes others size after fault keeps (λ v more rest kept follows same. no_table cut is v more (Some rest) kept same) opened) [
+      | inl all ↦ elim (ends_cut cut is t after fault all.3) [
+        | inl met ↦ inl (all.0, all.1, all.2, met)
+        | inr hindered ↦ inr ([], hindered.0, sym (all.0) ∙ (λ i. record u { rows = sym (append-nil u.rows) i }), hindered.1, hindered.2)
+      ]
+      | inr begun ↦ inr begun
+    ]
 
 -- no bytes are a cut segment of a file's last one
 module _ (bytes : List ℕ) (t : Table) (notes : List ℕ) (keeps : Keeps bytes t notes) where
@@ -288,31 +328,27 @@ module _ (bytes : List ℕ) (t : Table) (notes : List ℕ) (keeps : Keeps bytes 
   none_cut = record {
     table = with_only t keeps.last.rows;
     notes = keeps.last.notes;
-    kept = last_kept keeps.before keeps.last keeps.each;
+    kept = kept_at t keeps.before keeps.last [] keeps.each;
     rest = part_bytes t keeps.last;
     some = some_part keeps.last;
     whole = refl;
   }
     where
-      last_kept : (rs : List Part) (r : Part) → AreKept t (rs ++ r ∷ []) → MayBeKept (with_only t r.rows) r.notes
-      last_kept [] r are = All-head (λ (x : Part). MayBeKept (with_only t x.rows) x.notes) r [] are
-      last_kept (s ∷ rs) r are = last_kept rs r (All-tail (λ (x : Part). MayBeKept (with_only t x.rows) x.notes) s (rs ++ r ∷ []) are)
-
       some_part : (p : Part) → 0 < length (part_bytes t p)
       some_part p = omega (arith, length-file_of (body (with_only t p.rows) p.notes) (with_only t p.rows) p.notes refl)
 
   pub all_opened : (u : Table) (others : List ℕ) (size : ℕ) (after : Option (List ℕ)) (fault : Option OpenFault) → IsOpened (Some bytes) after u others size fault
-      → IsOpenedOf t notes (length bytes) None u others size fault
+      → IsOpenedOf t notes (length bytes) (λ met. met ≡ None) u others size fault
   all_opened u others size after fault opened =
-      opened_of bytes [] t u notes others size after fault keeps none_cut
+      opened_cut bytes [] t u notes others size after fault keeps none_cut
       (subst (λ bs. IsOpened (Some bs) after u others size fault) (sym (append-nil bytes)) opened)
 
-  pub first_opens : (rest : List ℕ) (after : Option (List ℕ)) (fault : OpenFault) → IsFirstFault (Some (bytes ++ rest)) after fault → IsHindered fault
+  pub first_opens : (rest : List ℕ) (after : Option (List ℕ)) (fault : OpenFault) → IsFirstFault (Some (bytes ++ rest)) after fault → Hinders fault
   first_opens rest after fault met =
       by (keeps.before ++ keeps.last ∷ []) (omega (arith, length-append keeps.before (keeps.last ∷ []))) keeps.each
       (subst (λ bs. IsFirstFault (Some (bs ++ rest)) after fault) keeps.bytes_are met)
     where
-      by : (rs : List Part) → 0 < length rs → AreKept t rs → IsFirstFault (Some (flat_map (part_bytes t) rs ++ rest)) after fault → IsHindered fault
+      by : (rs : List Part) → 0 < length rs → AreKept t rs → IsFirstFault (Some (flat_map (part_bytes t) rs ++ rest)) after fault → Hinders fault
       by [] some are is_met = absurd (omega (arith, some))
       by (r ∷ rs) some are is_met =
           start_fault (with_only t r.rows) r.notes (flat_map (part_bytes t) rs ++ rest) (All-head (λ (x : Part). MayBeKept (with_only t x.rows) x.notes) r rs are) after fault
@@ -327,5 +363,8 @@ not_opened cut is u others size after fault opened = by opened.middle opened.rea
     by None read = absurd read.taken
     by (Some rest) read =
         let qs = read.keeps.before ++ read.keeps.last ∷ [] in
-        let found = first_parts u u cut is [] qs rest (λ i d within. absurd (omega (arith, within))) read.keeps.each (read.taken ∙ ap (λ bs. bs ++ rest) read.keeps.bytes_are) in
-        omega (arith, ap (λ (rs : List Part). length rs) found.1, length-append qs found.0, length-append read.keeps.before (read.keeps.last ∷ []))
+        elim (either_parts u u cut [] qs rest (λ i d within. absurd (omega (arith, within))) read.keeps.each (read.taken ∙ ap (λ bs. bs ++ rest) read.keeps.bytes_are)) [
+          | inl found ↦ omega (arith, ap (λ (rs : List Part). length rs) found.1, length-append qs found.0, length-append read.keeps.before (read.keeps.last ∷ []))
+          | inr found ↦ no_table cut is (with_only u found.0.rows) found.0.notes (Some (flat_map (part_bytes u) found.1 ++ rest))
+              (kept_at u [] found.0 found.1 (subst (AreKept u) found.2 read.keeps.each)) found.3
+        ]

@@ -1,11 +1,11 @@
 //! The words of the body of a segment: those that keep an index.
 
-ghost use Rattle.std.specs.Prelude.{◌≡◌, ◌<◌, ◌++◌, IfOk, OnOk, length};
+ghost use Rattle.std.specs.Prelude.{◌≡◌, ◌<◌, ◌≤◌, ◌++◌, IfOk, OnOk, length};
 ghost use Rattle.std.specs.List.{flat_map};
 ghost use Rattle.bsi_columns.specs.Places.{bits_each};
 ghost use Rattle.bsi_table.specs.Index.{table_of};
 ghost use Rattle.bsi_kept.specs.Bitmaps.{packed};
-ghost use Rattle.bsi_saved.specs.Saved.{body, columns_words};
+ghost use Rattle.bsi_saved.specs.Saved.{body, columns_words, max_notes, MayBeKept};
 
 use crate::NoMemory;
 use bsi_bits::Bits;
@@ -15,8 +15,12 @@ use std::alloc::Global;
 
 /// Makes the body of the segment that keeps an index and these notes.
 pub(crate) fn body_of(alloc: Global, index: &Index, notes: &[u8]) -> Result<Vec<u64>, NoMemory>
-    ensures { IfOk result (λ words. words.items ≡ body (table_of index.now) notes.now) }
+    requires { length notes.now ≤ max_notes }
+    ensures body { IfOk result (λ words. words.items ≡ body (table_of index.now) notes.now) }
+    ensures keeps { OnOk result (MayBeKept (table_of index.now) notes.now) }
 {
+    // Its clause says that the schema is one that was declared.
+    let _ = index.schema().limits();
     let sizes = [index.len(), u64::from(index.feeders()), index.limit()];
     let mut words = Vec::from_slice(alloc, &sizes)?;
     put_text(notes, &mut words)?;

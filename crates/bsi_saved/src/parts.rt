@@ -97,7 +97,7 @@ fn take_index(
     words: &[u64],
 ) -> Result<Option<Index>, NoMemory>
     requires sizes { AreSizes sizes.rows sizes.feeders sizes.limit }
-    requires schema { IsDeclared schema }
+    requires schema { IsDeclared schema × (0 < length schema.columns) }
     ensures made { IfOk result (λ found. IfSome found (λ index.
         HoldsRows schema sizes.rows sizes.feeders sizes.limit words.now (table_of index))) }
     ensures none { IfOk result (λ found. IfNone found ((rows : List FedRow) →

@@ -4,7 +4,7 @@ ghost use Rattle.std.specs.Prelude.{◌≡◌, ◌≤◌, IfErr, OnErr, OnOk, le
 ghost use Rattle.std.specs.Io.KnownBytes.{Appends};
 ghost use Rattle.bsi_table.specs.Index.{table_of};
 ghost use Rattle.bsi_kept.specs.Segments.{IsCut};
-ghost use Rattle.bsi_saved.specs.Saved.{kept_file, max_notes};
+ghost use Rattle.bsi_saved.specs.Saved.{kept_file, max_notes, MayBeKept};
 
 use crate::SaveFault;
 use crate::body::body_of;
@@ -20,6 +20,8 @@ pub const MAX_NOTES: usize = 1 << 16;
 /// is a first part of the segment, and nothing where memory was refused. It keeps the words of the segment while it
 /// writes.
 ///
+/// By `keeps` the segment is one that `read_index` opens again.
+///
 /// A file begins with one segment. Rows of an index of the same schema, feeders and limit are added by a further segment
 /// behind it, whose notes then count.
 pub fn write_index<W: Write>(
@@ -33,6 +35,7 @@ pub fn write_index<W: Write>(
         (kept_file (table_of index.now) notes.now)) }
     ensures part { OnErr result (IsCut (W.contents writer.old) (W.contents writer.new)
         (kept_file (table_of index.now) notes.now)) }
+    ensures keeps { OnOk result (MayBeKept (table_of index.now) notes.now) }
     ensures none { IfErr result (λ fault. fault ≡ SaveFault.NoMemory →
         W.contents writer.new ≡ W.contents writer.old) }
 {

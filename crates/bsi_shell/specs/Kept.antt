@@ -1,7 +1,7 @@
 -- What the commands over a kept index leave in the output, and what they tell of a fault.
 use Rattle.std.specs.Io.KnownBytes.{Keeps}
 use Rattle.std.specs.Prelude.{◌⊎◌, ℕ, Bool, List, Option, Result}
-use Rattle.bsi_adding.specs.Loads.{HasAdded}
+use Rattle.bsi_adding.specs.Loads.{HasAdded, HasSaved}
 use Rattle.bsi_reading.specs.declared.writing.WriteFault.{WriteFault}
 use Rattle.bsi_shell.specs.FaultLines.{IsTold}
 use Rattle.bsi_store.specs.Asked.{HasAsked}
@@ -20,9 +20,13 @@ abbrev pub HasAskedEither : {S : Type 0} → (S → Option (List ℕ)) → Optio
 HasAskedEither rem input before after =
     (so_far : Bool) × (((asked : _) × HasAsked rem so_far (rem asked) before after) ⊎ HasAsked rem so_far input before after)
 
--- rows were added to a kept index, with `--so-far` or without
+-- the rows of some row files were saved
+abbrev pub HasSavedRows : {S : Type 0} → (S → Option (List ℕ)) → (S → Option (List ℕ)) → Option (List ℕ) → Option (List ℕ) → Type 0
+HasSavedRows rem put before after = (files : ℕ) × HasSaved rem put files before after
+
+-- the rows of some were added to a kept index, with `--so-far` or without
 abbrev pub HasAddedEither : {S : Type 0} → (S → Option (List ℕ)) → (S → Option (List ℕ)) → Option (List ℕ) → Option (List ℕ) → Type 0
-HasAddedEither rem put before after = (so_far : Bool) × HasAdded rem put so_far before after
+HasAddedEither rem put before after = (so_far : Bool) × (files : ℕ) × HasAdded rem put so_far files before after
 
 -- the line of a fault was told
 abbrev pub HasToldStore : Result (Unit {0}) WriteFault → Option (List ℕ) → Option (List ℕ) → Type 0

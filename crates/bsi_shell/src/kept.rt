@@ -1,9 +1,8 @@
 //! The commands over a kept index.
 ghost use Rattle.std.specs.Prelude.{◌≡◌, ◌≤◌, IsOk, OnOk, false};
 ghost use Rattle.std.specs.Io.KnownBytes.{Keeps};
-ghost use Rattle.bsi_shell.specs.Kept.{HasAddedEither, HasAskedEither, HasToldStore, IsFlushed};
+ghost use Rattle.bsi_shell.specs.Kept.{HasAddedEither, HasAskedEither, HasSavedRows, HasToldStore, IsFlushed};
 ghost use Rattle.bsi_store.specs.Asked.{HasShown};
-ghost use Rattle.bsi_adding.specs.Loads.{HasSaved};
 
 use crate::telling::tell_store_fault;
 use crate::words::CommandEnd;
@@ -29,7 +28,7 @@ pub(crate) fn answer_save<
     requires { G.STOPS ≡ false }
     ensures status { result.status ≤ 1 }
     ensures saved { result.status ≡ 0 →
-        IsFlushed (HasSaved S.remaining S.contents) (O.contents output.old) (O.contents output.new) }
+        IsFlushed (HasSavedRows S.remaining S.contents) (O.contents output.old) (O.contents output.new) }
     ensures told { result.status ≡ 1 →
         HasToldStore result.told (F.contents faults.old) (F.contents faults.new) }
     ensures quiet { result.status ≡ 0 → F.contents faults.new ≡ F.contents faults.old }

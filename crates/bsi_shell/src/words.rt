@@ -4,9 +4,8 @@ ghost use Rattle.bsi_shell.specs.Checks.{HasChecked, HasToldCheck};
 ghost use Rattle.bsi_shell.specs.Commands.{subcommand_of, IsOfKept};
 ghost use Rattle.bsi_shell.specs.FaultLines.{usage_of, IsTold};
 ghost use Rattle.bsi_shell.specs.FileRuns.{HasRunOver, HasToldFault};
-ghost use Rattle.bsi_shell.specs.Kept.{HasAddedEither, HasAskedEither, HasToldStore, IsFlushed};
+ghost use Rattle.bsi_shell.specs.Kept.{HasAddedEither, HasAskedEither, HasSavedRows, HasToldStore, IsFlushed};
 ghost use Rattle.bsi_store.specs.Asked.{HasShown};
-ghost use Rattle.bsi_adding.specs.Loads.{HasSaved};
 ghost use Rattle.bsi_shell.specs.ScriptRuns.{HasToldScript, LeavesScript};
 ghost use Rattle.bsi_reading.specs.Texts.{IfKnown, IsAnswered, IsBegun};
 
@@ -89,7 +88,7 @@ pub fn run_words<
     // Where it is a command over a kept index, it has done this after status 0, and after status 1 `faults` has the line
     // of a fault, as above.
     ensures saved { result.status ≡ 0 → subcommand_of words.items ≡ Subcommand.Save →
-        IsFlushed (HasSaved S.remaining S.contents) (O.contents output.old) (O.contents output.new) }
+        IsFlushed (HasSavedRows S.remaining S.contents) (O.contents output.old) (O.contents output.new) }
     ensures added { result.status ≡ 0 → subcommand_of words.items ≡ Subcommand.Add →
         IsFlushed (HasAddedEither S.remaining S.contents) (O.contents output.old) (O.contents output.new) }
     ensures asked { result.status ≡ 0 → subcommand_of words.items ≡ Subcommand.Ask →

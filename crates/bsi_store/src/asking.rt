@@ -1,7 +1,7 @@
 //! Questions over the rows of a kept index.
 
 ghost use Rattle.std.specs.Prelude.{◌≡◌, ◌⊎◌, IfErr, OnOk};
-ghost use Rattle.bsi_store.specs.Asked.{HasAsked};
+ghost use Rattle.bsi_store.specs.Asked.{HasAsked, LeavesAnswers};
 ghost use Rattle.bsi_store.specs.Faults.{IsOfFile, Names};
 
 use crate::StoreFault;
@@ -31,6 +31,9 @@ pub fn ask_over<'a, R: AllocGlobal + Files<File = S>, S: Read + LockFile + Drop,
 ) -> Result<(), StoreFault<'a>>
     ensures asked { OnOk result ((asked : S) × HasAsked S.remaining paths.now.so_far (S.remaining asked)
         (O.contents output.old) (O.contents output.new)) }
+    ensures part { IfErr result (λ fault. (O.contents output.new ≡ O.contents output.old)
+        ⊎ ((asked : S) × LeavesAnswers S.remaining paths.now.so_far (S.remaining asked)
+        (O.contents output.old) (O.contents output.new) fault)) }
     ensures named { IfErr result
         (Names (λ named. (named ≡ paths.now.kept) ⊎ (named ≡ asks.entry))) }
     ensures fault { IfErr result (IsOfFile S.remaining) }
@@ -48,6 +51,8 @@ pub fn ask_input<
     O: Write,
 >(rt: &R, paths: &AskPaths<'a>, asks: I, output: &mut O) -> Result<(), StoreFault<'a>>
     ensures asked { OnOk result (HasAsked S.remaining paths.now.so_far (I.remaining asks)
+        (O.contents output.old) (O.contents output.new)) }
+    ensures part { IfErr result (LeavesAnswers S.remaining paths.now.so_far (I.remaining asks)
         (O.contents output.old) (O.contents output.new)) }
     ensures named { IfErr result (Names (λ named. named ≡ paths.now.kept)) }
     ensures fault { IfErr result (IsOfFile S.remaining) }

@@ -1,8 +1,8 @@
 //! Files that are opened by their paths.
 
-ghost use Rattle.std.specs.Prelude.{◌≡◌, IfErr, IfOk, None, false, true};
+ghost use Rattle.std.specs.Prelude.{◌≡◌, IfErr, IfOk, IfSome, None, false, true};
 ghost use Rattle.bsi_saved.specs.Faults.{IsOpened};
-ghost use Rattle.bsi_store.specs.Asked.{IsKeptIn};
+ghost use Rattle.bsi_store.specs.Asked.{IsKeptIn, IsOfBytes};
 ghost use Rattle.bsi_store.specs.Faults.{IsFileFault, IsOfFile, IsUnrecoverable, Names};
 ghost use Rattle.bsi_table.specs.Index.{table_of};
 
@@ -51,6 +51,7 @@ pub fn read_kept<'a, S: Read>(
 ) -> Result<Opened, StoreFault<'a>>
     ensures opened { IfOk result (λ opened. IsOpened (S.remaining file.old) (S.remaining file.new)
         (table_of opened.index) opened.notes.items opened.bytes opened.fault) }
+    ensures known { IfOk result (λ opened. IfSome opened.fault IsOfBytes) }
     ensures whole { so_far ≡ false → IfOk result (λ opened. opened.fault ≡ None) }
     ensures fault { IfErr result (IsFileFault path.entry (S.remaining file.old)) }
     ensures so_far { so_far ≡ true → IfErr result (IsUnrecoverable path.entry (S.remaining file.old)) }

@@ -27,11 +27,13 @@ module _ (schema : Declared) (limit : ℕ) (old : OriginList) (kept : List Offse
       columns_are = subst (AreKept schema.columns grown) (sym length-new)
           (are_kept_more schema.columns kept (length old.rows) is.columns_are grown long rows
           (All-weaker (λ row. TakesRow kept row.1) (λ row. AreInRange kept row.1) (λ row takes. takes.range) rows taken) more);
+      some = is.some;
       few = omega (arith, feeders_are, is.few);
       from = subst (λ n. All (λ feeder. feeder < n) new.rows) (sym feeders_are)
           (subst (All (λ feeder. feeder < old.feeders)) (sym rows_are)
           (All-append (λ feeder. feeder < old.feeders) old.rows (feeders_of rows) is.from (All-map (λ feeder. feeder < old.feeders) (λ row. row.0) rows from)));
       within = omega (arith, room, length-new);
+      least = is.least;
       small = is.small;
     }
 

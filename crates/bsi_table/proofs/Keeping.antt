@@ -165,9 +165,11 @@ pub is_table_same : (columns : List NamedColumn) (limit : ℕ) (old new : Origin
 is_table_same columns limit old new kept same is long each rows feeders =
     let table : IsTable columns old.feeders limit old.rows same = record {
       columns_are = are_kept_same columns kept (length old.rows) is.columns_are same long each;
+      some = is.some;
       few = is.few;
       from = is.from;
       within = is.within;
+      least = is.least;
       small = is.small;
     } in
     subst (λ n. IsTable columns n limit new.rows same) (sym feeders) (subst (λ xs. IsTable columns old.feeders limit xs same) (sym rows) table)

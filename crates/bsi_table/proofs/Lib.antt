@@ -5,6 +5,7 @@ pub mod Growing
 pub mod Joining
 pub mod Keeping
 pub mod Parts
+pub mod Refusing
 pub mod RowBitmaps
 pub mod Selecting
 pub mod Selections

@@ -60,9 +60,11 @@ pub record AreKept (columns : List NamedColumn) (kept : List OffsetColumn) (n : 
 pub record IsTable (columns : List NamedColumn) (feeders limit : ℕ) (row_feeders : List ℕ) (kept : List OffsetColumn)
     : Type 0 where
   pub columns_are : AreKept columns kept (length row_feeders)
+  pub some : 0 < length columns
   pub few : feeders ≤ max_feeders
   pub from : All (λ feeder. feeder < feeders) row_feeders
   pub within : length row_feeders ≤ limit
+  pub least : 1 ≤ limit
   pub small : limit ≤ max_rows
 
 -- a column has the entries, the offset and the form of another

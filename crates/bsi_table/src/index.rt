@@ -107,7 +107,7 @@ impl Index {
         limit: u64,
     ) -> Result<Index, NoMemory>
         requires feeders { (1 ≤ feeders) × (feeders ≤ max_feeders) }
-        requires within { limit ≤ max_rows }
+        requires taken { index_refusal schema.value limit ≡ None }
         ensures { IfOk result (λ index. table_of index ≡ no_rows schema.value feeders limit) }
     {
         let columns = make_each(alloc, &schema)?;
@@ -129,7 +129,8 @@ impl Index {
         limit: u64,
     ) -> Result<Index, NoMemory>
         requires columns { AreKept schema.columns columns.items (length origins.rows) }
-        requires within { (length origins.rows ≤ limit) × (limit ≤ max_rows) }
+        requires within { length origins.rows ≤ limit }
+        requires taken { index_refusal schema limit ≡ None }
         ensures { IfOk result (λ index. table_of index
             ≡ table schema origins.feeders limit (fed_rows origins.rows columns.items)) }
     {
@@ -508,6 +509,7 @@ impl Index {
     pub fn limit(&self) -> u64
         ensures limit { result ≡ self.now.limit }
         ensures within { result ≤ max_rows }
+        ensures taken { index_refusal self.now.schema self.now.limit ≡ None }
     {
         self.limit
     }

@@ -128,23 +128,8 @@ fn follows<R: Threads + Wait + AllocGlobal + Sync>(
     Some(ended.is(run, output) && tried && counted && calls(&gate.strange) == 0)
 }
 
-// Rows for which a batch finds no memory go one by one, and no answer tells of it.
-fn is_followed(
-    rt: &HostRuntime,
-    files: RunInputs<'_>,
-    run: Result<(), FilesFault>,
-    output: &[u8],
-    counts: (u64, u64),
-) -> bool {
-    let done = follows(rt, files, run, output, counts);
-    if done == Some(true) {
-        return true;
-    }
-    give_up(rt, done);
-    follows(rt, files, run, output, counts) == Some(true)
-}
-
-// Of 1,100 rows the ring takes a batch of 1,024, and the table 10 rows of it. The next batch finds no room.
+// Of 1,100 rows the ring takes a batch of 1,024, and the table 10 rows of it. The next batch finds no room. Rows for which
+// a batch finds no memory go one by one, and no answer tells of it.
 #[test]
 fn a_feeder_that_stops_names_its_row(rt: HostRuntime) {
     let files = RunInputs {
@@ -153,7 +138,12 @@ fn a_feeder_that_stops_names_its_row(rt: HostRuntime) {
         rows: &[text("qty\n"), long("qty\n", "1\n", 1_100)],
     };
     let full = Err(FilesFault::IndexFull);
-    assert!(rt; is_followed(&rt, files, full, b"", (1_101, 1)));
+    let mut done = follows(&rt, files, full, b"", (1_101, 1));
+    if done != Some(true) {
+        give_up(&rt, done);
+        done = follows(&rt, files, full, b"", (1_101, 1));
+    }
+    assert!(rt; done == Some(true));
 }
 
 #[test]
@@ -164,5 +154,10 @@ fn a_feeder_at_its_end_names_how_many_it_sent(rt: HostRuntime) {
         rows: &[text("qty\n"), text("qty\n1\n2\n3\n")],
     };
     let fed = b"fed 0 0 0\nfed 1 3 0\n";
-    assert!(rt; is_followed(&rt, files, Ok(()), fed, (4, 0)));
+    let mut done = follows(&rt, files, Ok(()), fed, (4, 0));
+    if done != Some(true) {
+        give_up(&rt, done);
+        done = follows(&rt, files, Ok(()), fed, (4, 0));
+    }
+    assert!(rt; done == Some(true));
 }

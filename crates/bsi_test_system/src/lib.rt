@@ -8,6 +8,8 @@ mod calls;
 #[cfg(test)]
 mod crowd;
 #[cfg(test)]
+mod parallel;
+#[cfg(test)]
 mod refusals;
 #[cfg(test)]
 mod tests;

@@ -1,4 +1,4 @@
-use Rattle.std.proofs.Common.{ℕ, List, map, refl, subst}
+use Rattle.std.proofs.Common.{ℕ, List, ap, length, map, refl, subst, ◌∙◌}
 use Rattle.std.specs.Io.KnownBytes.{Appends}
 use Rattle.bsi_asks.specs.RowFiles.{fed_counts}
 use Rattle.bsi_adding.proofs.Notes.{notes_few}
@@ -27,6 +27,7 @@ returns-clause-added g c =
         size = kept.bytes;
         fault = kept.fault;
         opened = c.in_ok-kept.ensures.opened;
+        known = c.in_ok-kept.ensures.known;
         whole = c.in_ok-kept.ensures.whole;
       };
       more = table_of more.table;
@@ -34,12 +35,14 @@ returns-clause-added g c =
       within = c.in_ok-more.ensures.within;
       added = record {
         files = c.in_ok-rows.rows.items;
+        many = c.in_ok-rows.ensures.many ∙ ap length c.deref.ensures.value;
         counts = map fed_counts more.fed.items;
         schema_is = c.in_ok-more.ensures.schema;
         limit_is = c.in_ok-more.ensures.limit;
         loaded = c.in_ok-more.ensures.rows;
         old = c.read_kept.new.file;
         new = c.put_segment.new.file;
+        kept = c.in_ok-put_segment.ensures.keeps;
         given = c.in_ok-put_segment.ensures.put;
         lines = subst (λ (bytes : List ℕ). Appends before after bytes) c.in_ok-text.ensures
             (subst (λ (bytes : List ℕ). Appends before after bytes) c.as_slice.ensures.value c.in_ok-write_bytes.ensures.ok);

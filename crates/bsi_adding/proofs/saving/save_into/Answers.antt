@@ -22,8 +22,10 @@ returns-clause-saved g c = λ before after told.
       table = table_of table;
       declared = subst (λ (n : ℕ). IfSome text (λ bytes. IsSchemaText bytes table.schema n)) limit_is
           (subst (λ (s : Declared). IfSome text (λ bytes. IsSchemaText bytes s limit)) schema_is declared);
+      feeders_are = c.in_ok-loaded.ensures.feeders;
       saved = record {
         files = c.args.rows.items;
+        many = refl;
         counts = counts;
         schema_is = refl;
         limit_is = refl;
@@ -31,6 +33,7 @@ returns-clause-saved g c = λ before after told.
             (subst (λ (s : Declared). HasLoaded s limit texts table.rows counts) schema_is (c.in_ok-loaded.ensures.rows c.requires.never texts are));
         old = c.args.new.now.file;
         new = c.write.new.self.file;
+        kept = c.in_ok-write.ensures.keeps;
         given = c.in_ok-write.ensures.written;
         lines = subst (λ (bytes : List ℕ). Appends before after bytes) c.in_ok-text.ensures told;
       };

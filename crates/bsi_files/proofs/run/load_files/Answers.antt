@@ -29,6 +29,11 @@ returns-clause-counts g c =
     (λ loaded all. sym (as_many rem g.G.Stopping.STOPS loaded.table.rows 0 sources loaded.fed.items all.each) ∙ sym many)
     c.load_in-loaded.ensures.fed
 
+pub returns-clause-feeders : goal.returns-clause-feeders
+returns-clause-feeders g c =
+    let many = matched_long (Begins g.I.Read.remaining c.args.schema) c.args.sources.items c.in_ok-sources.sources.items c.in_ok-sources.ensures.begun in
+    if_ok c.load_in-loaded.result (λ loaded is. is ∙ sym many) c.load_in-loaded.ensures.feeders
+
 pub returns-clause-headers : goal.returns-clause-headers
 returns-clause-headers g c =
     let rem = g.I.Read.remaining in

@@ -2,7 +2,8 @@ use Rattle.std.proofs.Common.{◌≡◌, ◌<◌, ◌≤◌, ℕ, List, length, 
 use Rattle.bsi_schema.specs.Columns.{Declared}
 use Rattle.bsi_table.specs.Index.{table_of}
 use Rattle.bsi_saved.specs.Saved.{max_notes, rows_words}
-use Rattle.bsi_saved.proofs.Bodies.{behind_notes, may_be_kept, notes_are, rows_fit, rows_words_are, schema_is, some_columns}
+use Rattle.bsi_saved.proofs.Bodies.{behind_notes, may_be_kept, notes_are, rows_fit, rows_words_are, schema_is}
+use Rattle.bsi_table.proofs.Refusing.{some_columns}
 use Rattle.bsi_saved.proofs.parts.take_part.Goals as goal
 
 pub returns-in_default-3-clause-none : goal.returns-in_default-3-clause-none

@@ -7,12 +7,12 @@ use Rattle.bsi_saved.proofs.writing.write_index.Goals as goal
 
 pub returns-clause-ok : goal.returns-clause-ok
 returns-clause-ok g c =
-    let bytes = ap (λ ws. bytes_of (segment ws)) c.deref.ensures.value ∙ file_of c.in_ok-words.words.items (table_of c.args.index.now) c.args.notes.now c.in_ok-words.ensures in
+    let bytes = ap (λ ws. bytes_of (segment ws)) c.deref.ensures.value ∙ file_of c.in_ok-words.words.items (table_of c.args.index.now) c.args.notes.now c.in_ok-words.ensures.body in
     subst (Appends (g.W.Write.contents c.args.writer.now) (g.W.Write.contents c.write_segment.new.writer)) bytes c.in_ok-write_segment.ensures.ok
 
 pub returns-in_err-write_segment-clause-part : goal.returns-in_err-write_segment-clause-part
 returns-in_err-write_segment-clause-part g c =
-    let bytes = ap (λ ws. bytes_of (segment ws)) c.deref.ensures.value ∙ file_of c.in_ok-words.words.items (table_of c.args.index.now) c.args.notes.now c.in_ok-words.ensures in
+    let bytes = ap (λ ws. bytes_of (segment ws)) c.deref.ensures.value ∙ file_of c.in_ok-words.words.items (table_of c.args.index.now) c.args.notes.now c.in_ok-words.ensures.body in
     so_err c.from_residual-in_err-write_segment.result
     (subst (IsCut (g.W.Write.contents c.args.writer.now) (g.W.Write.contents c.write_segment.new.writer)) bytes c.in_err-write_segment.ensures.part)
 

@@ -26,9 +26,11 @@ invariant_of-self c =
     } in (
       record {
         columns_are = subst (AreKept columns new) (sym (ap length e.rows)) kept;
+        some = was.some;
         few = omega (arith, e.feeders, was.few);
         from = subst (All (λ feeder. feeder < c.clear_rows.new.origins.feeders)) (sym e.rows) (All-nil (λ feeder. feeder < c.clear_rows.new.origins.feeders));
         within = omega (arith, ap length e.rows);
+        least = was.least;
         small = was.small;
       },
       record {

@@ -21,9 +21,11 @@ invariant_of-result c =
     subst (λ (columns : List OffsetColumn). (k : ℕ) → k < length columns → IsSameColumn (kept_at columns k) (kept_at new k)) c.deref.ensures.value c.in_ok-columns.ensures.same in
     let table : IsTable i.schema.value.columns i.origins.feeders i.limit i.origins.rows new = record {
       columns_are = are_kept_same i.schema.value.columns old (length i.origins.rows) c.self.invariant.0.columns_are new long same;
+      some = c.self.invariant.0.some;
       few = c.self.invariant.0.few;
       from = c.self.invariant.0.from;
       within = c.self.invariant.0.within;
+      least = c.self.invariant.0.least;
       small = c.self.invariant.0.small;
     } in
     let mine = subst (λ (schema : Declared). IsTable schema.columns c.in_ok-origins.origins.feeders i.limit c.in_ok-origins.origins.rows new) (sym c.in_ok-schema.ensures)
