@@ -22,8 +22,10 @@ pub fn ask_all<R: Threads + Sync>(
     ensures { IfOk result (λ replies. AllZip (IsRepliedAlone index.now.schema index.now.rows)
         queries.now replies.items) }
 {
+    // A query passes over all rows, so each may be a piece of its own.
     queries
         .par_iter()
+        .with_min_len(1)
         .map(
             |query: &Query| -> Result<Answer, AskError>
                 ensures { IsRepliedAlone index.entry.now.schema index.entry.now.rows query.now

@@ -8,7 +8,7 @@ use Rattle.bsi_parallel.proofs.ask_all.Goals as goal
 pub returns : goal.returns
 returns g c =
     let queries = c.args.queries.now in
-    let slice = ap (λ it. it.slice.now) c.map.ensures.base ∙ c.par_iter.ensures in
+    let slice = ap (λ it. it.base.slice.now) c.map.ensures.base ∙ ap (λ it. it.slice.now) c.with_min_len.ensures.base ∙ c.par_iter.ensures in
     let same : c.map.result.f.0 ≡ c.args.index = ap (λ f. f.0) c.map.ensures.f in
     IfOk-then c.collect.result _ _ c.collect.ensures (λ v h.
     let chain = h.1 in
