@@ -5,6 +5,7 @@
 pub use bsi_bits as bits;
 pub use bsi_columns as columns;
 pub use bsi_digits as digits;
+pub use bsi_groups as groups;
 pub use bsi_load as machine;
 pub use bsi_parallel as parallel;
 pub use bsi_system as running;

@@ -24,7 +24,6 @@ pub const MAX_BLOCK_ROWS: usize = 64;
 
 /// At most 64 rows that fit a schema, each from one of so many feeders. A row is tested once, as it is added. Filling
 /// the block again takes no memory. For each of the 64 rows it takes 16 bytes a column, and 4 bytes for its feeder.
-#[derive(Drop)]
 pub struct Block {
     schema: Arc<Schema, Global>,
     // What each column takes, beside the shared schema, so that a row is tested without it.
@@ -33,6 +32,19 @@ pub struct Block {
     // The feeder of each row.
     row_feeders: Vec<u32>,
     places: Vec<Option<i64>>,
+}
+
+// What a derive drops, each crate above would prove anew.
+impl Drop for Block {
+    fn drop(self) {
+        let Block {
+            schema: _schema,
+            limits: _limits,
+            feeders: _,
+            row_feeders: _row_feeders,
+            places: _places,
+        } = self;
+    }
 }
 
 // Clauses see the schema, the number of feeders, and the rows, each with its feeder.

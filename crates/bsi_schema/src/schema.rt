@@ -24,12 +24,22 @@ pub const MAX_COLUMNS: u32 = 64;
 const MAX_END: i128 = 1 << 63;
 
 /// A list of at most 64 named columns, in order of declaration.
-#[derive(Drop)]
 pub struct Schema {
     columns: IndexMap<String, Kind>,
     // What each column takes, beside the map, so that a row is tested without it.
     limits: Vec<Limits>,
     signed: bool,
+}
+
+// What a derive drops, each crate above would prove anew.
+impl Drop for Schema {
+    fn drop(self) {
+        let Schema {
+            columns: _columns,
+            limits: _limits,
+            signed: _,
+        } = self;
+    }
 }
 
 // Clauses see the list of columns, and whether one was declared with an offset.

@@ -1,5 +1,5 @@
 -- Columns and rows, by their bitmaps.
-use Rattle.std.proofs.Common.{◌≡◌, ◌≢◌, ℕ, ℤ, pos, ◌+ℤ◌, ◌-ℤ◌, ◌≤ℤ◌, ◌<ℤ◌, ◌<◌, Bool, true, List, [], ◌∷◌, Option, Some, None, length, map, get_or, refl, sym, ap, ap₂, subst, ◌∙◌, arith}
+use Rattle.std.proofs.Common.{◌≡◌, ℕ, ℤ, pos, ◌+ℤ◌, ◌-ℤ◌, ◌≤ℤ◌, ◌<ℤ◌, ◌<◌, Bool, List, [], ◌∷◌, Option, Some, None, length, map, get_or, refl, sym, ap, ap₂, ◌∙◌, arith}
 use Rattle.std.specs.Prelude.{All, is_some, IsTrue, unsigned_abs}
 use Rattle.std.specs.Option.{option_map}
 use Rattle.std.proofs.lemmas.Int.{ints}
@@ -19,7 +19,7 @@ use Rattle.bsi_schema.specs.declared.form.Form.TheVariants.{Slices, Equality, Ra
 use Rattle.bsi_schema.proofs.Fitting.{within}
 use Rattle.bsi_shift.specs.Shifted.{number_of, shifted_entries, OffsetColumn}
 use Rattle.bsi_shift.proofs.Shifting.{shifted_entries-is}
-use Rattle.bsi_table.specs.Bitmaps.{entries_bitmaps, stored_entry, HaveNoEntries}
+use Rattle.bsi_table.specs.Bitmaps.{stored_entry, HaveNoEntries}
 use Rattle.bsi_table.specs.Kept.{kept_form}
 
 -- a number less the offset, and with it again

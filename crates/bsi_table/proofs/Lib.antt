@@ -8,6 +8,7 @@ pub mod Parts
 pub mod Refusing
 pub mod RowBitmaps
 pub mod Selecting
+pub mod SelectedTotals
 pub mod Selections
 pub mod Singles
 pub mod TableRows

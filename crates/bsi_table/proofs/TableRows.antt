@@ -1,19 +1,16 @@
 -- The rows of a table, by the columns that keep them.
 use Rattle.std.proofs.Common.{◌≡◌, ℕ, zero, suc, ◌+◌, ◌-◌, ◌<◌, ◌≤◌, Bool, true, false, List, [], ◌∷◌, ◌++◌, None, All, length, map, get_or, refl, ap, ap₂, subst, sym, ◌∙◌, arith}
-use Rattle.std.specs.Prelude.{count_by, nat_lt, slice_get, slice_index, Some}
+use Rattle.std.specs.Prelude.{nat_lt, slice_get, slice_index, Some}
 use Rattle.std.proofs.lemmas.Option.{slice_get-get_or}
 use Rattle.std.specs.List.{range_with_len}
 use Rattle.std.proofs.lemmas.List.{ext_get_or, get_or-append-add, get_or-map, get_or_append_left, length-append, length-map}
 use Rattle.std.proofs.lemmas.List.Elements.{All-from_get_or, All-get_or}
 use Rattle.std.proofs.lemmas.List.FromFn.{fill_by_all, get_or-map-range_with_len, length-map-range_with_len}
-use Rattle.bsi_bits.specs.BitList.{set_places}
 use Rattle.bsi_orders.specs.Orders.{values_at}
 use Rattle.bsi_shift.specs.Shifted.{shifted_entries, OffsetColumn}
-use Rattle.bsi_rows.specs.declared.query.Pred.{Pred}
-use Rattle.bsi_rows.specs.Rows.{column_of, entry_at, feeders_of, holds, row_at, selected, values, Entries, FedRow}
+use Rattle.bsi_rows.specs.Rows.{column_of, entry_at, feeders_of, row_at, Entries, FedRow}
 use Rattle.bsi_rows.proofs.BlockRows.{map_twice, same_below}
 use Rattle.bsi_table.specs.Kept.{fed_rows, kept_at, no_entries, row_in, rows_in, HaveMore}
-use Rattle.bsi_table.proofs.Selections.{length-places, set_places-map, values-places}
 use Rattle.std.proofs.lemmas.Bool.Decides.{nat_tests}
 
 -- a column as it is read
@@ -71,31 +68,16 @@ module _ (row_feeders : List ℕ) (kept : List OffsetColumn) where
       → column_of (fed_rows row_feeders kept) c ≡ shifted_entries (kept_at kept c)
   column-fed_rows c within even = map-fed_rows (λ row. entry_at row c) ∙ column-rows_in kept c (length row_feeders) within even
 
-  module _ (pred : Pred) (bits : List Bool) (found : bits ≡ map (λ row. holds pred row.1) (fed_rows row_feeders kept))
-      (even : (k : ℕ) → k < length kept → length (shifted_entries (kept_at kept k)) ≡ length row_feeders) where
-    -- a found set has a bit for each row
-    pub length-found : length bits ≡ length row_feeders
-    length-found = ap length found ∙ length-map (fed_rows row_feeders kept) _ ∙ length-fed_rows
+  -- column c, as it is read, has an entry for each row, and its numbers at the rows of a found set are those of the rows
+  module _ (bits : List Bool) (long : length bits ≡ length row_feeders)
+      (even : (k : ℕ) → k < length kept → length (shifted_entries (kept_at kept k)) ≡ length row_feeders)
+      (c : ℕ) (column : OffsetColumn) (within : c < length kept) (read : column ≡ get_or kept c column) where
+    pub even-read : length (shifted_entries column) ≡ length bits
+    even-read = ap (λ k. length (shifted_entries k)) (sym (kept_read kept c column within read)) ∙ even c within ∙ sym long
 
-    -- so many rows are selected
-    pub count-found : count_by (λ b. b) bits ≡ length (selected pred (fed_rows row_feeders kept))
-    count-found = ap (count_by (λ b. b)) found ∙ sym (length-places (0, []) (λ row. holds pred row.1) (fed_rows row_feeders kept))
-
-    -- at these positions
-    pub set_places-found : set_places bits ≡ selected pred (fed_rows row_feeders kept)
-    set_places-found = ap set_places found ∙ set_places-map (0, []) (λ row. holds pred row.1) (fed_rows row_feeders kept)
-
-    -- column c, as it is read, has an entry for each row
-    module _ (c : ℕ) (column : OffsetColumn) (within : c < length kept) (read : column ≡ get_or kept c column) where
-      pub even-found : length (shifted_entries column) ≡ length bits
-      even-found =
-          ap (λ k. length (shifted_entries k)) (sym (kept_read kept c column within read)) ∙ even c within ∙ sym length-found
-
-      -- and its numbers that a found set has are those of the rows that are selected
-      pub values-found : values_at bits (shifted_entries column) ≡ values c pred (fed_rows row_feeders kept)
-      values-found =
-          ap₂ values_at found (ap shifted_entries (sym (kept_read kept c column within read)) ∙ sym (column-fed_rows c within (even c within)))
-          ∙ values-places (0, []) (λ row. holds pred row.1) (λ row. entry_at row.1 c) (fed_rows row_feeders kept)
+    pub numbers-read : values_at bits (shifted_entries column) ≡ values_at bits (column_of (fed_rows row_feeders kept) c)
+    numbers-read =
+        ap (values_at bits) (ap shifted_entries (sym (kept_read kept c column within read)) ∙ sym (column-fed_rows c within (even c within)))
 
 -- columns of the same entries show the same rows
 pub rows_in-same : (old new : List OffsetColumn) (r : ℕ) → length new ≡ length old

@@ -1,5 +1,5 @@
 -- The bitmaps of a column of rows.
-use Rattle.std.specs.Prelude.{◌≡◌, ◌≢◌, ℕ, ℤ, ◌-ℤ◌, ◌+◌, Bool, List, Option, All, length, map, unsigned_abs, IsTrue}
+use Rattle.std.specs.Prelude.{◌≢◌, ℕ, ℤ, ◌-ℤ◌, ◌+◌, Bool, List, Option, All, length, map, unsigned_abs, IsTrue}
 use Rattle.std.specs.Option.{option_map}
 use Rattle.bsi_columns.specs.Places.{column_bitmaps, form_places}
 use Rattle.bsi_schema.specs.declared.form.Form.{Form}

@@ -3,6 +3,7 @@ pub mod Index
 pub mod Kept
 pub mod Selections
 pub mod Spans
+pub mod Totals
 pub use Rattle.bsi_rows.specs.Answers
 pub use Rattle.bsi_rows.specs.Numbering
 pub use Rattle.bsi_rows.specs.Refusals

@@ -7,8 +7,9 @@ ghost use Rattle.std.specs.Prelude.{◌≡◌, ◌≢◌, ◌↔◌, [], ◌+◌
 ghost use Rattle.std.specs.Result.{result_err};
 ghost use Rattle.bsi_rows.specs.Table.{max_feeders, max_rows, no_rows, table, with_row, with_rows, AreFitting, AreFrom, AreKeptAlike};
 ghost use Rattle.bsi_shift.specs.Shifted.{shifted_entries};
-ghost use Rattle.bsi_rows.specs.Answers.{missing_column, CountsConjunction, IsAnswer, IsReply, ReadsAmong};
+ghost use Rattle.bsi_rows.specs.Answers.{columns_of_total, missing_column, missing_of, CountsConjunction, IsAnswer, IsReply, ReadsAmong};
 ghost use Rattle.bsi_table.specs.Selections.{IsSelection};
+ghost use Rattle.bsi_table.specs.Totals.{IsTotalAt, NeedsNoMemory};
 ghost use Rattle.bsi_schema.specs.Columns.{column_at, fits};
 ghost use Rattle.bsi_rows.specs.Refusals.{index_refusal, row_refusal, rows_refusal, IsFirstOr};
 ghost use Rattle.bsi_rows.specs.RowBlocks.{entries_of, fed_as, no_block_rows, HaveSameLimits};
@@ -21,7 +22,7 @@ ghost use Rattle.bsi_table.specs.Kept.{fed_rows, AreKept, IsInForm};
 use crate::columns::{are_kept_alike, copy_each, make_each, read_row, select_one};
 use crate::found::{count_selected, find_rows};
 use crate::growth::{clear_rows, push_all, push_all_from, push_row, push_rows, reserve_rows};
-use crate::totals::answer_total;
+use crate::totals::total_found;
 use crate::{
     Answer, AppendError, AskError, Block, IndexError, NoMemory, Pred, Query, Row, Schema, Total,
 };
@@ -37,7 +38,6 @@ use std::sync::Arc;
 /// The rows of a schema that came from 1 to 64 feeders, at most as many as a limit. A row is stored as its entry in
 /// each column and the number of its feeder, one byte; no row is stored as it came. If there are several feeders, each
 /// stretch of 512 rows has a count of 4 bytes for each feeder.
-#[derive(Drop)]
 pub struct Index {
     schema: Arc<Schema, Global>,
     columns: Vec<Shifted>,
@@ -45,6 +45,19 @@ pub struct Index {
     limit: u64,
     // No column and not the origins have less.
     room: u64,
+}
+
+// What a derive drops, each crate above would prove anew.
+impl Drop for Index {
+    fn drop(self) {
+        let Index {
+            schema: _schema,
+            columns: _columns,
+            origins: _origins,
+            limit: _,
+            room: _,
+        } = self;
+    }
 }
 
 // Clauses see the schema, the number of feeders, the limit, the list of rows, each with its feeder, and the room.
@@ -441,8 +454,21 @@ impl Index {
         if let Total::Count = query.total {
             return Ok(Answer::Count(count_selected(alloc, columns, rows, &query.pred)?));
         }
-        let found = find_rows(alloc, columns, rows, &query.pred)?;
-        answer_total(alloc, columns, &self.origins, &found, query)
+        let found = self.find(&query.pred)?;
+        self.total(&found, query.total)
+    }
+
+    /// Returns a total of the rows of a found set, which has a bit for each row. The column that it reads is there.
+    /// `Median`, `Rank` and `Rows` take memory.
+    pub fn total(&self, found: &Bits, total: Total) -> Result<Answer, NoMemory>
+        requires bits { length found.now.bits ≡ length self.now.rows }
+        requires there { missing_of (length self.now.schema.columns) (columns_of_total total) ≡ None }
+        ensures answer { IfOk result (IsTotalAt total found.now.bits self.now.rows) }
+        ensures succeeds { NeedsNoMemory total → IsOk result }
+    {
+        let alloc = *self.columns.allocator();
+        let columns: &[Shifted] = &self.columns;
+        total_found(alloc, columns, &self.origins, found, total)
     }
 
     /// Lends column `c`: the entries of all rows there, in the form and with the offset that the schema gives.

@@ -4,6 +4,8 @@
 #[cfg(test)]
 mod batches;
 #[cfg(test)]
+mod groups;
+#[cfg(test)]
 mod machine;
 #[cfg(test)]
 mod tables;

@@ -1,9 +1,8 @@
-use Rattle.std.proofs.Common.{◌≡◌, ◌<◌, ◌≤◌, ◌+◌, ◌∷◌, [], ℕ, List, All, length, ap, sym, subst, arith, ◌∙◌, true}
+use Rattle.std.proofs.Common.{◌≡◌, ◌<◌, ◌≤◌, ◌∷◌, [], length, ap, sym, arith, ◌∙◌, true}
 use Rattle.bsi_schema.specs.Columns.{fits}
 use Rattle.bsi_table.specs.Index.{table_of}
-use Rattle.bsi_rows.specs.Rows.{Entries, FedRow}
-use Rattle.bsi_rows.specs.Table.{with_row, AreFitting, AreFrom, Table}
-use Rattle.bsi_table.specs.Kept.{HaveMore}
+use Rattle.bsi_rows.specs.Rows.{FedRow}
+use Rattle.bsi_rows.specs.Table.{with_row, AreFitting, AreFrom}
 use Rattle.bsi_schema.proofs.Fitting.{fits-length}
 use Rattle.bsi_table.proofs.Growing.{grown_room, grown_rows, grown_table}
 use Rattle.bsi_table.proofs.Keeping.{All-one, row_in_range, row_small}

@@ -1,8 +1,6 @@
-use Rattle.std.proofs.Common.{◌≡◌, ◌<◌, ◌≤◌, ◌+◌, ◌-◌, ℕ, List, length, ap, sym, subst, arith, ◌∙◌}
-use Rattle.std.proofs.lemmas.List.Elements.{All-get_or}
+use Rattle.std.proofs.Common.{◌≤◌, ◌-◌, length, ap, sym, subst, arith, ◌∙◌}
 use Rattle.bsi_table.specs.Index.{table_of, AreRoomy}
 use Rattle.bsi_rows.specs.Table.{AreFitting, AreFrom, Table}
-use Rattle.bsi_table.specs.Kept.{TakesRow}
 use Rattle.bsi_table.proofs.Growing.{grown_room, grown_rows, grown_table, taken}
 use Rattle.bsi_table.proofs.TableRows.{length-fed_rows}
 use Rattle.bsi_table.proofs.index.Index.append_block.Goals as goal

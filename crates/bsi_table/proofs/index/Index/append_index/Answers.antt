@@ -1,9 +1,9 @@
-use Rattle.std.proofs.Common.{◌≡◌, ◌<◌, ◌≤◌, ◌+◌, ◌-◌, ◌++◌, ℕ, List, length, map, refl, ap, ap₂, sym, subst, arith, ◌∙◌}
+use Rattle.std.proofs.Common.{◌≡◌, ◌<◌, ◌≤◌, ◌-◌, ◌++◌, ℕ, List, length, map, refl, ap, sym, subst, arith, ◌∙◌}
 use Rattle.std.proofs.lemmas.List.{length-map}
 use Rattle.bsi_schema.specs.Columns.{NamedColumn}
 use Rattle.bsi_shift.specs.Shifted.{shifted_entries}
 use Rattle.bsi_table.specs.Index.{table_of, AreRoomy}
-use Rattle.bsi_rows.specs.Rows.{feeders_of, FedRow}
+use Rattle.bsi_rows.specs.Rows.{feeders_of}
 use Rattle.bsi_rows.specs.Table.{kept_as, AreFitting, AreFrom, AreKeptAlike, Table}
 use Rattle.bsi_table.specs.Kept.{kept_at, AreAlikeColumns, HasMore, HaveMore, HaveRows}
 use Rattle.bsi_table.proofs.Growing.{grown_room, grown_rows, grown_table}

@@ -1,8 +1,7 @@
-use Rattle.std.proofs.Common.{◌<◌, ℕ, List, length, ap, ap₂, sym, subst, arith, ◌∙◌}
+use Rattle.std.proofs.Common.{◌<◌, length, ap, ap₂, sym, subst, arith, ◌∙◌}
 use Rattle.std.specs.Prelude.{All}
 use Rattle.std.proofs.lemmas.List.Elements.{All-nil}
 use Rattle.bsi_schema.specs.Columns.{column_at}
-use Rattle.bsi_rows.specs.Rows.{FedRow}
 use Rattle.bsi_table.specs.Kept.{kept_at, AreKept}
 use Rattle.bsi_rows.specs.Table.{no_rows, table}
 use Rattle.bsi_table.proofs.Keeping.{keeps_none}

@@ -1,10 +1,8 @@
-use Rattle.std.proofs.Common.{◌≡◌, ◌<◌, ◌≤◌, ◌+◌, ℕ, List, length, ap, ap₂, sym, subst, refl, arith, ◌∙◌}
-use Rattle.std.specs.Prelude.{Result, OnErr}
-use Rattle.bsi_shift.specs.Shifted.{OffsetColumn}
+use Rattle.std.proofs.Common.{◌<◌, ℕ, List, length, ap, ap₂, sym, arith, ◌∙◌}
 use Rattle.bsi_table.specs.Index.{table_of, IndexedTable}
 use Rattle.bsi_rows.specs.Rows.{FedRow}
 use Rattle.bsi_table.specs.Kept.{fed_rows}
-use Rattle.bsi_rows.specs.Table.{table, Table}
+use Rattle.bsi_rows.specs.Table.{table}
 use Rattle.bsi_table.proofs.Keeping.{is_table_same, on_err}
 use Rattle.bsi_table.proofs.TableRows.{fed_rows-same, length-fed_rows}
 use Rattle.bsi_table.proofs.index.Index.reserve.Goals as goal

@@ -1,0 +1,4 @@
+pub mod FirstEntries
+pub mod Grouped
+pub mod Order
+pub mod Remaining
