@@ -44,22 +44,12 @@ pub enum Total {
 }
 
 /// A total of the rows that a predicate selects.
-#[derive(Debug)]
+#[derive(Debug, Drop)]
 pub struct Query {
     /// What is asked of the rows.
     pub total: Total,
     /// Which rows.
     pub pred: Pred,
-}
-
-// What a derive drops, each crate above would prove anew.
-impl Drop for Query {
-    fn drop(self) {
-        let Query {
-            total: _,
-            pred: _pred,
-        } = self;
-    }
 }
 
 /// The answer to a query.
