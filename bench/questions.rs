@@ -41,15 +41,18 @@ fn value_of(row: u64, column: u64) -> u32 {
     (row.wrapping_add(column.wrapping_mul(1000)).wrapping_mul(SPREAD) >> 44) as u32
 }
 
-/// The three columns as plain lists, and the feeder of each row with the row's number among those of that feeder.
+/// The three columns as plain lists, two of ten and of a thousand numbers, and the feeder of each row with the row's number among those
+/// of that feeder.
 struct Lists {
     columns: [Vec<u32>; 3],
+    few: [Vec<u16>; 2],
     origins: Vec<(u32, u64)>,
 }
 
 impl Lists {
     fn new(rows: u64) -> Lists {
         let mut columns = [const { Vec::new() }; 3];
+        let mut few = [const { Vec::new() }; 2];
         let (mut origins, mut fed) = (Vec::new(), [0; FEEDERS as usize]);
         for row in 0..rows / 64 * 64 {
             let (block, at) = (row / 64, row % 64);
@@ -58,11 +61,14 @@ impl Lists {
             for (column, list) in (0..).zip(&mut columns) {
                 list.push(if is_rare && at == 0 { GREATEST } else { value_of(kind, column) });
             }
+            for (many, list) in [10, 1000].into_iter().zip(&mut few) {
+                list.push(if is_rare && at == 0 { 0 } else { (kind % many) as u16 });
+            }
             let feeder = (kind.wrapping_mul(SPREAD) >> 40) % FEEDERS;
             fed[feeder as usize] += 1;
             origins.push((feeder as u32, fed[feeder as usize]));
         }
-        Lists { columns, origins }
+        Lists { columns, few, origins }
     }
 
     fn len(&self) -> usize {
@@ -105,6 +111,19 @@ impl Lists {
         let mut found: Vec<u32> = rows.filter(|(_, b)| **b <= BELOW).map(|(a, _)| *a).collect();
         let middle = (found.len() - 1) / 2;
         u64::from(*found.select_nth_unstable(middle).1)
+    }
+
+    /// The sums of a column for each number of one of few numbers, by an array of counters.
+    fn group(&self, by: usize, many: usize) -> u64 {
+        let (mut sums, mut counts) = (vec![0u64; many], vec![0u32; many]);
+        for (b, key) in self.columns[1].iter().zip(&self.few[by]) {
+            let is_found = *b <= BELOW;
+            sums[usize::from(*key)] += u64::from(is_found) * u64::from(*b);
+            counts[usize::from(*key)] += u32::from(is_found);
+        }
+        let found = sums.iter().zip(&counts).filter(|(_, count)| **count > 0);
+        let groups = counts.iter().filter(|count| **count > 0).count() as u64;
+        found.fold(groups, |answer, (sum, _)| (answer * 31 + sum) % 1_000_003)
     }
 
     /// Where the rows come from whose number in a column holds.
@@ -277,6 +296,8 @@ fn time_scans(lists: &Lists, samples: u32) {
     time("scan.found", n, samples, || lists.count_first(|a| a == GREATEST));
     time("scan.few", n, samples, || lists.list(0, |a| a == GREATEST));
     time("scan.many", n, samples.div_ceil(4), || lists.list(1, |b| b <= BELOW));
+    time("scan.ten", n, samples, || lists.group(0, 10));
+    time("scan.thousand", n, samples, || lists.group(1, 1000));
     time("scan.least", n, samples, || lists.least());
     time("scan.greatest", n, samples, || lists.greatest());
 }

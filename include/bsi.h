@@ -23,6 +23,12 @@
 extern "C" {
 #endif
 
+/* The version of this header, 0.2.0: 10,000 for each major one, 100 for each minor one, and the patch. */
+#define BSI_VERSION 200
+
+/* Returns that of the library. */
+uint32_t bsi_version(void);
+
 /* A handle. One whose bytes are all zero is closed. Only bsi's calls write it, and it is not copied while it is open.
  * bsi_close frees what it holds. */
 typedef struct {
@@ -63,6 +69,13 @@ typedef struct {
     uint64_t row;    /* its number among that feeder's rows, from 0 */
 } bsi_place;
 
+/* A group of rows: those that have the same entry in a column. */
+typedef struct {
+    bool present;      /* whether the rows have a number there; else they are null */
+    int64_t entry;     /* the number, where there is one */
+    bsi_answer answer; /* the answer over these rows; of BSI_ROWS only the count */
+} bsi_group;
+
 /* How a call ended. */
 enum {
     BSI_OK = 0,             /* it was done */
@@ -76,8 +89,9 @@ enum {
     BSI_BAD_ROW = 8,        /* a row has a number that its column does not take */
     BSI_INDEX_FULL = 9,     /* there would be more rows than the limit */
     BSI_SHARED = 10,        /* a shared index takes no rows */
-    BSI_BAD_QUERY = 11,     /* the fields ask no query, or spell no predicate, or are over 1,000 for the predicate */
-    BSI_NO_ROOM = 12,       /* there is too little room, or for bsi_select another number of words than the rows fill */
+    BSI_BAD_QUERY = 11,     /* the fields ask no query, or spell no predicate, or are over 1,000 for the predicate; in
+                               bsi_group_by also no such column */
+    BSI_NO_ROOM = 12,       /* there is too little room */
     BSI_BAD_TEXT = 13,      /* the schema has more than 1,000,000 records */
     BSI_LONG_NOTES = 14,    /* there are more than BSI_MAX_NOTES bytes of notes */
     BSI_NOT_KEPT = 15,      /* the bytes are not those of a kept index, or there are none */
@@ -106,9 +120,15 @@ uint32_t bsi_append(bsi_index *index, uint32_t feeder, const bsi_column *columns
 uint32_t bsi_ask(bsi_index *index, const bsi_text *fields, size_t fields_len, bsi_answer *answer, bsi_place *places,
                  size_t places_len);
 
+/* Answers a query over each group of the rows that it selects: those with the same entry in the column of a name, given as
+ * its bytes. The groups come in order of their numbers, that of the null rows last. *count is how many they are; at
+ * BSI_NO_ROOM there are more than groups_len, and nothing is written. No such column is BSI_BAD_QUERY. */
+uint32_t bsi_group_by(bsi_index *index, const bsi_text *fields, size_t fields_len, const uint8_t *name, size_t name_len,
+                      bsi_group *groups, size_t groups_len, size_t *count);
+
 /* Writes which rows a predicate selects, given as its fields: {"price", "<", "100"}. Row i is bit i % 64 of word i / 64,
- * from the lowest; bits past the last row are 0. Rows are numbered as they were appended, by all feeders together. There
- * are as many words as the rows fill: rows / 64, rounded up. */
+ * from the lowest; bits past the last row are 0. Rows are numbered as they were appended, by all feeders together. It
+ * takes and writes as many words as the rows fill: rows / 64, rounded up. */
 uint32_t bsi_select(bsi_index *index, const bsi_text *fields, size_t fields_len, uint64_t *words, size_t words_len);
 
 /* Writes the number of rows, at most 2^32. */

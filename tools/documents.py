@@ -3,7 +3,7 @@
 
 - No page is too long. A link to a file of the repository leads to one, and behind a # to a heading; so does each name docs/X.md.
 - The version in VERSION is that of the manual page, whose date is that of the newest heading of CHANGELOG.md, of that
-  heading, and of README.md.
+  heading, of README.md, and as a number of include/bsi.h.
 - The lines of a block ```rust stand so, one below the other, in a file of crates/bsi_examples/src.
 - Each clause of a block ```text after a line `fn NAME..` is one of a free function of that name, and after `fn TYPE::NAME..` of one in
   an `impl` of that type, where S stands for what self shows at the call, and S' at the return.
@@ -112,6 +112,10 @@ def fault_in_version(top):
         return f"man/bsi.1 has no head {head}"
     if f"bsi {version}" not in text_of(os.path.join(top, "README.md")):
         return f"README.md does not say bsi {version}"
+    major, minor, patch = map(int, version.split("."))
+    line = f"#define BSI_VERSION {10000 * major + 100 * minor + patch}\n"
+    if line not in text_of(os.path.join(top, "include", "bsi.h")):
+        return f"include/bsi.h has no line {line.strip()}"
     return None
 
 

@@ -4,7 +4,7 @@ from __future__ import annotations
 
 import math
 import threading
-from typing import Any, ContextManager, List, NamedTuple, Optional, Sequence, Tuple
+from typing import Any, ContextManager, Dict, List, NamedTuple, Optional, Sequence, Tuple
 
 import numpy as np
 
@@ -123,6 +123,19 @@ class Gathered:
             counts = self.counts([[*fields, name, b"<=", b"%d" % bound, b"and"] for bound in bounds])
             left = left.after(bounds, counts, many)
         return left.low
+
+    def grouped(self, by: bytes, fields: Fields, most: int) -> Optional[Dict[int, Optional[int]]]:
+        """Returns the answers by number as a handle does, to a count, a sum, a least or a greatest number."""
+        joined: Dict[int, List[int]] = {}
+        with self.alone():
+            parts = self._each("grouped", by, fields, most)
+        for part in parts:
+            for number, answer in (part or {}).items():
+                joined.setdefault(number, []).extend([] if answer is None else [answer])
+        if None in parts or len(joined) > most:
+            return None
+        join = {b"least": min, b"greatest": max}.get(fields[0], sum)
+        return {number: join(joined[number]) if joined[number] else None for number in sorted(joined)}
 
     def select(self, fields: Fields) -> Tuple[np.ndarray, int]:
         with self.alone():

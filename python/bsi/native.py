@@ -22,6 +22,7 @@ from .taking import Found, numbers_of
 
 OK, BAD_SCHEMA, BAD_ROW, INDEX_FULL, NO_ROOM, NO_MEMORY = 0, 4, 8, 9, 12, 3
 MAX_NOTES = 1 << 16
+COUNT, SUM = 1, 2
 # The numbers of one column, and an Arrow validity bitmap of them or none.
 Entries = Tuple[np.ndarray, Optional[np.ndarray]]
 
@@ -45,10 +46,15 @@ class _Answer(Structure):
     ]
 
 
+class _Group(Structure):
+    _fields_ = [("present", c_bool), ("entry", c_int64), ("answer", _Answer)]
+
+
 _CALLS: Dict[str, List[Any]] = {
     "bsi_open": [c_void_p, c_size_t, c_uint32, POINTER(c_uint64)],
     "bsi_append": [c_uint32, c_void_p, c_size_t, POINTER(c_uint64)],
     "bsi_ask": [c_void_p, c_size_t, POINTER(_Answer), c_void_p, c_size_t],
+    "bsi_group_by": [c_void_p, c_size_t, c_void_p, c_size_t, c_void_p, c_size_t, POINTER(c_size_t)],
     "bsi_select": [c_void_p, c_size_t, c_void_p, c_size_t],
     "bsi_rows": [POINTER(c_uint64)],
     "bsi_schema": [c_void_p, c_size_t, POINTER(c_size_t)],
@@ -148,8 +154,7 @@ class Handle:
 
     def sum(self, name: bytes, fields: Sequence[bytes]) -> int:
         """Returns the sum of the column's numbers in the rows that the predicate selects."""
-        answer = self._ask(b"sum", name, *fields)
-        return (answer.high << 64 | answer.low) - (answer.high >> 63 << 128)
+        return _sum_of(self._ask(b"sum", name, *fields))
 
     def value(self, word: bytes, name: bytes, fields: Sequence[bytes]) -> Optional[int]:
         """Returns the least, greatest or lower median number in these rows, or None where there is none."""
@@ -163,6 +168,19 @@ class Handle:
     def median_and_count(self, name: bytes, fields: Sequence[bytes]) -> Tuple[Optional[int], int]:
         """Returns the lower median number in these rows, and how many numbers there are."""
         return self.value(b"median", name, fields), self.count([*fields, name, b"null", b"not", b"and"])
+
+    def grouped(self, by: bytes, fields: Sequence[bytes], most: int) -> Optional[Dict[int, Optional[int]]]:
+        """Returns the query's answer over the rows of each number of a column, in order of these, but none over the
+        nulls. None where there are more numbers than so many."""
+        groups, count, name = (_Group * (most + 1))(), c_size_t(), np.frombuffer(by, np.uint8)
+        slices, length, _kept = _slices(tuple(fields))
+        room = (ctypes.addressof(groups), len(groups), byref(count))
+        status = self._call("bsi_group_by", slices, length, _address(name), len(name), *room)
+        if status == NO_ROOM:
+            return None
+        check(status)
+        found = {group.entry: _number_of(group.answer) for group in groups[: count.value] if group.present}
+        return found if len(found) <= most else None
 
     def select(self, fields: Sequence[bytes]) -> Tuple[np.ndarray, int]:
         """Returns the words whose bits say which rows the predicate selects, and how many rows there are."""
@@ -231,6 +249,17 @@ class Handle:
     def __del__(self):
         if getattr(self, "_index", None) is not None and _library is not None:
             self.close()
+
+
+def _sum_of(answer: _Answer) -> int:
+    return (answer.high << 64 | answer.low) - (answer.high >> 63 << 128)
+
+
+def _number_of(answer: _Answer) -> Optional[int]:
+    """Returns the number that an answer is, or None where it is none."""
+    if answer.kind == COUNT:
+        return answer.count
+    return _sum_of(answer) if answer.kind == SUM else answer.value if answer.present else None
 
 
 def check(status: int) -> None:

@@ -2,7 +2,7 @@
 on the other.
 
 A *store* is a `native.Handle`, or a `gathered.Gathered` of several. Both have the calls `count`, `counts`, `sum`,
-`value`, `select`, `numbers`, `rows` and `close`, and but for Dask `append`.
+`value`, `grouped`, `select`, `numbers`, `rows` and `close`, and but for Dask `append`.
 """
 
 from __future__ import annotations
@@ -23,7 +23,7 @@ import numpy as np
 from .choosing import Chosen, of_each, refuse_misfit, refuse_no_kind
 from .errors import BadColumns, BadQuery, BadRow, BadSchema, Error, IndexFull, NoMemory
 from .forms import Form
-from .groups import GroupBy, Groups
+from .groups import GroupBy, Groups, too_many
 from .kinds import Flags, Misfit, Texts, Times, shown
 from .narrowing import encode
 from .native import BAD_ROW, INDEX_FULL, NO_MEMORY, Entries, Handle, check
@@ -373,6 +373,27 @@ class Table:
         """Returns the rows by the values of a column: `groupby("station").sum("rain", where)`."""
         return GroupBy(self, self._name(column))
 
+    def grouped(
+        self, by: str, word: bytes, column: Optional[Name], where: Predicate, most: int
+    ) -> Optional[Dict[Any, Any]]:
+        """Returns the answer to a question of one word for each value of a column, or None where the library does not
+        have them at once: of texts whose numbers are in no order, and of too long a predicate."""
+        names = [by] if column is None else [by, self._name(column)]
+        kinds = [self._forms[name].kind for name in names]
+        queries = self._queries(where)
+        if len(queries) > 1 or any(isinstance(kind, Texts) and kind.grows for kind in kinds):
+            return None
+        if word == b"median" and not isinstance(self._store, Handle):
+            return None
+        if word == b"sum":
+            self._refuse_no_sum(names[-1])
+        decode = {b"count": int, b"sum": kinds[-1].decode_sum}.get(word, kinds[-1].decode)
+        fields = [word, *(self._within[name] for name in names[1:]), *queries[0]]
+        found = self._store.grouped(self._within[by], fields, most)
+        if found is None:
+            raise too_many(by, most)
+        return {kinds[0].decode(number): None if one is None else decode(one) for number, one in found.items()}
+
     def value_counts(self, column: Name, where: Predicate = all_rows) -> Groups:
         """Returns how many of these rows have each value of the column, the most frequent first."""
         name = self._name(column)
@@ -401,12 +422,14 @@ class Table:
     def sum(self, column: Name, where: Predicate = all_rows) -> Any:
         """Returns the sum of the column's values in the rows that the predicate selects, 0 where there are none."""
         name = self._name(column)
-        kind = self._forms[name].kind
+        self._refuse_no_sum(name)
+        return self._forms[name].kind.decode_sum(self._sum(name, where))
+
+    def _refuse_no_sum(self, name: str) -> None:
         try:
-            kind.decode_sum(0)
+            self._forms[name].kind.decode_sum(0)
         except TypeError as why:
             raise BadQuery(f"column {name!r}: {why}") from None
-        return kind.decode_sum(self._sum(name, where))
 
     def _sum(self, name: str, where: Predicate) -> int:
         return sum(self._store.sum(self._within[name], fields) for fields in self._queries(where))

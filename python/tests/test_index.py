@@ -435,6 +435,22 @@ def test_groups_of_answers_that_are_no_constants():
     assert index.value_counts("t", col.n > 2) == {times[1]: 1, times[0]: 1}
 
 
+def test_groups_by_a_long_predicate():
+    numbers = list(range(3000))
+    index = bsi.Index.from_frame({"n": numbers, "t": ["a", "b", "c"] * 1000})
+    odd = col.n.isin(numbers[1::2])
+    wanted = {word: sum(number for number in numbers[place::3] if number % 2) for place, word in enumerate("abc")}
+    assert index.groupby("t").sum("n", odd) == wanted
+    assert index.value_counts("t", odd) == {"a": 500, "b": 500, "c": 500}
+
+
+def test_groups_and_nulls():
+    index = bsi.Index.from_frame({"n": [None, 3, None, 3, -7], "m": [1, 2, 4, None, None]})
+    assert index.groupby("n").sum("m") == {-7: 0, 3: 2} and index.groupby("n").count() == {-7: 1, 3: 2}
+    assert index.groupby("n").least("m") == {-7: None, 3: 2} and index.groupby("n").median("m") == {-7: None, 3: 2}
+    assert index.groupby("m").count(col.n.isnull()) == {1: 1, 4: 1} and index.groupby("n").count(col.m > 9) == {}
+
+
 def test_groups_that_are_many():
     index = bsi.Index.from_frame({"n": range(5000), "t": ["a", "b"] * 2500})
     with pytest.raises(bsi.BadQuery, match="column 'n' has more than 4,096 values"):

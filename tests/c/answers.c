@@ -84,6 +84,33 @@ static void total(bsi_index *index, int column) {
     check(right, text);
 }
 
+/* Compares the sums of c over the rows of each entry of b where a is below a constant. */
+static void group(bsi_index *index) {
+    static bsi_group groups[1002];
+    static int64_t sums[1001];
+    static bool there[1001];
+    size_t count = 0, at = 0, wrong = 0;
+    for (size_t row = 0; row < ROWS; row++) {
+        if (plain[0][row] >= constants[0]) continue;
+        size_t entry = is_there(1, row) ? plain[1][row] + 400 : 1000;
+        there[entry] = true;
+        sums[entry] += plain[2][row];
+    }
+    uint32_t status = group_by(index, "sum c a < 345678", "b", groups, 1002, &count);
+    for (size_t entry = 0; entry < 1001; entry++) {
+        if (!there[entry]) continue;
+        bsi_group *found = &groups[at++];
+        wrong += found->present != (entry < 1000) || (entry < 1000 && found->entry != (int64_t)entry - 400);
+        wrong += found->answer.kind != BSI_SUM || found->answer.low != (uint64_t)sums[entry] || found->answer.high != 0;
+    }
+    check(!status && count == at && !wrong, "the groups of a column and their sums are those of a loop");
+    check(group_by(index, "count all", "b", groups, 1000, &count) == BSI_NO_ROOM && count == at, "groups want room");
+    check(group_by(index, "list b = 1", "b", groups, 1, &count) == BSI_OK && count == 1 && groups[0].entry == 1
+              && groups[0].answer.kind == BSI_ROWS && groups[0].answer.count > 1,
+          "rows of a group are counted");
+    check(group_by(index, "count all", "d", groups, 1002, &count) == BSI_BAD_QUERY && count == 1, "no column, no groups");
+}
+
 int main(void) {
     fill();
     bsi_index index = {0};
@@ -97,6 +124,7 @@ int main(void) {
     for (int column = 0; column < 3; column++)
         for (int sign = 0; sign < 6; sign++) compare(&index, column, sign);
     for (int column = 0; column < 3; column++) total(&index, column);
+    group(&index);
     check(!ask(&index, "least a a < 0", &answer, places, 0) && answer.kind == BSI_VALUE && !answer.present, "there may be no least");
     size_t nulls = 0;
     for (size_t r = 0; r < ROWS; r++) nulls += !is_there(1, r);

@@ -82,9 +82,24 @@ static void select_below_100(bsi_index *index, uint64_t rows) {
     for (uint64_t row = 0; !status && row < rows; row++) wrong += (words[row / 64] >> (row % 64) & 1) != (a[row] < 100);
 }
 
+/* Counts the rows of the groups of b where a is below 100. */
+static void groups_below_100(bsi_index *index, uint64_t rows) {
+    static bsi_group groups[100];
+    size_t count = 0;
+    uint64_t found = 0, wanted = 0;
+    uint32_t status = group_by(index, "count a < 100", "b", groups, 100, &count);
+    wrong += !is_fair(status);
+    if (is_to_repeat(status)) wrong += (status = group_by(index, "count a < 100", "b", groups, 100, &count)) != BSI_OK;
+    if (status) return;
+    for (size_t k = 0; k < count; k++) found += groups[k].answer.count;
+    for (uint64_t row = 0; row < rows; row++) wanted += a[row] < 100;
+    wrong += found != wanted;
+}
+
 /* Asks an index of the first rows, and sees that each answer that is given is right. */
 static void question(bsi_index *index, uint64_t rows) {
     list_below_100(index, rows);
+    groups_below_100(index, rows);
     median(index, rows);
     select_below_100(index, rows);
 }

@@ -5,6 +5,7 @@ static int64_t numbers[100] = {3, 1, 2};
 static uint8_t bits[16] = {255, 255};
 static bsi_place places[8];
 static uint64_t words[4];
+static bsi_group groups[4];
 static bsi_index closed, open_one;
 
 static uint64_t rows_of(bsi_index *index) {
@@ -27,6 +28,7 @@ static void of_a_closed_handle(void) {
     size_t size;
     check(append(&closed, 0, &column, 1, 0) == BSI_CLOSED, "append: a closed handle");
     check(ask(&closed, "count all", &answer, places, 0) == BSI_CLOSED, "ask: a closed handle");
+    check(group_by(&closed, "count all", "x", groups, 1, &size) == BSI_CLOSED, "group_by: a closed handle");
     check(selects(&closed, "all", words, 0) == BSI_CLOSED, "select: a closed handle");
     check(bsi_rows(&closed, &number) == BSI_CLOSED, "rows: a closed handle");
     check(bsi_schema(&closed, bits, 0, &size) == BSI_CLOSED, "schema: a closed handle");
@@ -100,10 +102,20 @@ static void of_questions(void) {
           "ask: too few places, and how many are needed");
     check(ask(&open_one, "list y null", &answer, places, 1) == BSI_OK && answer.count == 1 && places[0].feeder == 1 && places[0].row == 1,
           "ask: the row with a null");
+    size_t count = 77;
+    check(group_by(&open_one, "all", "y", groups, 4, &count) == BSI_BAD_QUERY, "group_by: no query");
+    check(group_by(&open_one, "count all", "z", groups, 4, &count) == BSI_BAD_QUERY, "group_by: no such column");
+    check(group_by(&open_one, "count all", "x", groups, 2, &count) == BSI_NO_ROOM && count == 77, "group_by: too little room");
+    check(!groups[0].present && groups[0].answer.kind == 0, "group_by: a refused call writes nothing");
+    check(group_by(&open_one, "count all", "x", groups, 4, &count) == BSI_OK && count == 3, "group_by: a group a number");
+    check(group_by(&open_one, "count y null", "y", groups, 1, &count) == BSI_OK && count == 1 && !groups[0].present
+              && groups[0].answer.count == 1 && groups[1].answer.kind == BSI_COUNT,
+          "group_by: the group of the null");
     check(selects(&open_one, "count all", words, 1) == BSI_BAD_QUERY, "select: a query");
     check(selects(&open_one, "", words, 1) == BSI_BAD_QUERY, "select: no field");
     check(selects(&open_one, "all", words, 0) == BSI_NO_ROOM, "select: no word for three rows");
-    check(selects(&open_one, "all", words, 2) == BSI_NO_ROOM, "select: two words for three rows");
+    words[1] = 77;
+    check(selects(&open_one, "all", words, 2) == BSI_OK && words[0] == 7 && words[1] == 77, "select: two words for three rows");
     check(selects(&open_one, "x >= 2 y = 0 or", words, 1) == BSI_OK && words[0] == 4, "select: the rows of a predicate");
 }
 
@@ -134,9 +146,20 @@ static void of_what_is_written(void) {
     mark(words, sizeof words);
     right = selects(&open_one, "all", words, 1) == BSI_OK && words[0] == 7;
     check(right && is_untouched(words, sizeof *words, sizeof words), "select: no word behind those of the rows is written");
+    mark(groups, sizeof groups);
+    right = group_by(&open_one, "count y null", "y", groups, 4, &size) == BSI_OK && size == 1;
+    check(right && is_untouched(groups, sizeof *groups, sizeof groups), "group_by: no group behind those of the answer is written");
     mark(text, sizeof text);
     right = bsi_schema(&open_one, text, sizeof text, &size) == BSI_OK && size == 52;
     check(right && is_untouched(text, size, sizeof text), "schema: no byte behind the text is written");
+}
+
+/* Programs that were built with this header rely on these. */
+static void of_the_interface(void) {
+    check(bsi_version() == BSI_VERSION, "the library is of the header's version");
+    check(sizeof(bsi_index) == 16 && sizeof(bsi_text) == 16 && sizeof(bsi_column) == 32 && sizeof(bsi_answer) == 40
+              && sizeof(bsi_place) == 16 && sizeof(bsi_group) == 56,
+          "the structs have the sizes of the release");
 }
 
 static void of_sharing(void) {
@@ -170,6 +193,8 @@ static void of_null_pointers(void) {
     check(bsi_ask(&index, NULL, 0, &answer, NULL, 0) == BSI_BAD_QUERY, "ask: null and no field");
     check(ask(&index, "list all", &answer, NULL, 0) == BSI_OK && answer.count == 0, "ask: null and no place");
     check(selects(&index, "all", NULL, 0) == BSI_OK, "select: null and no word");
+    size_t count = 77;
+    check(group_by(&index, "count all", "x", NULL, 0, &count) == BSI_OK && count == 0, "group_by: null and no group");
     bsi_close(&index);
 }
 
@@ -211,6 +236,7 @@ int main(void) {
     of_columns();
     of_questions();
     of_what_is_written();
+    of_the_interface();
     of_sharing();
     of_null_pointers();
     return failed != 0;

@@ -3,14 +3,15 @@
 #![tactic(auto)]
 
 ghost use Rattle.std.specs.Prelude.{◌≡◌, ◌≢◌, Err, None, drop, map};
-ghost use Rattle.bsi_ffi.specs.Calls.{IsAppending, IsAsking, IsClosing, IsCounting, IsDescribing, IsKeeping, IsOpening, IsReopening, IsSelecting, IsSharing, LeavesRest};
+ghost use Rattle.bsi_ffi.specs.Calls.{IsAppending, IsAsking, IsClosing, IsCounting, IsDescribing, IsKeeping, IsOpening, IsReopening, IsSelecting, IsSharing, LeavesRest, LeavesWords};
+ghost use Rattle.bsi_ffi.specs.Groups.{IsGrouping};
 ghost use Rattle.bsi_ffi.specs.States.{opened_in};
 ghost use Rattle.bsi_ffi.specs.Statuses.{status_of, Tells};
 ghost use Rattle.bsi_ffi.specs.declared.refusal.Refusal.TheVariants.{NoMemory, NoRoom};
 
 use bsi_ffi::{
-    FlatAnswer, GivenColumn, Handle, Place, append, ask, close, count, describe, open, open_kept,
-    save, select, share, status_of,
+    FlatAnswer, FlatGroup, GivenColumn, Handle, Place, append, ask, close, count, describe, group,
+    open, open_kept, save, select, share, status_of,
 };
 use std::alloc::Global;
 
@@ -68,6 +69,27 @@ pub extern "C" fn bsi_ask(
     status_of(ask(alloc, index, fields, answer, places))
 }
 
+/// Puts the rows that the query of the fields selects in groups by their entry in the column of this name. It writes the
+/// query's answer over each, in order of the entries, null last, and how many groups there are.
+#[unsafe(no_mangle)]
+pub extern "C" fn bsi_group_by(
+    alloc: Global,
+    index: &mut Handle,
+    fields: &[&[u8]],
+    name: &[u8],
+    groups: &mut [FlatGroup],
+    count: &mut usize,
+) -> u32
+    ensures told { Tells result (IsGrouping (opened_in index.old.held.value)
+        (map (λ f. f.now) fields.now) name.now groups.new count.new) }
+    ensures kept { index.new.held.value ≡ index.old.held.value }
+    ensures left { result ≢ 0 → count.new ≡ count.old }
+    ensures unfilled { result ≢ 0 → groups.new ≡ groups.old }
+    ensures rest { result ≡ 0 → drop count.new groups.new ≡ drop count.new groups.old }
+{
+    status_of(group(alloc, index, fields, name, groups, count))
+}
+
 /// Writes for each row whether the predicate selects it that the fields spell, the lowest bit of a word first, and 0
 /// past the last row.
 #[unsafe(no_mangle)]
@@ -81,6 +103,7 @@ pub extern "C" fn bsi_select(
         (map (λ f. f.now) fields.now) words.new) }
     ensures kept { index.new.held.value ≡ index.old.held.value }
     ensures left { result ≢ 0 → words.new ≡ words.old }
+    ensures rest { result ≡ 0 → LeavesWords (opened_in index.old.held.value) words.old words.new }
 {
     status_of(select(alloc, index, fields, words))
 }
@@ -165,6 +188,14 @@ pub extern "C" fn bsi_share(alloc: Global, index: &mut Handle, other: &mut Handl
     ensures left { result ≢ 0 → other.new.held.value ≡ other.old.held.value }
 {
     status_of(share(alloc, index, other))
+}
+
+/// Returns the version of the library, as the header's `BSI_VERSION` is that of the header.
+#[unsafe(no_mangle)]
+pub extern "C" fn bsi_version() -> u32
+    ensures { result ≡ 200 }
+{
+    200
 }
 
 /// Closes a handle. If no other handle holds the index, it frees the index.

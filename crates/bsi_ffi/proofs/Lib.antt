@@ -1,4 +1,5 @@
 pub mod AsBox
+pub mod Flat
 pub mod GivenRows
 pub mod KeptBytes
 pub mod Steps

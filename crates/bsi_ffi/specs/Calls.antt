@@ -1,5 +1,5 @@
 -- What each call does to what a handle holds, what it answers, and when it is refused.
-use Rattle.std.specs.Prelude.{◌≡◌, ◌≢◌, ℕ, ◌+◌, ◌*◌, ◌%◌, ◌<◌, ◌≤◌, ◌⊎◌, List, length, map, slice_index_or, take, Option, Some, None, Ok, Err, IsSome, true, false, MatchOption, drop, nat_eq, if◌then◌else◌}
+use Rattle.std.specs.Prelude.{◌≡◌, ℕ, ◌+◌, ◌*◌, ◌%◌, ◌<◌, ◌≤◌, ◌⊎◌, List, length, map, slice_index_or, take, Option, Some, None, Ok, Err, IsSome, true, false, MatchOption, drop, nat_eq, if◌then◌else◌}
 use Rattle.std.specs.Int.{cast_unsigned, w128}
 use Rattle.bsi_bits.specs.BitList.{word_count}
 use Rattle.bsi_bits.specs.Packed.{bit_of, end_of_u64}
@@ -187,15 +187,22 @@ pub record IsMask (table : Table) (pred : Pred) (words : List ℕ) : Type 0 wher
 
 abbrev pub IsMasked : Opened → List Field → List ℕ → Ending → Type 0
 IsMasked opened fields words (Ok done) =
-    (pred : Pred) × IsPredicate opened.table.schema fields pred × IsMask opened.table pred words
+    (pred : Pred) × IsPredicate opened.table.schema fields pred
+    × IsMask opened.table pred (take (word_count (length opened.table.rows)) words)
 IsMasked opened fields words (Err BadQuery) = (pred : Pred) → IsPredicate opened.table.schema fields pred → ⊥
 IsMasked opened fields words (Err NoRoom) =
-    (pred : Pred) × IsPredicate opened.table.schema fields pred × (length words ≢ word_count (length opened.table.rows))
+    (pred : Pred) × IsPredicate opened.table.schema fields pred × (length words < word_count (length opened.table.rows))
 IsMasked opened fields words (Err NoMemory) = Unit {0}
 IsMasked opened fields words (Err why) = ⊥
 
 abbrev pub IsSelecting : Option Opened → List Field → List ℕ → Ending → Type 0
 IsSelecting held fields words ending = WhereOpen held (λ opened ending. IsMasked opened fields words ending) ending
+
+-- the words behind those of the rows are what they were
+abbrev pub LeavesWords : Option Opened → List ℕ → List ℕ → Type 0
+LeavesWords None before words = Unit {0}
+LeavesWords (Some opened) before words =
+    drop (word_count (length opened.table.rows)) words ≡ drop (word_count (length opened.table.rows)) before
 
 -- ---- what stands
 

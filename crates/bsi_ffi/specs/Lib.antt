@@ -1,5 +1,6 @@
 pub mod Calls
 pub mod Columns
+pub mod Groups
 pub mod Opened
 pub mod Owned
 pub mod States

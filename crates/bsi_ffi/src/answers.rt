@@ -80,7 +80,11 @@ pub(crate) fn reply(
 }
 
 /// Writes an answer.
-fn write(reply: &Answer, answer: &mut FlatAnswer, places: &mut [Place]) -> Result<(), Refusal>
+pub(crate) fn write(
+    reply: &Answer,
+    answer: &mut FlatAnswer,
+    places: &mut [Place],
+) -> Result<(), Refusal>
     ensures written { OnOk result (IsWritten reply.now answer.new places.new) }
     ensures short { IfErr result (λ why. (why ≡ Refusal.NoRoom)
         × IsShort reply.now answer.new places.new) }

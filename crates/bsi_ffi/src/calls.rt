@@ -1,11 +1,13 @@
 //! The calls on a handle.
 
 ghost use Rattle.std.specs.Prelude.{◌≡◌, ◌≢◌, None, drop, is_some, map, IfErr, OnErr, OnOk};
-ghost use Rattle.bsi_ffi.specs.Calls.{IsAppending, IsAsking, IsClosing, IsCounting, IsDescribing, IsKeeping, IsOpening, IsReopening, IsSelecting, IsSharing, LeavesRest};
+ghost use Rattle.bsi_ffi.specs.Calls.{IsAppending, IsAsking, IsClosing, IsCounting, IsDescribing, IsKeeping, IsOpening, IsReopening, IsSelecting, IsSharing, LeavesRest, LeavesWords};
+ghost use Rattle.bsi_ffi.specs.Groups.{IsGrouping};
 ghost use Rattle.bsi_ffi.specs.States.{opened_in};
 
 use crate::answers::{FlatAnswer, Place, reply};
 use crate::columns::GivenColumn;
+use crate::groups::{FlatGroup, reply_groups};
 use crate::held::{Handle, put, take};
 use crate::keeping::{fill, keep, open_bytes};
 use crate::reading::open_text;
@@ -106,6 +108,34 @@ pub fn ask(
     ending
 }
 
+/// Puts the rows that the query of the fields selects in groups by their entry in the column of this name, and writes
+/// the query's answer over each, and how many groups there are.
+pub fn group(
+    alloc: Global,
+    index: &mut Handle,
+    fields: &[&[u8]],
+    name: &[u8],
+    groups: &mut [FlatGroup],
+    count: &mut usize,
+) -> Result<(), Refusal>
+    ensures ending { IsGrouping (opened_in index.old.held.value) (map (λ f. f.now) fields.now)
+        name.now groups.new count.new result }
+    ensures kept { index.new.held.value ≡ index.old.held.value }
+    ensures left { OnErr result (count.new ≡ count.old) }
+    ensures unfilled { OnErr result (groups.new ≡ groups.old) }
+    ensures rest { OnOk result (drop count.new groups.new ≡ drop count.new groups.old) }
+{
+    let Some(state) = take(index, alloc) else {
+        return Err(Refusal::Closed);
+    };
+    let ending = match state.opened() {
+        Some(opened) => reply_groups(alloc, opened, fields, name, groups, count),
+        None => Err(Refusal::Closed),
+    };
+    put(index, state);
+    ending
+}
+
 /// Writes which rows the predicate selects that the fields spell.
 pub fn select(
     alloc: Global,
@@ -117,6 +147,7 @@ pub fn select(
         words.new result }
     ensures kept { index.new.held.value ≡ index.old.held.value }
     ensures left { OnErr result (words.new ≡ words.old) }
+    ensures rest { OnOk result (LeavesWords (opened_in index.old.held.value) words.old words.new) }
 {
     let Some(state) = take(index, alloc) else {
         return Err(Refusal::Closed);

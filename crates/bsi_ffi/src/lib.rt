@@ -8,6 +8,7 @@ mod blocks;
 mod calls;
 mod columns;
 mod fitting;
+mod groups;
 mod held;
 mod keeping;
 mod opened;
@@ -17,8 +18,9 @@ mod selection;
 mod state;
 
 pub use answers::{COUNT, FlatAnswer, Place, ROWS, SUM, VALUE};
-pub use calls::{append, ask, close, count, describe, open, open_kept, save, select, share};
+pub use calls::{append, ask, close, count, describe, group, open, open_kept, save, select, share};
 pub use columns::GivenColumn;
+pub use groups::FlatGroup;
 pub use held::{Handle, Opaque, OwnedPointer};
 pub use opened::Opened;
 pub use refusal::{Refusal, status_of};

@@ -1,12 +1,12 @@
 //! Which rows a predicate selects, as words.
 
-ghost use Rattle.std.specs.Prelude.{◌≡◌, ◌≢◌, ◌∷◌, ℕ, codes, false, length, map, slice_index_or, Err, IfErr, IfOk, OnErr, OnOk};
+ghost use Rattle.std.specs.Prelude.{◌≡◌, ◌<◌, ◌≤◌, ◌∷◌, ℕ, codes, drop, false, length, map, slice_index_or, take, Some, IfErr, IfOk, OnErr, OnOk};
 ghost use Rattle.csv.specs.Records.{fields_of};
 ghost use Rattle.bsi_bits.specs.BitList.{word_count};
 ghost use Rattle.bsi_bits.specs.Packed.{bit_of};
 ghost use Rattle.bsi_records.specs.Predicates.{IsPredicate};
 ghost use Rattle.bsi_records.specs.Reading.{IsReadAs};
-ghost use Rattle.bsi_ffi.specs.Calls.{IsMasked};
+ghost use Rattle.bsi_ffi.specs.Calls.{IsMasked, LeavesWords};
 
 use crate::opened::Opened;
 use crate::refusal::Refusal;
@@ -25,6 +25,7 @@ pub(crate) fn write_mask(
 ) -> Result<(), Refusal>
     ensures masked { IsMasked opened.now (map (λ f. f.now) fields.now) words.new result }
     ensures left { OnErr result (words.new ≡ words.old) }
+    ensures rest { OnOk result (LeavesWords (Some opened.now) words.old words.new) }
 {
     let index = opened.index();
     let Some(pred) = read_predicate(alloc, index.schema(), fields)? else {
@@ -67,19 +68,22 @@ fn count_record(alloc: Global, fields: &[&[u8]]) -> Result<ByteRecord, NoMemory>
     Ok(counted)
 }
 
-/// Writes the words of a bitmap, if there is room for just these.
+/// Writes the words of a bitmap, if there is room for these.
 fn copy_words(found: &Bits, words: &mut [u64]) -> Result<(), Refusal>
-    ensures long { OnOk result (length words.new ≡ word_count (length found.now.bits)) }
+    ensures long { OnOk result (word_count (length found.now.bits) ≤ length words.new) }
     ensures bits { OnOk result
-        ((i : ℕ) → bit_of words.new i ≡ slice_index_or found.now.bits i false) }
-    ensures other { IfErr result (λ why. (why ≡ Refusal.NoRoom)
-        × (length words.new ≢ word_count (length found.now.bits))) }
+        ((i : ℕ) → bit_of (take (word_count (length found.now.bits)) words.new) i
+        ≡ slice_index_or found.now.bits i false) }
+    ensures rest { OnOk result (drop (word_count (length found.now.bits)) words.new
+        ≡ drop (word_count (length found.now.bits)) words.old) }
+    ensures short { IfErr result (λ why. (why ≡ Refusal.NoRoom)
+        × (length words.new < word_count (length found.now.bits))) }
     ensures left { OnErr result (words.new ≡ words.old) }
 {
     let from = found.words();
-    if from.len() != words.len() {
+    if from.len() > words.len() {
         return Err(Refusal::NoRoom);
     }
-    words.copy_from_slice(from);
+    words[..from.len()].copy_from_slice(from);
     Ok(())
 }

@@ -1,6 +1,5 @@
-use Rattle.std.proofs.Common.{◌≡◌, ℕ, Option, Some, rules, subst, sym}
+use Rattle.std.proofs.Common.{◌≡◌, ℕ, Some, rules, subst, sym}
 use Rattle.std.specs.Prelude.{IfErr}
-use Rattle.bsi_saved.specs.declared.fault.OpenFault.{OpenFault}
 use Rattle.bsi_ffi.specs.Calls.{kept_refusal, IsKeptRefusal}
 use Rattle.bsi_ffi.specs.declared.refusal.Refusal.{Refusal}
 use Rattle.bsi_ffi.specs.declared.refusal.Refusal.TheVariants.{NoMemory}

@@ -1,5 +1,15 @@
-use Rattle.std.proofs.Common.{◌≡◌, Option, None, Some, List, ◌∷◌, ℕ, map, length, codes, rules, refl, subst, sym, ◌∙◌}
-use Rattle.std.specs.Prelude.{MatchOption}
+use Rattle.std.proofs.Common.{◌≡◌, ◌≤◌, ◌<◌, Bool, false, Option, None, Some, Result, Ok, Err, List, ◌∷◌, ℕ, map, length, take, codes, rules, refl, ap, subst, sym, ◌∙◌}
+use Rattle.std.specs.Prelude.{IfErr, MatchOption, OnOk, slice_index_or}
+use Rattle.std.proofs.lemmas.List.{length-map, length-take-le}
+use Rattle.bsi_bits.specs.BitList.{word_count}
+use Rattle.bsi_bits.specs.Packed.{bit_of}
+use Rattle.bsi_rows.specs.Rows.{holds, row_entries}
+use Rattle.bsi_rows.specs.Table.{Table}
+use Rattle.bsi_rows.specs.declared.query.Pred.{Pred}
+use Rattle.bsi_ffi.specs.Calls.{IsMasked}
+use Rattle.bsi_ffi.specs.Opened.{Opened}
+use Rattle.bsi_ffi.specs.declared.refusal.Refusal.{Refusal}
+use Rattle.bsi_ffi.specs.declared.refusal.Refusal.TheVariants.{NoRoom}
 use Rattle.bsi_records.proofs.Spelling.{query_is_there}
 use Rattle.bsi_records.specs.Predicates.{IsPredicate}
 use Rattle.bsi_rows.specs.Answers.{missing_column}
@@ -17,3 +27,32 @@ returns-clause-masked c = λ other spelled.
     let missing : missing_column (length schema.columns) counted ≡ Some c.in-Err-BadColumn.field-0-0 = search rules in
     let wrong : None ≡ Some c.in-Err-BadColumn.field-0-0 = sym (query_is_there schema (codes "count" ∷ fields) counted (refl, spells)) ∙ missing in
     subst (λ (o : Option ℕ). MatchOption o (Unit {0}) (λ place. ⊥)) wrong tt
+
+module _ (opened : Opened) (fields : List (List ℕ)) (words : List ℕ) (pred : Pred) (is : IsPredicate opened.table.schema fields pred)
+    (found : List Bool) (found_is : found ≡ map (λ row. holds pred (row_entries row)) opened.table.rows) where
+  rows : length found ≡ length opened.table.rows
+  rows = ap length found_is ∙ length-map opened.table.rows (λ row. holds pred (row_entries row))
+
+  -- the words are those of the mask, or too few
+  masked : (result : Result (Unit {0}) Refusal) → OnOk result (word_count (length found) ≤ length words)
+      → OnOk result ((i : ℕ) → bit_of (take (word_count (length found)) words) i ≡ slice_index_or found i false)
+      → IfErr result (λ why. (why ≡ NoRoom) × (length words < word_count (length found))) → IsMasked opened fields words result
+  masked (Ok done) long bits short = (
+    pred,
+    is,
+    record {
+      long = length-take-le (word_count (length opened.table.rows)) words (subst (λ n. word_count n ≤ length words) rows long);
+      bits = λ i. ap (λ n. bit_of (take (word_count n) words) i) (sym rows) ∙ bits i ∙ ap (λ bs. slice_index_or bs i false) found_is;
+    },
+  )
+  masked (Err why) long bits short =
+      subst (λ why. IsMasked opened fields words (Err why)) (sym short.0) (pred, is, subst (λ n. length words < word_count n) rows short.1)
+
+pub returns-in-Ok-clause-masked : goal.returns-in-Ok-clause-masked
+returns-in-Ok-clause-masked c =
+    let opened = c.args.opened.now in
+    let fields : List (List ℕ) = map (λ f. f.now) c.args.fields.now in
+    let spells : IsPredicate opened.table.schema fields c.in-Some.pred = search rules in
+    masked opened fields c.copy_words.new.words c.in-Some.pred spells c.in-Ok.found.bits
+    (c.in-Ok.ensures.1 ∙ ap (λ (t : Table). map (λ row. holds c.in-Some.pred (row_entries row)) t.rows) c.index-index.ensures)
+    c.copy_words.result c.copy_words.ensures.long c.copy_words.ensures.bits c.copy_words.ensures.short

@@ -1,0 +1,30 @@
+use Rattle.std.proofs.Common.{◌≡◌, ◌+◌, ◌<◌, List, [], ◌∷◌, ◌++◌, drop, length, take, ap, subst, sym, ◌∙◌, rules, arith}
+use Rattle.std.specs.Prelude.{slice_set}
+use Rattle.std.specs.List.{AllZip}
+use Rattle.std.proofs.lemmas.List.{drop-drop, drop-set-lt, take_more, take_more_set}
+use Rattle.bsi_ffi.specs.Groups.{IsFlatGroup}
+use Rattle.bsi_ffi.proofs.groups.write_groups.Goals as goal
+
+-- two lists that stand in a relation, and one more of each
+zip_more : {A B : Type 0} (R : A → B → Type 0) (xs : List A) (ys : List B) (x : A) (y : B) → AllZip R xs ys → R x y → AllZip R (xs ++ x ∷ []) (ys ++ y ∷ [])
+zip_more R [] [] x y all one = (one, tt)
+zip_more R [] (b ∷ ys) x y all one = absurd all
+zip_more R (a ∷ xs) [] x y all one = absurd all
+zip_more R (a ∷ xs) (b ∷ ys) x y all one = (all.0, zip_more R xs ys x y all.1 one)
+
+-- one more group is written
+pub groups-preserved : goal.groups-preserved
+groups-preserved c =
+    let made = c.args.made.now in
+    let groups = c.groups.groups in
+    let at = c.groups.at in
+    let group = c.index-made-at.result in
+    let flat = c.flat_of.result in
+    let within : at < length groups = omega (arith, c.groups-test.true, c.requires, c.groups.invariant.long) in
+    let taken : take (at + 1) made ≡ take at made ++ group ∷ [] = take_more made at group c.groups-test.true ∙ ap (λ g. take at made ++ g ∷ []) (sym c.index-made-at.is) in record {
+      long = search rules;
+      done = subst (λ xs. AllZip IsFlatGroup xs (take (at + 1) (slice_set groups at flat))) (sym taken)
+          (subst (AllZip IsFlatGroup (take at made ++ group ∷ [])) (sym (take_more_set groups at flat within))
+          (zip_more IsFlatGroup (take at made) (take at groups) group flat c.groups.invariant.done c.flat_of.ensures));
+      rest = drop-set-lt (at + 1) groups at flat (omega arith) ∙ sym (drop-drop 1 at groups) ∙ ap (drop 1) c.groups.invariant.rest ∙ drop-drop 1 at c.args.groups.now;
+    }

@@ -1,0 +1,106 @@
+//! Groups of rows as C has them.
+
+ghost use Rattle.std.specs.Prelude.{◌≡◌, ◌≤◌, drop, length, map, take, OnErr, OnOk};
+ghost use Rattle.std.specs.List.{AllZip};
+ghost use Rattle.bsi_ffi.specs.Groups.{IsFlatGroup, IsGrouped};
+
+use crate::answers::{FlatAnswer, Place, write};
+use crate::opened::Opened;
+use crate::refusal::Refusal;
+use bsi_groups::{Group, GroupError, group_by};
+use bsi_records::read_question;
+use csv::ByteRecord;
+use std::alloc::Global;
+
+/// An answer before it is written.
+const UNWRITTEN: FlatAnswer = FlatAnswer {
+    kind: 0,
+    present: false,
+    value: 0,
+    count: 0,
+    low: 0,
+    high: 0,
+};
+
+/// A group of rows: those that have the same entry in a column.
+#[repr(C)]
+#[derive(Clone, Copy, Debug, PartialEq, Eq)]
+pub struct FlatGroup {
+    /// Whether the rows have a number there; else they are null.
+    pub present: bool,
+    /// The number.
+    pub entry: i64,
+    /// The answer over these rows. Rows are counted alone.
+    pub answer: FlatAnswer,
+}
+
+/// Puts the rows that the query of the fields selects in groups by their entry in the column of this name, and writes
+/// the query's answer over each.
+pub(crate) fn reply_groups(
+    alloc: Global,
+    opened: &Opened,
+    fields: &[&[u8]],
+    name: &[u8],
+    groups: &mut [FlatGroup],
+    count: &mut usize,
+) -> Result<(), Refusal>
+    ensures grouped { IsGrouped opened.now (map (λ f. f.now) fields.now) name.now groups.new count.new
+        result }
+    ensures left { OnErr result (count.new ≡ count.old) }
+    ensures unfilled { OnErr result (groups.new ≡ groups.old) }
+    ensures rest { OnOk result (drop count.new groups.new ≡ drop count.new groups.old) }
+{
+    let index = opened.index();
+    let fields = ByteRecord::from_fields(alloc, fields)?;
+    let Some(query) = read_question(alloc, index.schema(), &fields)? else {
+        return Err(Refusal::BadQuery);
+    };
+    let Some(by) = index.schema().find(name) else {
+        return Err(Refusal::BadQuery);
+    };
+    match group_by(alloc, index, &query, by, groups.len()) {
+        Ok(made) => {
+            write_groups(&made, groups);
+            *count = made.len();
+            Ok(())
+        }
+        Err(GroupError::TooMany) => Err(Refusal::NoRoom),
+        Err(GroupError::NoMemory) => Err(Refusal::NoMemory),
+        // By the proof this never is, since the columns of a query that was read are there, and so is that of a name.
+        Err(GroupError::BadColumn(_)) => Err(Refusal::BadQuery),
+    }
+}
+
+/// Writes groups, for which there is room.
+fn write_groups(made: &[Group], groups: &mut [FlatGroup])
+    requires { length made.now ≤ length groups.old }
+    ensures made { AllZip IsFlatGroup made.now (take (length made.now) groups.new) }
+    ensures long { length groups.new ≡ length groups.old }
+    ensures rest { drop (length made.now) groups.new ≡ drop (length made.now) groups.old }
+{
+    'groups: for (at, group) in made.iter().enumerate() {
+        groups[at] = flat_of(group);
+    }
+}
+
+/// Returns a group as C has it.
+fn flat_of(group: &Group) -> FlatGroup
+    ensures { IsFlatGroup group.now result }
+{
+    let mut answer = UNWRITTEN;
+    let mut no_places: [Place; 0] = [];
+    // Where rows have no place, their count is written.
+    let _ = write(&group.answer, &mut answer, &mut no_places);
+    match group.entry {
+        Some(entry) => FlatGroup {
+            present: true,
+            entry,
+            answer,
+        },
+        None => FlatGroup {
+            present: false,
+            entry: 0,
+            answer,
+        },
+    }
+}
