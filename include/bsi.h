@@ -115,8 +115,9 @@ uint32_t bsi_open(bsi_index *index, const uint8_t *schema, size_t schema_len, ui
 uint32_t bsi_append(bsi_index *index, uint32_t feeder, const bsi_column *columns, size_t columns_len, uint64_t *row);
 
 /* Answers a query, given as the fields of a query record: {"count", "price", "<", "100"}, or of a rank, from 0:
- * {"rank", "price", "9", "all"}. Rows go to places, as many as the answer has; at BSI_NO_ROOM the answer is BSI_ROWS, and
- * its count says how many places are needed. */
+ * {"rank", "price", "9", "all"}. A comparison may have the name of another column in place of the number: {"count", "price",
+ * "<", "cost"}. Rows go to places, as many as the answer has; at BSI_NO_ROOM the answer is BSI_ROWS, and its count says how
+ * many places are needed. */
 uint32_t bsi_ask(bsi_index *index, const bsi_text *fields, size_t fields_len, bsi_answer *answer, bsi_place *places,
                  size_t places_len);
 

@@ -9,11 +9,13 @@ pub mod EntriesFrom
 pub mod EntryReads
 pub mod FromBitmaps
 pub mod FromDigits
+pub mod NumberBlocks
 pub mod PieceLists
 pub mod Rungs
 pub mod SpanAnswers
 pub mod SpanParts
 pub use Rattle.bsi_slices.proofs.Adding
+pub use Rattle.bsi_slices.proofs.BlockNumbers
 pub use Rattle.bsi_slices.proofs.CallerLemmas
 pub use Rattle.bsi_slices.proofs.EndSpans
 pub use Rattle.bsi_slices.proofs.EndRows

@@ -3,8 +3,9 @@
 //! An index keeps its columns as this type, so `keep_selected` is no call of the trait `Column`: a user's own column is
 //! asked by `compare`.
 
-ghost use Rattle.std.specs.Prelude.{◌≡◌, ◌↔◌, ◌+◌, ◌≤◌, is_none, length, IfOk, IsOk, IsTrue};
-ghost use Rattle.bsi_bits.specs.BitList.{word_count};
+ghost use Rattle.std.specs.Prelude.{◌≡◌, ◌↔◌, ◌+◌, ◌*◌, ◌<◌, ◌≤◌, is_none, length, IfOk, IsOk, IsTrue};
+ghost use Rattle.bsi_bits.specs.BitList.{max_block, word_count};
+ghost use Rattle.bsi_slices.specs.Blocks.{AreNumbersFrom};
 ghost use Rattle.bsi_slices.specs.Spans.{KeepsRows};
 ghost use Rattle.bsi_columns.specs.AnyRows.{any_entries, any_form, any_room, size_in_form, AnyForm};
 ghost use Rattle.bsi_columns.specs.Places.{bits_each, column_bitmaps};
@@ -16,7 +17,7 @@ use crate::bitmaps::bitmaps_of_slices;
 use crate::{
     Column, Decomposed, EqualityComponent, MAX_SPAN_WORDS, NoMemory, Op, RangeComponent, Slices,
 };
-use bsi_bits::Bits;
+use bsi_bits::{Bits, MAX_BLOCK};
 use bsi_words::spans::drop_in;
 use std::alloc::Global;
 
@@ -44,6 +45,20 @@ impl AnyColumn {
             AnyColumn::Slices(column) => column.keep_selected(op, constant, at, span),
             AnyColumn::Equality(column) => column.keep_selected(op, constant, at, span),
             AnyColumn::Range(column) => column.keep_selected(op, constant, at, span),
+        }
+    }
+
+    /// Writes the numbers of the 64 rows from row `64 * at` on, and 0 for a null. What it writes past the last row is
+    /// unspecified. It takes no memory.
+    pub fn numbers_into(&self, at: usize, numbers: &mut [u64; MAX_BLOCK])
+        requires { at < word_count (length (any_entries self.now)) }
+        ensures long { length numbers.new ≡ max_block }
+        ensures numbers { AreNumbersFrom (any_entries self.now) (64 * at) numbers.new }
+    {
+        match self {
+            AnyColumn::Slices(column) => column.numbers_into(at, numbers),
+            AnyColumn::Equality(column) => column.numbers_into(at, numbers),
+            AnyColumn::Range(column) => column.numbers_into(at, numbers),
         }
     }
 

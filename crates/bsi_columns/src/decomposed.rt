@@ -20,6 +20,7 @@ use std::marker::Model;
 mod compare;
 mod ends;
 mod narrowing;
+mod numbers;
 mod totals;
 mod vectors;
 

@@ -8,6 +8,7 @@ pub mod EqualityReads
 pub mod FoundDigits
 pub mod PlaceCounts
 pub mod PlaceNumbers
+pub mod PlaceReads
 pub mod RangeDigits
 pub mod RangeReads
 pub mod RankSearch

@@ -1,6 +1,8 @@
 //! Components by the binary places of their digits: what each place is, and the component that is made of all of them.
 
-ghost use Rattle.std.specs.Prelude.{◌≡◌, ℕ, ◌<◌, length, map, slice_index, IfNone, IfOk, IfSome, OnSome};
+ghost use Rattle.std.specs.Prelude.{◌≡◌, ℕ, ◌+◌, ◌*◌, ◌<◌, ◌==◌, length, map, slice_index, IfNone, IfOk, IfSome, OnSome};
+ghost use Rattle.std.specs.Int.{bit_at};
+ghost use Rattle.bsi_bits.specs.BitList.{max_block, word_count};
 ghost use Rattle.bsi_digits.specs.Digits.{IsBase};
 ghost use Rattle.bsi_words.specs.Places.{has_place};
 ghost use Rattle.bsi_components.specs.PlaceNumbers.{numbers_in, place_count, AreLevel, HasPast};
@@ -15,6 +17,14 @@ pub trait BinaryPlaces: Encoding {
         requires within { k < place_count (Self.base_of self.now) }
         requires same { length (Self.digits self.now) ≡ length out.old.bits }
         ensures { out.new.bits ≡ map (has_place k) (Self.digits self.now) };
+
+    /// Returns for the 64 rows from row `64 * at` on whether binary place `k` of their digit is 1, row `64 * at + r` in bit
+    /// `r`. A bit past the last row is unspecified.
+    fn place_word(&self, k: usize, at: usize) -> u64
+        requires within { k < place_count (Self.base_of self.now) }
+        requires there { at < word_count (length (Self.digits self.now)) }
+        ensures { (r : ℕ) → r < max_block → 64 * at + r < length (Self.digits self.now) →
+            (bit_at result r == 1) ≡ has_place k (slice_index (Self.digits self.now) (64 * at + r)) };
 
     /// Makes the component of the digits whose binary places these are, the least first, or none if a digit is not
     /// below the base.

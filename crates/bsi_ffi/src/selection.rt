@@ -11,7 +11,7 @@ ghost use Rattle.bsi_ffi.specs.Calls.{IsMasked, LeavesWords};
 use crate::opened::Opened;
 use crate::refusal::Refusal;
 use bsi_bits::Bits;
-use bsi_records::read_query;
+use bsi_records::read_question;
 use bsi_table::{AskError, NoMemory, Pred, Schema};
 use csv::ByteRecord;
 use std::alloc::Global;
@@ -49,7 +49,7 @@ fn read_predicate(
         (IsReadAs (IsPredicate schema.now (map (λ f. f.now) fields.now))) }
 {
     let counted = count_record(alloc, fields)?;
-    let Some(query) = read_query(alloc, schema, &counted)? else {
+    let Some(query) = read_question(alloc, schema, &counted)? else {
         return Ok(None);
     };
     Ok(Some(query.pred))

@@ -1,5 +1,5 @@
 -- Whole numbers in their order, and what comparisons and totals say of them.
-use Rattle.std.specs.Prelude.{ℤ, pos, ◌+ℤ◌, Bool, List, [], ◌∷◌, Option, ◌&&◌, int_lt, int_le}
+use Rattle.std.specs.Prelude.{ℤ, pos, ◌+ℤ◌, Bool, false, List, [], ◌∷◌, Option, Some, None, ◌&&◌, int_lt, int_le}
 use Rattle.bsi_orders.specs.Orders.{Order, selects_by, IsLeastBy, IsGreatestBy, IsLowerMedianBy, IsNoneOr}
 use Rattle.bsi_orders.specs.declared.op.Op.{Op}
 
@@ -10,6 +10,11 @@ signed_order = record { same = λ x y. int_le x y && int_le y x; below = int_lt;
 -- the entry is not a null, and its number compares so with the constant
 abbrev pub signed_selects : Op → ℤ → Option ℤ → Bool
 signed_selects = selects_by signed_order
+
+-- neither entry is a null, and the number of the first compares so with that of the second
+abbrev pub signed_relates : Op → Option ℤ → Option ℤ → Bool
+signed_relates op entry None = false
+signed_relates op entry (Some n) = signed_selects op n entry
 
 unfoldable pub signed_sum : List ℤ → ℤ
 signed_sum [] = pos 0

@@ -32,7 +32,7 @@ use Rattle.bsi_records.specs.Events.{IsEvent, IsQuery, feeder_event, plain_event
 use Rattle.bsi_records.specs.Lines.{answer_line, ask_line, bad_line, done_line, no_memory_line, reply_line, rows_text}
 use Rattle.bsi_records.specs.Numbers.{Field, feeder_of, values_in}
 use Rattle.bsi_reading.specs.Pasts.{FindMemory}
-use Rattle.bsi_records.specs.Predicates.{IsPredicate}
+use Rattle.bsi_records.specs.Predicates.{IsPlainPredicate}
 use Rattle.bsi_reading.specs.Scripts.{AreTurns, Declaring, IsTurn, Running, Phase, set_up}
 use Rattle.bsi_records.specs.Setups.{nothing_declared}
 use Rattle.bsi_reading.proofs.Named.{HasNames, turn_named}
@@ -190,7 +190,7 @@ plain_no_query schema (word ∷ feeder ∷ rest) e is = no_query_of schema word 
 
 not_both : (schema : Declared) (fields : List Field) (e : Event) (query : Query) → plain_event schema fields ≡ Some e → IsQuery schema fields query → ⊥
 not_both schema fields e query is asked =
-    subst (λ found. MatchOption found ⊥ (λ f. (query.total ≡ f.0) × IsPredicate schema f.1 query.pred)) (plain_no_query schema fields e is) asked
+    subst (λ found. MatchOption found ⊥ (λ f. (query.total ≡ f.0) × IsPlainPredicate schema f.1 query.pred)) (plain_no_query schema fields e is) asked
 
 -- ---- a turn
 

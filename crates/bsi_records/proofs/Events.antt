@@ -7,7 +7,7 @@ use Rattle.bsi_rows.specs.declared.event.Event.TheVariants.{Submit, Load, Close,
 use Rattle.bsi_schema.specs.Columns.{Declared}
 use Rattle.bsi_rows.specs.declared.query.Query.{Query}
 use Rattle.bsi_records.specs.Events.{IsEvent, IsQuery, feeder_event, only_feeder, plain_event, total_of}
-use Rattle.bsi_records.specs.Predicates.{IsPredicate}
+use Rattle.bsi_records.specs.Predicates.{IsPlainPredicate}
 use Rattle.bsi_records.specs.Numbers.{Field, feeder_of, values_in}
 use Rattle.bsi_records.specs.Reading.{IsReadAs}
 use Rattle.bsi_records.proofs.Fields.{behind_word, no_field}
@@ -133,7 +133,7 @@ pub plain_read : (schema : Declared) (fields : List Field) → total_of schema f
 plain_read schema fields no_total read is = by read is
   where
     no_query : (query : Query) → IsQuery schema fields query → ⊥
-    no_query query asked = subst (λ o. MatchOption o ⊥ (λ found. (query.total ≡ found.0) × IsPredicate schema found.1 query.pred)) no_total asked
+    no_query query asked = subst (λ o. MatchOption o ⊥ (λ found. (query.total ≡ found.0) × IsPlainPredicate schema found.1 query.pred)) no_total asked
 
     none : plain_event schema fields ≡ None → (event : Event) → IsEvent schema fields event → ⊥
     none absent (Submit f row) is = none_is_some (Submit f row) (sym absent ∙ is)

@@ -1,7 +1,6 @@
 -- Questions of an index that is kept or held.
 use Rattle.std.proofs.Common.{◌≡◌, ℕ, Bool, true, false, if◌then◌else◌, List, [], ◌∷◌, drop, length, Option, Some, None, MatchOption, option_map, ap, sym, subst, ◌∙◌, refl, codes}
 use Rattle.std.specs.Option.{option_and_then}
-use Rattle.std.specs.Prelude.{IfOk, Result}
 use Rattle.std.specs.Str.{bytes_eq}
 use Rattle.csv.specs.Records.{field_at}
 use Rattle.bsi_rows.specs.Answers.{columns_of_pred, columns_of_total, missing_column, missing_of}
@@ -9,13 +8,12 @@ use Rattle.bsi_rows.specs.declared.query.Query.{Query}
 use Rattle.bsi_rows.specs.declared.query.Total.{Total}
 use Rattle.bsi_rows.specs.declared.query.Total.TheVariants.{Rank}
 use Rattle.bsi_schema.specs.Columns.{Declared, position_of}
-use Rattle.bsi_records.specs.Events.{total_of, IsQuery}
+use Rattle.bsi_records.specs.Events.{total_of}
 use Rattle.bsi_records.specs.Numbers.{Field, spelled_number}
 use Rattle.bsi_records.specs.Predicates.{IsPredicate}
 use Rattle.bsi_records.specs.Questions.{asked_total, rank_total, IsQuestion}
-use Rattle.bsi_records.specs.Reading.{IsReadAs}
 use Rattle.bsi_records.proofs.SpellWords.{if_same, mapped, none_is_some, some_same}
-use Rattle.bsi_records.proofs.Spelling.{neither_missing, none_missing, not_missing, total_there}
+use Rattle.bsi_records.proofs.Spelling.{AsksBy, neither_missing, none_missing, not_missing, total_there}
 use Rattle.std.proofs.lemmas.Option.{option_and_then_some}
 
 -- ---- what the fields of a rank are
@@ -58,15 +56,12 @@ a_rank place number c rank rest at is = ap (λ n. found_rank (Some c) n rest) is
 
 -- ---- which word stands first
 
-abbrev Asks : Declared → Option (Total × List Field) → Query → Type 0
-Asks schema found query = MatchOption found ⊥ (λ (total, rest). (query.total ≡ total) × IsPredicate schema rest query.pred)
-
-pub no_word : (schema : Declared) (fields : List Field) → None ≡ field_at fields 0 → (query : Query) → IsQuestion schema fields query → ⊥
+pub no_word : (schema : Declared) (fields : List Field) → None ≡ field_at fields 0 → None ≡ asked_total schema fields
 unfolding field_at
-no_word schema [] none query is = is
-no_word schema (word ∷ fields) none query is = none_is_some word none
+no_word schema [] none = refl
+no_word schema (word ∷ fields) none = absurd (none_is_some word none)
 
-ranked_total : (schema : Declared) (fields : List Field) (word : Field) → Some word ≡ field_at fields 0 → bytes_eq word (codes "rank") ≡ true
+pub ranked_total : (schema : Declared) (fields : List Field) (word : Field) → Some word ≡ field_at fields 0 → bytes_eq word (codes "rank") ≡ true
     → rank_total schema (drop 1 fields) ≡ asked_total schema fields
 unfolding field_at
 ranked_total schema [] word at met = absurd (none_is_some word (sym at))
@@ -74,22 +69,13 @@ ranked_total schema (f ∷ fields) word at met =
     let same : bytes_eq f (codes "rank") ≡ true = ap (λ w. bytes_eq w (codes "rank")) (sym (some_same word f at)) ∙ met in
     rw same refl
 
-other_total : (schema : Declared) (fields : List Field) (word : Field) → Some word ≡ field_at fields 0 → bytes_eq word (codes "rank") ≡ false
+pub other_total : (schema : Declared) (fields : List Field) (word : Field) → Some word ≡ field_at fields 0 → bytes_eq word (codes "rank") ≡ false
     → total_of schema fields ≡ asked_total schema fields
 unfolding field_at
 other_total schema [] word at apart = absurd (none_is_some word (sym at))
 other_total schema (f ∷ fields) word at apart =
     let same : bytes_eq f (codes "rank") ≡ false = ap (λ w. bytes_eq w (codes "rank")) (sym (some_same word f at)) ∙ apart in
     rw same refl
-
--- what is read as a rank, or as a query, is read as a question
-pub read_ranking : {E : Type 0} (schema : Declared) (fields : List Field) (word : Field) (read : Result (Option Query) E) → Some word ≡ field_at fields 0 → bytes_eq word (codes "rank") ≡ true
-    → IfOk read (IsReadAs (Asks schema (rank_total schema (drop 1 fields)))) → IfOk read (IsReadAs (IsQuestion schema fields))
-read_ranking {E} schema fields word read at met is = subst (λ found. IfOk read (IsReadAs (Asks schema found))) (ranked_total schema fields word at met) is
-
-pub read_query : {E : Type 0} (schema : Declared) (fields : List Field) (word : Field) (read : Result (Option Query) E) → Some word ≡ field_at fields 0 → bytes_eq word (codes "rank") ≡ false
-    → IfOk read (IsReadAs (IsQuery schema fields)) → IfOk read (IsReadAs (IsQuestion schema fields))
-read_query {E} schema fields word read at apart is = subst (λ found. IfOk read (IsReadAs (Asks schema found))) (other_total schema fields word at apart) is
 
 -- ---- the columns that a question reads
 
@@ -117,7 +103,7 @@ asked_there schema (word ∷ rest) found is = by (bytes_eq word (codes "rank")) 
 pub question_is_there : (schema : Declared) (fields : List Field) (query : Query) → IsQuestion schema fields query → missing_column (length schema.columns) query ≡ None
 question_is_there schema fields query is = by (asked_total schema fields) refl is
   where
-    by : (found : Option (Total × List Field)) → asked_total schema fields ≡ found → Asks schema found query → missing_column (length schema.columns) query ≡ None
+    by : (found : Option (Total × List Field)) → asked_total schema fields ≡ found → AsksBy (IsPredicate schema) found query → missing_column (length schema.columns) query ≡ None
     by None at none = absurd none
     by (Some found) at parts =
         neither_missing (length schema.columns) (columns_of_total query.total) (columns_of_pred query.pred)

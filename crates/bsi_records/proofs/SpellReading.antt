@@ -1,17 +1,18 @@
 -- Fields are read as the predicate that they spell, and as no other.
-use Rattle.std.proofs.Common.{◌≡◌, ℕ, Bool, true, false, List, [], ◌∷◌, ◌++◌, ◌-◌, ◌<◌, ◌≤◌, length, length-drop, drop, arith, Option, Some, None, option_map, option_and_then, ap, sym, ◌∙◌, refl, append_assoc, codes, subst}
+use Rattle.std.proofs.Common.{◌≡◌, ℕ, Bool, true, false, List, [], ◌∷◌, ◌++◌, ◌-◌, ◌<◌, ◌≤◌, length, length-drop, drop, arith, Option, Some, None, option_map, option_and_then, ℤ, ap, ap₂, sym, ◌∙◌, refl, append_assoc, codes, subst}
 use Rattle.std.proofs.lemmas.List.{append-nil}
+use Rattle.std.specs.Option.{option_or}
 use Rattle.std.proofs.lemmas.Option.{option_and_then_some}
 use Rattle.bsi_orders.specs.declared.op.Op.{Op}
 use Rattle.bsi_schema.specs.Columns.{AreNamed, Declared, position_of}
-use Rattle.bsi_rows.specs.declared.query.Pred.{Pred, All, Compare, Null, Both', Either', Not'}
+use Rattle.bsi_rows.specs.declared.query.Pred.{Pred, All, Compare, Columns, Null, Both', Either', Not'}
 use Rattle.bsi_records.specs.declared.predicates.Pending.{Pending}
 use Rattle.bsi_records.specs.declared.predicates.Pending.TheVariants.{Nothing, Column, Comparison}
 use Rattle.bsi_records.specs.Numbers.{Field, number_in}
 use Rattle.bsi_records.specs.Postfix.{after_field, after_fields, after_name, after_sign, after_word, begun, joined, joint, negated, newest_first, nowhere, only_of, op_of, plain, ready, State}
 use Rattle.bsi_records.specs.Predicates.{IsPredicate, sign_of, Spells}
 use Rattle.bsi_records.specs.Reading.{IsReadAs}
-use Rattle.bsi_records.proofs.SpellWords.{if_same, mapped, name_leads, none_is_some, read_is_sign, sign_leads, some_same}
+use Rattle.bsi_records.proofs.SpellWords.{if_same, mapped, name_begins, name_leads, no_number, none_is_some, read_is_sign, sign_leads, some_same}
 
 -- one more field
 field_leads : (schema : Declared) (field : Field) (rest : List Field) (pending next : Pending) (stack after : List Pred)
@@ -31,11 +32,20 @@ unfolding Spells
 spelled_leads schema All fields rest stack named spelled =
     ap (λ f. after_fields schema (f ++ rest) Nothing stack) spelled ∙ field_leads schema (codes "all") rest Nothing Nothing stack (All ∷ stack) refl
 spelled_leads schema (Compare c op n) fields rest stack named spelled =
-    let number : after_field schema (Comparison c op) stack spelled.1 ≡ Some (Nothing, Compare c op n ∷ stack) = ap (option_map (λ n. (Nothing, Compare c op n ∷ stack))) spelled.4 in
+    let number : after_field schema (Comparison c op) stack spelled.1 ≡ Some (Nothing, Compare c op n ∷ stack) =
+    ap (λ found. option_or (option_map (λ n. (Nothing, Compare c op n ∷ stack)) found) (option_map (λ other. (Nothing, Columns c op other ∷ stack)) (position_of schema.columns spelled.1))) spelled.4 in
     ap (λ f. after_fields schema (f ++ rest) Nothing stack) spelled.2
     ∙ field_leads schema spelled.0 (sign_of op ∷ spelled.1 ∷ rest) Nothing (Column c) stack stack (name_leads schema spelled.0 c stack named spelled.3)
     ∙ field_leads schema (sign_of op) (spelled.1 ∷ rest) (Column c) (Comparison c op) stack stack (sign_leads op c stack)
     ∙ field_leads schema spelled.1 rest (Comparison c op) Nothing stack (Compare c op n ∷ stack) number
+spelled_leads schema (Columns a op b) fields rest stack named spelled =
+    let other : after_field schema (Comparison a op) stack spelled.1 ≡ Some (Nothing, Columns a op b ∷ stack) =
+    ap₂ (λ number place. option_or (option_map (λ n. (Nothing, Compare a op n ∷ stack)) number) (option_map (λ other. (Nothing, Columns a op other ∷ stack)) place))
+    (no_number schema.signed spelled.1 (name_begins schema.columns spelled.1 b named spelled.4)) spelled.4 in
+    ap (λ f. after_fields schema (f ++ rest) Nothing stack) spelled.2
+    ∙ field_leads schema spelled.0 (sign_of op ∷ spelled.1 ∷ rest) Nothing (Column a) stack stack (name_leads schema spelled.0 a stack named spelled.3)
+    ∙ field_leads schema (sign_of op) (spelled.1 ∷ rest) (Column a) (Comparison a op) stack stack (sign_leads op a stack)
+    ∙ field_leads schema spelled.1 rest (Comparison a op) Nothing stack (Columns a op b ∷ stack) other
 spelled_leads schema (Null c) fields rest stack named spelled =
     ap (λ f. after_fields schema (f ++ rest) Nothing stack) spelled.1
     ∙ field_leads schema spelled.0 (codes "null" ∷ rest) Nothing (Column c) stack stack (name_leads schema spelled.0 c stack named spelled.2)
@@ -132,12 +142,23 @@ name_read schema fields c stack field state read is =
     (read.0, read.1, behind fields read.0 read.1 field read.2 ∙ ap (λ s. read.0 ++ read.1 ∷ s ∷ []) (read_is_sign field op sign), read.3, read.4)
 
 number_read : (schema : Declared) (fields : List Field) (c : ℕ) (op : Op) (stack : List Pred) (field : Field) (state : State) → AreRead schema fields (Comparison c op) stack
-    → after_sign schema.signed c op stack field ≡ Some state → AreRead schema (fields ++ field ∷ []) state.0 state.1
+    → after_sign schema c op stack field ≡ Some state → AreRead schema (fields ++ field ∷ []) state.0 state.1
 unfolding Spells
-number_read schema fields c op stack field state read is =
-    mapped (λ n. (Nothing, Compare c op n ∷ stack)) (number_in schema.signed field) state is λ n number found.
-    reached schema (fields ++ field ∷ []) Nothing (Compare c op n ∷ stack) state found
-    (read.0, read.1 ∷ sign_of op ∷ field ∷ [], ap (λ f. f ++ field ∷ []) read.2 ∙ append_assoc read.0 (read.1 ∷ sign_of op ∷ []) (field ∷ []), read.4, (read.1, field, refl, read.3, number))
+number_read schema fields c op stack field state read is = by (number_in schema.signed field) refl is
+  where
+    whole : fields ++ field ∷ [] ≡ read.0 ++ read.1 ∷ sign_of op ∷ field ∷ []
+    whole = ap (λ f. f ++ field ∷ []) read.2 ∙ append_assoc read.0 (read.1 ∷ sign_of op ∷ []) (field ∷ [])
+
+    by : (found : Option ℤ) → number_in schema.signed field ≡ found
+        → option_or (option_map (λ n. (Nothing, Compare c op n ∷ stack)) found) (option_map (λ other. (Nothing, Columns c op other ∷ stack)) (position_of schema.columns field)) ≡ Some state
+        → AreRead schema (fields ++ field ∷ []) state.0 state.1
+    by (Some n) number found =
+        reached schema (fields ++ field ∷ []) Nothing (Compare c op n ∷ stack) state found
+        (read.0, read.1 ∷ sign_of op ∷ field ∷ [], whole, read.4, (read.1, field, refl, read.3, number))
+    by None none is =
+        mapped (λ other. (Nothing, Columns c op other ∷ stack)) (position_of schema.columns field) state is λ other place found.
+        reached schema (fields ++ field ∷ []) Nothing (Columns c op other ∷ stack) state found
+        (read.0, read.1 ∷ sign_of op ∷ field ∷ [], whole, read.4, (read.1, field, refl, read.3, place))
 
 field_read : (schema : Declared) (fields : List Field) (pending : Pending) (stack : List Pred) (field : Field) (state : State) → AreRead schema fields pending stack
     → after_field schema pending stack field ≡ Some state → AreRead schema (fields ++ field ∷ []) state.0 state.1
@@ -160,6 +181,7 @@ spelled_anywhere : (schema : Declared) (P : Pred) (fields : List Field) → Spel
 unfolding Spells
 spelled_anywhere schema All fields spelled = spelled
 spelled_anywhere schema (Compare c op n) fields spelled = spelled
+spelled_anywhere schema (Columns a op b) fields spelled = spelled
 spelled_anywhere schema (Null c) fields spelled = spelled
 spelled_anywhere schema (Both' p first q second) fields spelled =
     (spelled.0, spelled.1, spelled.2, spelled_anywhere schema first spelled.0 spelled.3, spelled_anywhere schema second spelled.1 spelled.4)

@@ -1,8 +1,8 @@
 -- Which queries and predicates fields spell.
-use Rattle.std.proofs.Common.{◌≡◌, ◌⊎◌, nat_le, codes, if◌then◌else◌, option_map, inl, inr, ℕ, false, not, ◌&&◌, ◌||◌, List, [], ◌∷◌, ◌++◌, length, Option, Some, None, MatchOption, ap, ap₂, sym, ◌∙◌, refl, subst, arith}
+use Rattle.std.proofs.Common.{◌≡◌, true≢false, true, ◌⊎◌, nat_le, codes, if◌then◌else◌, option_map, inl, inr, ℕ, false, not, ◌&&◌, ◌||◌, List, [], ◌∷◌, ◌++◌, length, Option, Some, None, MatchOption, ap, ap₂, sym, ◌∙◌, refl, subst, arith}
 use Rattle.std.specs.Option.{option_or}
 use Rattle.std.specs.Str.{bytes_eq}
-use Rattle.std.proofs.lemmas.Bool.{cases_lt}
+use Rattle.std.proofs.lemmas.Bool.{cases_Bool, cases_lt}
 use Rattle.std.proofs.lemmas.Bool.Decides.{nat_tests}
 use Rattle.std.proofs.lemmas.List.Folds.{find-append}
 use Rattle.std.proofs.lemmas.List.Quantifiers.{position-Some}
@@ -10,7 +10,7 @@ use Rattle.std.proofs.lemmas.Option.{option_and_then_some}
 use Rattle.bsi_rows.specs.Answers.{columns_of_pred, columns_of_total, missing_column, missing_of}
 use Rattle.bsi_schema.specs.Columns.{AreNamed, Declared, NamedColumn, no_column, position_of}
 use Rattle.bsi_rows.specs.Rows.{Entries, holds}
-use Rattle.bsi_rows.specs.declared.query.Pred.{Pred, All, Compare, Null, Both', Either', Not'}
+use Rattle.bsi_rows.specs.declared.query.Pred.{Pred, All, Compare, Columns, Null, Both', Either', Not'}
 use Rattle.bsi_rows.specs.declared.query.Query.{Query}
 use Rattle.bsi_rows.specs.declared.query.Total.{Total}
 use Rattle.bsi_rows.specs.declared.query.Total.TheVariants.{Count, Sum, Least, Greatest, Median, Rows}
@@ -19,7 +19,7 @@ use Rattle.bsi_records.specs.declared.predicates.Pending.TheVariants.{Nothing, C
 use Rattle.bsi_records.specs.Events.{column_total, total_of, total_of_column, IsQuery}
 use Rattle.bsi_records.specs.Numbers.{Field}
 use Rattle.bsi_records.specs.Postfix.{after_fields, begun, plain, ready, State}
-use Rattle.bsi_records.specs.Predicates.{IsPredicate, Spells}
+use Rattle.bsi_records.specs.Predicates.{compares_columns, IsPlainPredicate, IsPredicate, Spells}
 use Rattle.bsi_records.proofs.SpellReading.{is_read, is_spelled, only_at}
 use Rattle.bsi_records.proofs.SpellTotals.{with}
 use Rattle.bsi_records.proofs.SpellWords.{if_same, mapped, none_is_some, some_same}
@@ -28,24 +28,23 @@ use Rattle.bsi_records.proofs.SpellWords.{if_same, mapped, none_is_some, some_sa
 abbrev pub with_rest : Total → List Field → Option (Total × List Field)
 with_rest total rest = Some (total, rest)
 
--- no total, no query
-pub no_total_query : (schema : Declared) (fields : List Field) → None ≡ total_of schema fields → (query : Query) → IsQuery schema fields query → ⊥
-no_total_query schema fields none query is =
-    subst (λ (found : Option (Total × List Field)). MatchOption found ⊥ (λ found. (query.total ≡ found.0) × IsPredicate schema found.1 query.pred)) (sym none) is
+-- a record asks for a total that was found, over the rows of a predicate that its other fields are
+abbrev pub AsksBy : (List Field → Pred → Type 0) → Option (Total × List Field) → Query → Type 0
+AsksBy Is found query = MatchOption found ⊥ (λ (total, rest). (query.total ≡ total) × Is rest query.pred)
 
--- a total and no predicate, no query
-pub no_predicate_query : (schema : Declared) (fields rest : List Field) (total : Total) → with_rest total rest ≡ total_of schema fields
-    → ((P : Pred) → IsPredicate schema rest P → ⊥) → (query : Query) → IsQuery schema fields query → ⊥
-no_predicate_query schema fields rest total at none query is =
-    let found : MatchOption (with_rest total rest) ⊥ (λ found. (query.total ≡ found.0) × IsPredicate schema found.1 query.pred) =
-    subst (λ (found : Option (Total × List Field)). MatchOption found ⊥ (λ found. (query.total ≡ found.0) × IsPredicate schema found.1 query.pred)) (sym at) is in
-    none query.pred found.1
+module _ (Is : List Field → Pred → Type 0) (found : Option (Total × List Field)) where
+  -- no total, no query
+  pub no_total_query : None ≡ found → (query : Query) → AsksBy Is found query → ⊥
+  no_total_query none query is = subst (λ found. AsksBy Is found query) (sym none) is
 
--- a total and a predicate are a query
-pub is_query : (schema : Declared) (fields rest : List Field) (query : Query) → with_rest query.total rest ≡ total_of schema fields
-    → IsPredicate schema rest query.pred → IsQuery schema fields query
-is_query schema fields rest query at is =
-    subst (λ (found : Option (Total × List Field)). MatchOption found ⊥ (λ found. (query.total ≡ found.0) × IsPredicate schema found.1 query.pred)) at (refl, is)
+  -- a total and no predicate, no query
+  pub no_predicate_query : (total : Total) (rest : List Field) → with_rest total rest ≡ found → ((P : Pred) → Is rest P → ⊥) → (query : Query) → AsksBy Is found query → ⊥
+  no_predicate_query total rest at none query is =
+      let both : (query.total ≡ total) × Is rest query.pred = subst (λ found. AsksBy Is found query) (sym at) is in none query.pred both.1
+
+  -- a total and a predicate are a query
+  pub is_query : (query : Query) (rest : List Field) → with_rest query.total rest ≡ found → Is rest query.pred → AsksBy Is found query
+  is_query query rest at is = subst (λ found. AsksBy Is found query) at (refl, is)
 
 -- whether some predicate is spelled
 alone : (pending : Pending) (stack : List Pred) → ((P : Pred) × (begun pending stack ≡ ready (P ∷ []))) ⊎ ((P : Pred) → begun pending stack ≡ ready (P ∷ []) → ⊥)
@@ -77,6 +76,7 @@ same_plain schema named fields P Q one two =
 holds_plain : (P : Pred) (row : Entries) → holds (plain P) row ≡ holds P row
 holds_plain All row = refl
 holds_plain (Compare c op n) row = refl
+holds_plain (Columns a op b) row = refl
 holds_plain (Null c) row = refl
 holds_plain (Both' p first q second) row = ap₂ (λ a b. a && b) (holds_plain first row) (holds_plain second row)
 holds_plain (Either' p first q second) row = ap₂ (λ a b. a || b) (holds_plain first row) (holds_plain second row)
@@ -103,6 +103,8 @@ pub none_missing : (schema : Declared) (fields : List Field) (P : Pred) → Spel
 unfolding Spells
 none_missing schema fields All spelled = refl
 none_missing schema fields (Compare c op n) spelled = not_missing schema.columns spelled.0 c spelled.3
+none_missing schema fields (Columns a op b) spelled =
+    neither_missing (length schema.columns) (a ∷ []) (b ∷ []) (not_missing schema.columns spelled.0 a spelled.3) (not_missing schema.columns spelled.1 b spelled.4)
 none_missing schema fields (Null c) spelled = not_missing schema.columns spelled.0 c spelled.2
 none_missing schema fields (Both' p first q second) spelled =
     neither_missing _ (columns_of_pred first) (columns_of_pred second) (none_missing schema spelled.0 first spelled.3) (none_missing schema spelled.1 second spelled.4)
@@ -120,23 +122,55 @@ predicate_or_not schema named fields = elim (cases_lt 1000 (length fields)) [
   ]
 ]
 
+-- wherever its boxes lie, a predicate compares columns or not
+compares_plain : (P : Pred) → compares_columns (plain P) ≡ compares_columns P
+compares_plain All = refl
+compares_plain (Compare c op n) = refl
+compares_plain (Columns a op b) = refl
+compares_plain (Null c) = refl
+compares_plain (Both' p first q second) = ap₂ (λ a b. a || b) (compares_plain first) (compares_plain second)
+compares_plain (Either' p first q second) = ap₂ (λ a b. a || b) (compares_plain first) (compares_plain second)
+compares_plain (Not' p pred) = compares_plain pred
+
+-- where one that is spelled compares columns, each that the same fields spell does
+pub not_plain : (schema : Declared) → AreNamed schema.columns → (fields : List Field) (P : Pred) → IsPredicate schema fields P → compares_columns P ≡ true
+    → (Q : Pred) → IsPlainPredicate schema fields Q → ⊥
+not_plain schema named fields P is compares Q other =
+    let same : compares_columns P ≡ compares_columns Q =
+    sym (compares_plain P) ∙ ap compares_columns (same_plain schema named fields P Q is.1 other.0.1) ∙ compares_plain Q in
+    true≢false (sym compares ∙ same ∙ other.1)
+
+-- whether the fields are a predicate without such a comparison
+plain_or_not : (schema : Declared) → AreNamed schema.columns → (fields : List Field)
+    → ((P : Pred) × IsPlainPredicate schema fields P) ⊎ ((P : Pred) → IsPlainPredicate schema fields P → ⊥)
+plain_or_not schema named fields = elim (predicate_or_not schema named fields) [
+  | inr none ↦ inr (λ P is. none P is.0)
+  | inl found ↦ elim (cases_Bool (compares_columns found.0)) [
+    | inl compares ↦ inr (not_plain schema named fields found.0 found.1 compares)
+    | inr plain ↦ inl (found.0, (found.1, plain))
+  ]
+]
+
 -- whether the fields are a query
 pub query_or_not : (schema : Declared) → AreNamed schema.columns → (fields : List Field) → ((query : Query) × IsQuery schema fields query) ⊎ ((query : Query) → IsQuery schema fields query → ⊥)
 query_or_not schema named fields = by (total_of schema fields) refl
   where
+    Is : List Field → Pred → Type 0
+    Is rest P = IsPlainPredicate schema rest P
+
     by : (found : Option (Total × List Field)) → found ≡ total_of schema fields → ((query : Query) × IsQuery schema fields query) ⊎ ((query : Query) → IsQuery schema fields query → ⊥)
-    by None is = inr (no_total_query schema fields is)
-    by (Some found) is = elim (predicate_or_not schema named found.1) [
-      | inl that ↦ inl (record { total = found.0; pred = that.0 }, is_query schema fields found.1 (record { total = found.0; pred = that.0 }) is that.1)
-      | inr none ↦ inr (no_predicate_query schema fields found.1 found.0 is none)
+    by None is = inr (no_total_query Is (total_of schema fields) is)
+    by (Some found) is = elim (plain_or_not schema named found.1) [
+      | inl that ↦ inl (record { total = found.0; pred = that.0 }, is_query Is (total_of schema fields) (record { total = found.0; pred = that.0 }) found.1 is that.1)
+      | inr none ↦ inr (no_predicate_query Is (total_of schema fields) found.0 found.1 is none)
     ]
 
 -- what a query says of the total that is found
 query_at : (schema : Declared) (fields : List Field) (query : Query) {G : Type 0} → IsQuery schema fields query
-    → ((found : Total × List Field) → total_of schema fields ≡ Some found → query.total ≡ found.0 → IsPredicate schema found.1 query.pred → G) → G
+    → ((found : Total × List Field) → total_of schema fields ≡ Some found → query.total ≡ found.0 → IsPlainPredicate schema found.1 query.pred → G) → G
 query_at schema fields query {G} is k = by (total_of schema fields) refl is
   where
-    by : (found : Option (Total × List Field)) → total_of schema fields ≡ found → MatchOption found ⊥ (λ found. (query.total ≡ found.0) × IsPredicate schema found.1 query.pred) → G
+    by : (found : Option (Total × List Field)) → total_of schema fields ≡ found → MatchOption found ⊥ (λ found. (query.total ≡ found.0) × IsPlainPredicate schema found.1 query.pred) → G
     by None at none = absurd none
     by (Some found) at parts = k found at parts.0 parts.1
 
@@ -148,7 +182,7 @@ same_query schema named fields first second one two =
     query_at schema fields second two λ other at_other total_other pred_other.
     let same : other ≡ found = some_same other found (sym at_other ∙ at) in (
       total ∙ ap (λ (f : Total × List Field). f.0) (sym same) ∙ sym total_other,
-      λ row. same_meaning schema named found.1 first.pred second.pred pred.1 (subst (λ (f : Total × List Field). Spells schema f.1 second.pred) same pred_other.1) row,
+      λ row. same_meaning schema named found.1 first.pred second.pred pred.0.1 (subst (λ (f : Total × List Field). Spells schema f.1 second.pred) same pred_other.0.1) row,
     )
 
 -- the column of a total is there
@@ -184,4 +218,4 @@ pub query_is_there : (schema : Declared) (fields : List Field) (query : Query) �
 query_is_there schema fields query is =
     query_at schema fields query is λ found at total pred.
     neither_missing (length schema.columns) (columns_of_total query.total) (columns_of_pred query.pred)
-    (ap (λ t. missing_of (length schema.columns) (columns_of_total t)) total ∙ total_there schema fields found at) (none_missing schema found.1 query.pred pred.1)
+    (ap (λ t. missing_of (length schema.columns) (columns_of_total t)) total ∙ total_there schema fields found at) (none_missing schema found.1 query.pred pred.0.1)

@@ -8,7 +8,7 @@ use Rattle.bsi_rows.specs.declared.query.Query.{Query}
 use Rattle.bsi_rows.specs.declared.query.Total.{Total}
 use Rattle.bsi_rows.specs.declared.query.Total.TheVariants.{Count, Sum, Least, Greatest, Median, Rows}
 use Rattle.bsi_records.specs.Numbers.{Field, feeder_of, values_in}
-use Rattle.bsi_records.specs.Predicates.{IsPredicate}
+use Rattle.bsi_records.specs.Predicates.{IsPlainPredicate}
 
 -- the total of a column that a word asks for
 abbrev pub total_of_column : Field → Option (ℕ → Total)
@@ -38,7 +38,7 @@ total_of schema (word ∷ rest) =
 -- the record asks for this query
 abbrev pub IsQuery : Declared → List Field → Query → Type 0
 IsQuery schema fields query =
-    MatchOption (total_of schema fields) ⊥ (λ (total, rest). (query.total ≡ total) × IsPredicate schema rest query.pred)
+    MatchOption (total_of schema fields) ⊥ (λ (total, rest). (query.total ≡ total) × IsPlainPredicate schema rest query.pred)
 
 -- the event of a record that names a feeder, by the fields after the feeder's
 abbrev pub feeder_event : Declared → Field → ℕ → List Field → Option Event

@@ -1,12 +1,13 @@
 -- Reading a predicate in postfix order, a field at a time.
 use Rattle.std.specs.Prelude.{ℕ, Bool, true, false, if◌then◌else◌, List, [], ◌∷◌, map, reverse, Option, Some, None, option_map, option_and_then, codes, Box}
+use Rattle.std.specs.Option.{option_or}
 use Rattle.std.specs.Ptr.{null_ptr}
 use Rattle.std.specs.Str.{bytes_eq}
 use Rattle.std.specs.declared.alloc.Global.{Global}
 use Rattle.bsi_orders.specs.declared.op.Op.{Op}
 use Rattle.bsi_orders.specs.declared.op.Op.TheVariants.{Eq, Ne, Lt, Le, Gt, Ge}
 use Rattle.bsi_schema.specs.Columns.{Declared, position_of}
-use Rattle.bsi_rows.specs.declared.query.Pred.{Pred, All, Compare, Null, Both', Either', Not'}
+use Rattle.bsi_rows.specs.declared.query.Pred.{Pred, All, Compare, Columns, Null, Both', Either', Not'}
 use Rattle.bsi_records.specs.declared.predicates.Pending.{Pending}
 use Rattle.bsi_records.specs.declared.predicates.Pending.TheVariants.{Nothing, Column, Comparison}
 use Rattle.bsi_records.specs.Numbers.{Field, number_in}
@@ -19,6 +20,7 @@ nowhere = record { ptr = null_ptr; alloc = record { memory = record { seal = tt 
 abbrev pub plain : Pred → Pred
 plain All = All
 plain (Compare c op n) = Compare c op n
+plain (Columns a op b) = Columns a op b
 plain (Null c) = Null c
 plain (Both' p first q second) = Both' nowhere (plain first) nowhere (plain second)
 plain (Either' p first q second) = Either' nowhere (plain first) nowhere (plain second)
@@ -82,15 +84,17 @@ after_name c stack field =
     if bytes_eq field (codes "null") then ready (Null c ∷ stack)
     else option_map (λ op. (Comparison c op, stack)) (op_of field)
 
--- after the field that follows a sign
-abbrev pub after_sign : Bool → ℕ → Op → List Pred → Field → Option State
-after_sign signed c op stack field = option_map (λ n. (Nothing, Compare c op n ∷ stack)) (number_in signed field)
+-- after the field that follows a sign: a number, or else a column's name
+abbrev pub after_sign : Declared → ℕ → Op → List Pred → Field → Option State
+after_sign schema c op stack field =
+    option_or (option_map (λ n. (Nothing, Compare c op n ∷ stack)) (number_in schema.signed field))
+    (option_map (λ other. (Nothing, Columns c op other ∷ stack)) (position_of schema.columns field))
 
 -- after one more field, none where no predicate goes on so
 abbrev pub after_field : Declared → Pending → List Pred → Field → Option State
 after_field schema Nothing stack field = after_word schema stack field
 after_field schema (Column c) stack field = after_name c stack field
-after_field schema (Comparison c op) stack field = after_sign schema.signed c op stack field
+after_field schema (Comparison c op) stack field = after_sign schema c op stack field
 
 -- after all of these fields
 unfoldable pub after_fields : Declared → List Field → Pending → List Pred → Option State

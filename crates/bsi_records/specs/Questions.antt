@@ -1,4 +1,4 @@
--- The questions that are asked of an index that is kept or held: those of a script, and ranks.
+-- The questions that are asked of an index that is kept or held: those of a script, ranks, and comparisons of columns.
 use Rattle.std.specs.Prelude.{◌≡◌, if◌then◌else◌, List, [], ◌∷◌, Option, None, option_map, option_and_then, MatchOption, codes}
 use Rattle.std.specs.Str.{bytes_eq}
 use Rattle.bsi_schema.specs.Columns.{Declared, position_of}

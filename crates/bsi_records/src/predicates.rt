@@ -7,7 +7,7 @@
 ghost use Rattle.std.specs.Prelude.{◌≡◌, drop, option_map, IfOk};
 ghost use Rattle.csv.specs.Records.{fields_of};
 ghost use Rattle.bsi_records.specs.Postfix.{after_field, after_fields, after_name, after_sign, after_word, joined, negated, newest_first, only_of, op_of, plain, state_of};
-ghost use Rattle.bsi_records.specs.Predicates.{IsPredicate};
+ghost use Rattle.bsi_records.specs.Predicates.{compares_columns, IsPlainPredicate, IsPredicate};
 ghost use Rattle.bsi_records.specs.Reading.{IsReadAs};
 
 use crate::NoMemory;
@@ -55,6 +55,42 @@ pub(crate) fn read_predicate(
     Ok(take_only(pending, &mut stack))
 }
 
+/// Reads the fields of a record from a place on as a predicate that compares columns with constants alone. It returns
+/// `None` if they spell no such predicate or are more than 1,000.
+pub(crate) fn read_plain_predicate(
+    alloc: Global,
+    schema: &Schema,
+    fields: &ByteRecord,
+    from: usize,
+) -> Result<Option<Pred>, NoMemory>
+    ensures { IfOk result (IsReadAs
+        (IsPlainPredicate schema.now (drop from (fields_of fields.now)))) }
+{
+    // The call makes the schema's invariant known to the proof.
+    prove!(schema.columns() <= MAX_COLUMNS);
+    let Some(pred) = read_predicate(alloc, schema, fields, from)? else {
+        return Ok(None);
+    };
+    if compares_columns(&pred) {
+        return Ok(None);
+    }
+    Ok(Some(pred))
+}
+
+/// Returns whether a part of the predicate compares two columns. It calls itself for each part.
+fn compares_columns(pred: &Pred) -> bool
+    ensures { result ≡ compares_columns pred.now }
+{
+    match pred {
+        Pred::All | Pred::Compare(..) | Pred::Null(_) => false,
+        Pred::Columns(..) => true,
+        Pred::Both(first, second) | Pred::Either(first, second) => {
+            compares_columns(first) || compares_columns(second)
+        }
+        Pred::Not(pred) => compares_columns(pred),
+    }
+}
+
 /// Reads the fields from a place on, and returns what the last ones have begun. It returns `None` if no predicate goes
 /// on like this.
 fn read_fields(
@@ -93,7 +129,7 @@ fn read_field(
     match pending {
         Pending::Nothing => read_word(alloc, schema, field, stack),
         Pending::Column(c) => read_after_name(c, field, stack),
-        Pending::Comparison(c, op) => read_constant(schema.signed(), c, op, field, stack),
+        Pending::Comparison(c, op) => read_after_sign(schema, c, op, field, stack),
     }
 }
 
@@ -135,21 +171,25 @@ fn read_after_name(c: u32, field: &[u8], stack: &mut Vec<Pred>) -> Result<Option
     Ok(read_op(field).map(|op| Pending::Comparison(c, op)))
 }
 
-/// Reads the number that column `c` is compared with.
-fn read_constant(
-    signed: bool,
+/// Reads the number, or the name of another column, that column `c` is compared with. No name is a number.
+fn read_after_sign(
+    schema: &Schema,
     c: u32,
     op: Op,
     field: &[u8],
     stack: &mut Vec<Pred>,
 ) -> Result<Option<Pending>, NoMemory>
     ensures { IfOk result (λ read. state_of read stack.new.items
-        ≡ after_sign signed c op (newest_first stack.old.items) field.now) }
+        ≡ after_sign schema.now c op (newest_first stack.old.items) field.now) }
 {
-    let Some(n) = read_in(signed, field) else {
-        return Ok(None);
+    let pred = match read_in(schema.signed(), field) {
+        Some(n) => Pred::Compare(c, op, n),
+        None => match schema.find(field) {
+            Some(other) => Pred::Columns(c, op, other),
+            None => return Ok(None),
+        },
     };
-    stack.push(Pred::Compare(c, op, n))?;
+    stack.push(pred)?;
     Ok(Some(Pending::Nothing))
 }
 

@@ -6,7 +6,7 @@ ghost use Rattle.bsi_records.specs.Events.{total_of, total_of_column, IsQuery};
 ghost use Rattle.bsi_records.specs.Reading.{IsReadAs};
 
 use crate::NoMemory;
-use crate::predicates::read_predicate;
+use crate::predicates::read_plain_predicate;
 use bsi_rows::{Query, Schema, Total};
 use csv::ByteRecord;
 use std::alloc::Global;
@@ -24,14 +24,14 @@ pub fn read_query(
     let Some((total, from)) = read_total(schema, fields) else {
         return Ok(None);
     };
-    let Some(pred) = read_predicate(alloc, schema, fields, from)? else {
+    let Some(pred) = read_plain_predicate(alloc, schema, fields, from)? else {
         return Ok(None);
     };
     Ok(Some(Query { total, pred }))
 }
 
 /// Reads the total that a record asks for, and returns it with the place where the predicate begins.
-fn read_total(schema: &Schema, fields: &ByteRecord) -> Option<(Total, usize)>
+pub(crate) fn read_total(schema: &Schema, fields: &ByteRecord) -> Option<(Total, usize)>
     ensures { option_map (λ (total, from). (total, drop from (fields_of fields.now))) result
         ≡ total_of schema.now (fields_of fields.now) }
 {

@@ -1,23 +1,21 @@
 //! The records that ask of an index that is kept or held.
 
-ghost use Rattle.std.specs.Prelude.{◌≡◌, drop, option_map, MatchOption, IfOk};
+ghost use Rattle.std.specs.Prelude.{◌≡◌, drop, option_map, IfOk};
 ghost use Rattle.csv.specs.Records.{fields_of};
-ghost use Rattle.bsi_rows.specs.declared.query.Query.{Query};
-ghost use Rattle.bsi_records.specs.Predicates.{IsPredicate};
-ghost use Rattle.bsi_records.specs.Questions.{rank_total, IsQuestion};
+ghost use Rattle.bsi_records.specs.Questions.{asked_total, rank_total, IsQuestion};
 ghost use Rattle.bsi_records.specs.Reading.{IsReadAs};
 
 use crate::NoMemory;
 use crate::numbers::read_number;
 use crate::predicates::read_predicate;
-use crate::queries::read_query;
+use crate::queries::read_total;
 use bsi_rows::{Query, Schema, Total};
 use csv::ByteRecord;
 use std::alloc::Global;
 
-/// Reads a record as a question: a query as `read_query` reads it, or `rank`, a column, a number from 0, and then the
-/// fields of a predicate. `None` stands for a record that is no question. It allocates memory for each part of the
-/// predicate.
+/// Reads a record as a question: a query as `read_query` reads it, in which a comparison may have the name of a second
+/// column in place of the number, or `rank`, a column, a number from 0, and then the fields of a predicate. `None`
+/// stands for a record that is no question. It allocates memory for each part of the predicate.
 pub fn read_question(
     alloc: Global,
     schema: &Schema,
@@ -25,32 +23,24 @@ pub fn read_question(
 ) -> Result<Option<Query>, NoMemory>
     ensures { IfOk result (IsReadAs (IsQuestion schema.now (fields_of fields.now))) }
 {
-    let Some(word) = fields.get(0) else {
-        return Ok(None);
-    };
-    if word == b"rank".as_slice() {
-        return read_ranking(alloc, schema, fields);
-    }
-    read_query(alloc, schema, fields)
-}
-
-/// Reads what stands after the word of a rank.
-fn read_ranking(
-    alloc: Global,
-    schema: &Schema,
-    fields: &ByteRecord,
-) -> Result<Option<Query>, NoMemory>
-    ensures { IfOk result (IsReadAs (λ (query : Query).
-        MatchOption (rank_total schema.now (drop 1 (fields_of fields.now))) ⊥
-        (λ (total, rest). (query.total ≡ total) × IsPredicate schema.now rest query.pred))) }
-{
-    let Some((total, from)) = read_rank(schema, fields) else {
+    let Some((total, from)) = read_asked(schema, fields) else {
         return Ok(None);
     };
     let Some(pred) = read_predicate(alloc, schema, fields, from)? else {
         return Ok(None);
     };
     Ok(Some(Query { total, pred }))
+}
+
+/// Reads the total that a record asks for, and returns it with the place where the predicate begins.
+fn read_asked(schema: &Schema, fields: &ByteRecord) -> Option<(Total, usize)>
+    ensures { option_map (λ (total, from). (total, drop from (fields_of fields.now))) result
+        ≡ asked_total schema.now (fields_of fields.now) }
+{
+    if fields.get(0)? == b"rank".as_slice() {
+        return read_rank(schema, fields);
+    }
+    read_total(schema, fields)
 }
 
 /// Reads the column and the number of a rank, and returns it with the place where the predicate begins.

@@ -7,7 +7,7 @@ use Rattle.bsi_rows.specs.declared.errors.AskError.{AskError}
 use Rattle.bsi_rows.specs.declared.errors.AskError.TheVariants.{BadColumn, NoMemory}
 use Rattle.bsi_rows.specs.declared.query.Answer.{Answer}
 use Rattle.bsi_rows.specs.declared.query.Answer.TheVariants.{Count as count_answer, Sum as sum_answer, Value as value_answer, Rows as rows_answer}
-use Rattle.bsi_rows.specs.declared.query.Pred.{Pred, All, Compare, Null, Both', Either', Not'}
+use Rattle.bsi_rows.specs.declared.query.Pred.{Pred, All, Compare, Columns, Null, Both', Either', Not'}
 use Rattle.bsi_rows.specs.declared.query.Query.{Query}
 use Rattle.bsi_rows.specs.declared.query.Total.{Total}
 use Rattle.bsi_rows.specs.declared.query.Total.TheVariants.{Count, Sum, Least, Greatest, Median, Rank, Rows}
@@ -41,6 +41,7 @@ IsAnswer query rows answer = IsTotal query.total query.pred rows answer
 abbrev pub IsConjunction : Pred → Type 0
 IsConjunction All = Unit {0}
 IsConjunction (Compare c op n) = Unit {0}
+IsConjunction (Columns a op b) = Unit {0}
 IsConjunction (Null c) = Unit {0}
 IsConjunction (Both' p first q second) = IsConjunction first × IsConjunction second
 IsConjunction (Either' p first q second) = ⊥
@@ -64,6 +65,7 @@ columns_of_total Rows = []
 abbrev pub columns_of_pred : Pred → List ℕ
 columns_of_pred All = []
 columns_of_pred (Compare c op n) = c ∷ []
+columns_of_pred (Columns a op b) = a ∷ b ∷ []
 columns_of_pred (Null c) = c ∷ []
 columns_of_pred (Both' p first q second) = columns_of_pred first ++ columns_of_pred second
 columns_of_pred (Either' p first q second) = columns_of_pred first ++ columns_of_pred second

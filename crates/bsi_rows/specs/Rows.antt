@@ -1,9 +1,9 @@
 -- The rows of a table, and which of them a predicate selects.
 use Rattle.std.specs.Prelude.{ℕ, Bool, true, ◌&&◌, ◌||◌, not, List, [], is_none, length, filter, filter_map, map, slice_index_or, ℤ}
 use Rattle.std.specs.List.{range_with_len}
-use Rattle.bsi_orders.specs.WholeNumbers.{signed_selects}
+use Rattle.bsi_orders.specs.WholeNumbers.{signed_relates, signed_selects}
 pub use Rattle.bsi_schema.specs.Columns.{entry_at, Entries}
-use Rattle.bsi_rows.specs.declared.query.Pred.{Pred, All, Compare, Null, Both', Either', Not'}
+use Rattle.bsi_rows.specs.declared.query.Pred.{Pred, All, Compare, Columns, Null, Both', Either', Not'}
 
 -- a row of a table: the feeder that it came from, and its entries
 abbrev pub FedRow : Type 0
@@ -33,6 +33,7 @@ column_of rows c = map (λ row. entry_at (row_entries row) c) rows
 abbrev pub holds : Pred → Entries → Bool
 holds All row = true
 holds (Compare c op n) row = signed_selects op n (entry_at row c)
+holds (Columns a op b) row = signed_relates op (entry_at row a) (entry_at row b)
 holds (Null c) row = is_none (entry_at row c)
 holds (Both' p first q second) row = holds first row && holds second row
 holds (Either' p first q second) row = holds first row || holds second row

@@ -14,6 +14,8 @@ pub enum Pred {
     /// The column's entry is a number that satisfies the comparison with the constant, which may be any number. A null
     /// never does.
     Compare(u32, Op, i128),
+    /// The entries of both columns are numbers, and the first satisfies the comparison with the second.
+    Columns(u32, Op, u32),
     /// The column's entry is null.
     Null(u32),
     /// Both hold.
@@ -103,6 +105,15 @@ impl Pred {
         match self {
             Pred::All => None,
             Pred::Compare(c, _, _) | Pred::Null(c) => { if *c < columns { None } else { Some(*c) } }
+            Pred::Columns(first, _, second) => {
+                if *first >= columns {
+                    Some(*first)
+                } else if *second >= columns {
+                    Some(*second)
+                } else {
+                    None
+                }
+            }
             Pred::Both(first, second) | Pred::Either(first, second) => {
                 match first.missing_column(columns) {
                     Some(missing) => Some(missing),

@@ -1,3 +1,4 @@
 pub mod Comparing
+pub mod Relating
 pub mod Shifting
 pub mod Totals

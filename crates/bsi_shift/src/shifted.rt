@@ -12,6 +12,7 @@ use bsi_bits::{Bits, MAX_BLOCK};
 use bsi_columns::{AnyColumn, Column};
 use std::marker::Model;
 
+mod blocks;
 mod compare;
 mod totals;
 

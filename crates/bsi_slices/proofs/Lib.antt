@@ -1,4 +1,5 @@
 pub mod Adding
+pub mod BlockNumbers
 pub mod CallerLemmas
 pub mod EndRows
 pub mod EndSpans
@@ -6,6 +7,8 @@ pub mod Exchanging
 pub mod FromPlaces
 pub mod Gathering
 pub mod Ranking
+pub mod Related
+pub mod RelatedSpans
 pub mod SliceEntries
 pub mod SliceGrowth
 pub mod SliceNumbers

@@ -1,10 +1,11 @@
 -- The entries of a column of slices, and rows that are added to them.
-use Rattle.std.proofs.Common.{◌≡◌, ℕ, zero, suc, ◌+◌, ◌*◌, ◌^◌, ◌<◌, ◌≤◌, Bool, true, false, not, List, [], ◌∷◌, ◌++◌, length, get_or, map, All, Option, Some, None, is_some, is_none, sym, ◌∙◌, ap, refl, arith}
+use Rattle.std.proofs.Common.{◌≡◌, ℕ, zero, suc, ◌+◌, ◌*◌, ◌^◌, ◌<◌, ◌≤◌, Bool, true, false, not, List, [], ◌∷◌, ◌++◌, length, get_or, map, All, Option, Some, None, is_some, is_none, inl, inr, sym, ◌∙◌, ap, refl, arith}
 use Rattle.std.specs.Prelude.{◌==◌, if◌then◌else◌}
 use Rattle.std.specs.Int.{bit_at}
 use Rattle.std.specs.List.{range_with_len}
 use Rattle.std.proofs.Math.Seq.{get_or-append_seam}
-use Rattle.std.proofs.lemmas.List.{get_or_append_left, length-map, get_or-map}
+use Rattle.std.proofs.lemmas.Bool.{cases_lt}
+use Rattle.std.proofs.lemmas.List.{get_or_append_left, get_or_past, length-map, get_or-map}
 use Rattle.std.proofs.lemmas.List.Elements.{All-from_get_or}
 use Rattle.std.proofs.lemmas.List.FromFn.{length-map-range_with_len, get_or-map-range_with_len, fill_by_all}
 use Rattle.bsi_bits.specs.BitList.{BitList}
@@ -41,6 +42,15 @@ length-entries_in not_null slices = length-map-range_with_len (sliced_entry not_
 pub get_or-entries_in : (not_null : List Bool) (slices : List BitList) (r : ℕ) (d : Option ℕ) → r < length not_null → get_or (entries_in not_null slices) r d ≡ sliced_entry not_null slices r
 unfolding entries_in
 get_or-entries_in not_null slices r d within = get_or-map-range_with_len (sliced_entry not_null slices) 0 (length not_null) r r d within (omega arith)
+
+-- and past the last one none is there
+pub sliced_at : (not_null : List Bool) (slices : List BitList) (r : ℕ) → get_or (entries_in not_null slices) r None ≡ sliced_entry not_null slices r
+sliced_at not_null slices r = elim (cases_lt r (length not_null)) [
+  | inl within ↦ get_or-entries_in not_null slices r None within
+  | inr past ↦
+      get_or_past (entries_in not_null slices) r None (omega (arith, past, length-entries_in not_null slices))
+      ∙ sym (ap (λ b. if b then Some (number slices r) else None) (get_or_past not_null r false past))
+]
 
 -- a list that has at each row a function of its entry
 pub by_entries : {X : Type 0} (f : Option ℕ → X) (not_null : List Bool) (slices : List BitList) (d : X) (xs : List X) → length xs ≡ length not_null

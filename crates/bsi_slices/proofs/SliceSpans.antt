@@ -49,7 +49,7 @@ module _ (n : ℕ) (above slice : List ℕ) (long : length above ≡ n) (same : 
   cut_long false = length-zip2 bit_and above slice (long ∙ sym same) ∙ long
 
 -- a place of the constant as it is read
-one_read : (c i : ℕ) → (bit_and (c / 2 ^ i) 1 == 1) ≡ (bit_at c i == 1)
+pub one_read : (c i : ℕ) → (bit_and (c / 2 ^ i) 1 == 1) ≡ (bit_at c i == 1)
 one_read c i = ap (λ b. b == 1) (shr_and_one c i)
 
 zero_read : (c i : ℕ) → (bit_and (c / 2 ^ i) 1 == 0) ≡ not (bit_at c i == 1)

@@ -13,5 +13,5 @@ pub use bsi_orders::Op;
 pub use column::Column;
 pub use decision::{Decision, Relation, Test, decide};
 pub use not_null::NotNull;
-pub use slices::{End, Slices};
+pub use slices::{End, Relating, Slices};
 pub use std::alloc::AllocError as NoMemory;

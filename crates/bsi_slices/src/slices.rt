@@ -1,6 +1,6 @@
 //! A column as bit slices: one bit vector for each binary place of its numbers (O'Neil and Quass 1997).
 
-ghost use Rattle.std.specs.Prelude.{◌≡◌, ℕ, ◌++◌, ◌∷◌, [], All, ◌<◌, ◌≤◌, ◌^◌, ◌+◌, ◌==◌, length, map, min, is_some, IfNone, IfOk, IfSome, IsOk, OnOk, OnErr};
+ghost use Rattle.std.specs.Prelude.{◌≡◌, ℕ, ◌++◌, ◌∷◌, [], All, ◌<◌, ◌≤◌, ◌^◌, ◌+◌, ◌*◌, ◌==◌, length, map, min, is_some, IfNone, IfOk, IfSome, IsOk, OnOk, OnErr};
 ghost use Rattle.std.specs.Int.{bit_at};
 ghost use Rattle.bsi_words.specs.Nulls.{HasBitOfNull};
 ghost use Rattle.bsi_words.specs.Places.{max_places};
@@ -9,24 +9,30 @@ ghost use Rattle.bsi_bits.specs.BitLists.{bits_at};
 ghost use Rattle.bsi_slices.specs.Spans.{KeepsRows};
 ghost use Rattle.bsi_orders.specs.Orders.{values_at};
 ghost use Rattle.bsi_orders.specs.Rows.{number_or_zero, selects};
+ghost use Rattle.bsi_digits.specs.Digits.{max_size};
+ghost use Rattle.bsi_slices.specs.Blocks.{AreNumbersFrom};
+ghost use Rattle.bsi_slices.specs.Related.{KeepsRelatedRows};
 ghost use Rattle.bsi_slices.specs.Slices.{entries_in, IsSliced};
 ghost use Rattle.bsi_orders.specs.Totals.{IsLeastOf, IsGreatestOf};
 
 use crate::column::Column;
 use crate::not_null::NotNull;
-use crate::transposing::{not_null_word, transpose, write_numbers};
+use crate::transposing::{not_null_word, numbers_by_places, transpose, write_numbers};
 use crate::{NoMemory, Op};
 use bsi_bits::{Bitmaps, Bits, MAX_BLOCK, MAX_LEN};
 use bsi_words::nulls::are_clear_at_nulls;
 use compare::{keep_selected, select};
+use related::keep_related;
 use std::alloc::Global;
 use std::marker::Model;
 
 mod compare;
 mod ends;
+mod related;
 mod totals;
 
 pub use ends::End;
+pub use related::Relating;
 
 /// The most slices of a column.
 const MAX_SLICES: u32 = 63;
@@ -107,6 +113,32 @@ impl Slices {
         ensures { result.now.bits ≡ map (λ e. bit_at (number_or_zero e) i == 1) self.now.entries }
     {
         &self.slices.as_slice()[i as usize]
+    }
+
+    /// Writes the numbers of the 64 rows from row `64 * at` on, and 0 for a null. What it writes past the last row is
+    /// unspecified. It takes no memory.
+    pub fn numbers_into(&self, at: usize, numbers: &mut [u64; MAX_BLOCK])
+        requires { at < word_count (length self.now.entries) }
+        ensures long { length numbers.new ≡ max_block }
+        ensures numbers { AreNumbersFrom self.now.entries (64 * at) numbers.new }
+    {
+        numbers_by_places(self.slices.as_slice(), at, numbers);
+    }
+
+    /// Keeps in a span of words the rows whose number here compares so with that of another column. The first word stands
+    /// for the 64 rows from row `64 * at` on. A row that is null in one of the two is not kept, nor a bit past the last
+    /// row. It takes no memory.
+    pub fn keep_related(&self, relating: Relating, other: &Slices, at: usize, span: &mut [u64])
+        requires more { (relating.more < max_size) × (relating.others_more < max_size) }
+        requires within { at + length span.old ≤ word_count (length self.now.entries) }
+        requires same { length other.now.entries ≡ length self.now.entries }
+        ensures { KeepsRelatedRows relating self.now.entries other.now.entries at span.old
+            span.new }
+    {
+        self.not_null.keep_in(at, span);
+        other.not_null.keep_in(at, span);
+        let (slices, others) = (self.slices.as_slice(), other.slices.as_slice());
+        keep_related(slices, relating, others, at, span);
     }
 
     /// Keeps in a span of words the rows whose number satisfies the comparison `op` with `constant`, which may be past

@@ -1,13 +1,16 @@
-//! A block of at most 64 entries, turned into words: one for each binary place.
+//! A block of at most 64 entries, turned into words, one for each binary place, and back.
 
 ghost use Rattle.std.specs.Prelude.{◌≡◌, ℕ, ◌+◌, ◌-◌, ◌*◌, ◌/◌, ◌%◌, ◌<◌, ◌≤◌, ◌^◌, [], ◌∷◌, length, map, is_some, None, slice_index, slice_index_or};
 ghost use Rattle.std.specs.Int.{bit_at};
-ghost use Rattle.bsi_bits.specs.BitList.{max_block};
+ghost use Rattle.bsi_bits.specs.BitList.{max_block, word_count};
+ghost use Rattle.bsi_bits.specs.BitLists.{bits_at};
 ghost use Rattle.bsi_bits.specs.Packed.{bits_of, end_of_u64};
+ghost use Rattle.bsi_words.specs.Places.{max_places};
 ghost use Rattle.bsi_slices.specs.Exchanges.{across, IsLow};
+ghost use Rattle.bsi_slices.specs.Slices.{number};
 ghost use Rattle.bsi_orders.specs.Rows.{number_or_zero};
 
-use bsi_bits::{MAX_BLOCK, know_fits};
+use bsi_bits::{Bits, MAX_BLOCK, know_fits};
 
 /// Writes the numbers of a block of entries, with a 0 for each null and for each place after the last entry.
 pub fn write_numbers(block: &[Option<u64>], numbers: &mut [u64; MAX_BLOCK])
@@ -37,7 +40,7 @@ pub fn not_null_word(block: &[Option<u64>]) -> u64
 
 /// Exchanges the rows and the places of 64 words: place `k` of word `r` becomes place `r` of word `k`. The number of a
 /// row and that of a place have six binary places each, and each step exchanges those of one weight (Warren 2002).
-pub(crate) fn transpose(words: &mut [u64; MAX_BLOCK])
+pub fn transpose(words: &mut [u64; MAX_BLOCK])
     ensures long { length words.new ≡ max_block }
     ensures fits { (k : ℕ) → slice_index words.new k < end_of_u64 }
     ensures transposed { (k r : ℕ) → k < max_block → r < max_block →
@@ -89,4 +92,21 @@ fn exchange_run(words: &mut [u64; MAX_BLOCK], from: usize, s: usize, low: u64)
         words[k] = first ^ differing << s;
         words[k + s] = second ^ differing;
     }
+}
+
+/// Writes the numbers of the 64 rows from row `64 * at` on. `places` has a vector for each binary place of the numbers,
+/// the least first.
+pub fn numbers_by_places(places: &[Bits], at: usize, numbers: &mut [u64; MAX_BLOCK])
+    requires few { length places.now ≤ max_places }
+    requires within { (k : ℕ) → k < length places.now →
+        at < word_count (length (bits_at places.now k)) }
+    ensures long { length numbers.new ≡ max_block }
+    ensures numbers { (r : ℕ) → r < max_block →
+        slice_index numbers.new r ≡ number places.now (64 * at + r) }
+{
+    numbers.fill(0);
+    'places: for (k, place) in places.iter().enumerate() {
+        numbers[k] = place.words()[at];
+    }
+    transpose(numbers);
 }

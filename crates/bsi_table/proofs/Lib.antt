@@ -10,7 +10,6 @@ pub mod RowBitmaps
 pub mod Selecting
 pub mod SelectedTotals
 pub mod Selections
-pub mod Singles
 pub mod TableRows
 pub use Rattle.bsi_rows.proofs.CallerLemmas
 pub use Rattle.bsi_schema.proofs.Fitting

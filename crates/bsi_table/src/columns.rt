@@ -12,7 +12,7 @@ ghost use Rattle.bsi_rows.specs.Rows.{row_entries};
 ghost use Rattle.bsi_table.specs.Kept.{kept_at, AreAlikeColumns, AreInRange, AreKept, AreI64, AreSameColumns, HasMore, HaveMore, HaveOneMore, HaveRoom, HaveRows, IsInForm, Keeps, TakesRow, row_in};
 
 use crate::{Block, Form, NoMemory, Schema};
-use bsi_bits::Bits;
+use bsi_bits::MAX_BLOCK;
 use bsi_columns::{AnyColumn, Decomposed, Slices};
 use bsi_schema::to_i64;
 use bsi_shift::Shifted;
@@ -148,47 +148,35 @@ pub(crate) fn copy_each(alloc: Global, columns: &[Shifted]) -> Result<Vec<Shifte
     Ok(copied)
 }
 
-/// Makes a found set of so many rows that has row `r` alone.
-pub(crate) fn select_one(alloc: Global, rows: u64, r: u64) -> Result<Bits, NoMemory>
-    requires { rows ≤ max_len }
-    ensures { IfOk result (λ only. only.bits ≡ map (nat_eq r) (range_with_len 0 rows)) }
-{
-    let mut only = Bits::new(alloc);
-    only.reserve(rows)?;
-    'rows: for at in 0..rows {
-        only.push_reserved(r == at);
-    }
-    Ok(only)
-}
-
-/// Reads the entry of each column in row `r`, which a found set has alone.
+/// Reads the entry of each column in row `r`.
 pub(crate) fn read_row(
     alloc: Global,
     columns: &[Shifted],
+    rows: u64,
     r: u64,
-    only: &Bits,
 ) -> Result<Vec<Option<i128>>, NoMemory>
-    requires even { HaveRows columns.now (length only.now.bits) }
-    requires only { only.now.bits ≡ map (nat_eq r) (range_with_len 0 (length only.now.bits)) }
-    requires there { r < length only.now.bits }
+    requires few { rows ≤ max_len }
+    requires even { HaveRows columns.now rows }
+    requires there { r < rows }
     ensures { IfOk result (λ row. row.items ≡ row_in columns.now r) }
 {
     let mut row = Vec::with_capacity(alloc, columns.len())?;
     'columns: for column in columns {
-        row.push_reserved(read_entry(column, r, only));
+        row.push_reserved(read_entry(column, r));
     }
     Ok(row)
 }
 
-/// Reads the entry of a column in row `r`, which a found set has alone: the sum of its numbers there, or a null.
-fn read_entry(column: &Shifted, r: u64, only: &Bits) -> Option<i128>
-    requires long { length (shifted_entries column.now) ≡ length only.now.bits }
-    requires only { only.now.bits ≡ map (nat_eq r) (range_with_len 0 (length only.now.bits)) }
-    requires there { r < length only.now.bits }
+/// Reads the entry of a column in row `r`.
+fn read_entry(column: &Shifted, r: u64) -> Option<i128>
+    requires { r < length (shifted_entries column.now) }
     ensures { result ≡ slice_index_or (shifted_entries column.now) r None }
 {
-    if !column.not_null().get(r) {
+    let mut numbers = [0; MAX_BLOCK];
+    let there = column.read_block((r / 64) as usize, &mut numbers);
+    let at = (r % 64) as usize;
+    if there >> at & 1 == 0 {
         return None;
     }
-    Some(column.sum(only))
+    Some(i128::from(numbers[at]))
 }

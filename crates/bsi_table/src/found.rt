@@ -171,6 +171,9 @@ fn narrow(
         Pred::Compare(c, op, constant) => {
             columns[*c as usize].keep_selected(*op, *constant, at, span);
         }
+        Pred::Columns(first, op, second) => {
+            columns[*first as usize].keep_related(*op, &columns[*second as usize], at, span);
+        }
         Pred::Null(c) => columns[*c as usize].keep_nulls(at, span),
         Pred::Both(first, second) => {
             narrow(columns, rows, first, at, span, spare)?;

@@ -19,7 +19,7 @@ ghost use Rattle.bsi_table.specs.Bitmaps.{bitmaps_of};
 ghost use Rattle.bsi_table.specs.Index.{table_of};
 ghost use Rattle.bsi_table.specs.Kept.{fed_rows, AreKept, IsInForm};
 
-use crate::columns::{are_kept_alike, copy_each, make_each, read_row, select_one};
+use crate::columns::{are_kept_alike, copy_each, make_each, read_row};
 use crate::found::{count_selected, find_rows};
 use crate::growth::{clear_rows, push_all, push_all_from, push_row, push_rows, reserve_rows};
 use crate::totals::total_found;
@@ -319,8 +319,7 @@ impl Index {
         ensures { IfOk result (λ row. slice_get (entries_of self.now.rows) r ≡ Some row) }
     {
         let alloc = *self.columns.allocator();
-        let only = select_one(alloc, self.len(), r)?;
-        Ok(Row::new(read_row(alloc, &self.columns, r, &only)?))
+        Ok(Row::new(read_row(alloc, &self.columns, self.len(), r)?))
     }
 
     /// Returns whether another index keeps its columns as this one does, each in the same form and from the same number

@@ -18,6 +18,16 @@ impl BinaryPlaces for EqualityComponent {
         }
     }
 
+    fn place_word(&self, k: usize, at: usize) -> u64 {
+        let places = self.places();
+        if !places.is_empty() {
+            return places[k].words()[at];
+        }
+        let mut span = [0];
+        self.eq_span_into(digit_of_place(self.base(), k), at, &mut span);
+        span[0]
+    }
+
     fn from_places(base: u32, places: Vec<Bits>) -> Result<Option<Self>, NoMemory> {
         let alloc = *places.allocator();
         if !are_below(alloc, &places, base)? {

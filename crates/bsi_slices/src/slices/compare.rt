@@ -210,7 +210,7 @@ pub(super) fn cut<const N: usize>(
 }
 
 /// Returns the words of a slice, at most 2^26 of them.
-fn words_of(slice: &Bits) -> &[u64]
+pub(super) fn words_of(slice: &Bits) -> &[u64]
     ensures few { length result.now ≡ word_count (length slice.now.bits) }
     ensures small { length result.now ≤ max_words }
     ensures places { (i : ℕ) → bit_of result.now i ≡ slice_index_or slice.now.bits i false }

@@ -1,5 +1,5 @@
 use Rattle.std.proofs.Common.{List, ℕ, Option, refl, subst, sym}
-use Rattle.bsi_records.specs.Events.{IsQuery}
+use Rattle.bsi_records.specs.Questions.{IsQuestion}
 use Rattle.bsi_records.specs.Reading.{IsReadAs}
 use Rattle.bsi_rows.specs.declared.query.Query.{Query}
 use Rattle.bsi_rows.specs.declared.query.Total.TheVariants.{Count}
@@ -12,6 +12,6 @@ returns-in_default c = λ pred spells.
     let schema = c.args.schema.now in
     let fields = fields_of c.in_ok-counted.counted in
     let query : Query = record { total = Count; pred = pred } in
-    let none : (query : Query) → IsQuery schema fields query → ⊥ =
-    subst (λ (o : Option Query). IsReadAs (IsQuery schema fields) o) c.in_default.is c.in_ok-query.ensures in
-    none query (subst (λ (fs : List (List ℕ)). IsQuery schema fs query) (sym c.in_ok-counted.ensures) (refl, spells))
+    let none : (query : Query) → IsQuestion schema fields query → ⊥ =
+    subst (λ (o : Option Query). IsReadAs (IsQuestion schema fields) o) c.in_default.is c.in_ok-query.ensures in
+    none query (subst (λ (fs : List (List ℕ)). IsQuestion schema fs query) (sym c.in_ok-counted.ensures) (refl, spells))

@@ -10,7 +10,7 @@ use Rattle.bsi_ffi.specs.Calls.{IsMasked}
 use Rattle.bsi_ffi.specs.Opened.{Opened}
 use Rattle.bsi_ffi.specs.declared.refusal.Refusal.{Refusal}
 use Rattle.bsi_ffi.specs.declared.refusal.Refusal.TheVariants.{NoRoom}
-use Rattle.bsi_records.proofs.Spelling.{query_is_there}
+use Rattle.bsi_records.proofs.Ranked.{question_is_there}
 use Rattle.bsi_records.specs.Predicates.{IsPredicate}
 use Rattle.bsi_rows.specs.Answers.{missing_column}
 use Rattle.bsi_rows.specs.declared.query.Query.{Query}
@@ -25,7 +25,7 @@ returns-clause-masked c = λ other spelled.
     let spells : IsPredicate schema fields c.in-Some.pred = search rules in
     let counted : Query = record { total = Count; pred = c.in-Some.pred } in
     let missing : missing_column (length schema.columns) counted ≡ Some c.in-Err-BadColumn.field-0-0 = search rules in
-    let wrong : None ≡ Some c.in-Err-BadColumn.field-0-0 = sym (query_is_there schema (codes "count" ∷ fields) counted (refl, spells)) ∙ missing in
+    let wrong : None ≡ Some c.in-Err-BadColumn.field-0-0 = sym (question_is_there schema (codes "count" ∷ fields) counted (refl, spells)) ∙ missing in
     subst (λ (o : Option ℕ). MatchOption o (Unit {0}) (λ place. ⊥)) wrong tt
 
 module _ (opened : Opened) (fields : List (List ℕ)) (words : List ℕ) (pred : Pred) (is : IsPredicate opened.table.schema fields pred)

@@ -1,18 +1,27 @@
-use Rattle.std.proofs.Common.{◌≡◌, true, false, codes, subst, sym}
-use Rattle.std.specs.Str.{bytes_eq}
+use Rattle.std.proofs.Common.{List, drop}
 use Rattle.csv.specs.Records.{fields_of}
-use Rattle.bsi_records.proofs.Ranked.{no_word, read_query, read_ranking}
+use Rattle.bsi_rows.specs.declared.query.Pred.{Pred}
+use Rattle.bsi_records.specs.Numbers.{Field}
+use Rattle.bsi_records.specs.Predicates.{IsPredicate}
+use Rattle.bsi_records.specs.Questions.{asked_total}
+use Rattle.bsi_records.proofs.Spelling.{is_query, no_predicate_query, no_total_query}
 use Rattle.bsi_records.proofs.questions.read_question.Goals as goal
 
 pub returns-in_default : goal.returns-in_default
-returns-in_default c = no_word c.args.schema.now (fields_of c.args.fields.now) c.in_default.ensures.value
+returns-in_default c =
+    let schema = c.args.schema.now in
+    no_total_query (IsPredicate schema) (asked_total schema (fields_of c.args.fields.now)) c.in_default.ensures
 
-pub returns-then-eq : goal.returns-then-eq
-returns-then-eq c =
-    let met : bytes_eq c.in-Some.word.now (codes "rank") ≡ true = subst (λ text. bytes_eq c.in-Some.word.now text ≡ true) c.as_slice.ensures (sym c.if-eq.ensures) in
-    read_ranking c.args.schema.now (fields_of c.args.fields.now) c.in-Some.word.now c.read_ranking.result c.in-Some.ensures.value met c.read_ranking.ensures
+pub returns-in_default-2 : goal.returns-in_default-2
+returns-in_default-2 c =
+    let schema = c.args.schema.now in
+    let rest : List Field = drop c.in-Some.from (fields_of c.args.fields.now) in
+    let none : (P : Pred) → IsPredicate schema rest P → ⊥ = rw c.in_default-2.is at c.in_ok-pred.ensures in
+    no_predicate_query (IsPredicate schema) (asked_total schema (fields_of c.args.fields.now)) c.in-Some.total rest c.in-Some.ensures none
 
 pub returns : goal.returns
 returns c =
-    let apart : bytes_eq c.in-Some.word.now (codes "rank") ≡ false = subst (λ text. bytes_eq c.in-Some.word.now text ≡ false) c.as_slice.ensures (sym c.if-eq.ensures) in
-    read_query c.args.schema.now (fields_of c.args.fields.now) c.in-Some.word.now c.read_query.result c.in-Some.ensures.value apart c.read_query.ensures
+    let schema = c.args.schema.now in
+    let rest : List Field = drop c.in-Some.from (fields_of c.args.fields.now) in
+    let is : IsPredicate schema rest c.in-Some-2.pred = rw c.in-Some-2.is at c.in_ok-pred.ensures in
+    is_query (IsPredicate schema) (asked_total schema (fields_of c.args.fields.now)) _ rest c.in-Some.ensures is

@@ -1,10 +1,10 @@
-use Rattle.std.proofs.Common.{◌≡◌, ℕ, ◌+◌, ◌*◌, ◌++◌, length, get_or, arith, SFits, to_z-of_z, rules, ap, ap₂, sym, ◌∙◌}
+use Rattle.std.proofs.Common.{◌≡◌, ℕ, ◌+◌, ◌*◌, ◌++◌, [], ◌∷◌, length, get_or, arith, SFits, to_z-of_z, rules, ap, ap₂, sym, ◌∙◌}
 use Rattle.std.specs.Int.{w128}
 use Rattle.std.specs.Prelude.{◌&&◌, ◌||◌, None, bit_or, bit_xor, is_none, not}
 use Rattle.std.specs.Simd.Lanes.{zip2}
 use Rattle.bsi_bits.specs.Packed.{bit_of}
 use Rattle.bsi_shift.specs.Shifted.{shifted_entries}
-use Rattle.bsi_orders.specs.WholeNumbers.{signed_selects}
+use Rattle.bsi_orders.specs.WholeNumbers.{signed_relates, signed_selects}
 use Rattle.bsi_rows.specs.Answers.{columns_of_pred, missing_of}
 use Rattle.bsi_rows.specs.Rows.{holds}
 use Rattle.bsi_table.specs.Kept.{row_in}
@@ -24,6 +24,22 @@ returns-in-Compare-clause-rows t c = λ p below row.
     ∙ ap (λ k. bit_of c.args.span.now p && signed_selects c.in-Compare.op k (get_or (shifted_entries column) r None)) (to_z-of_z read)
     ∙ ap (λ e. bit_of c.args.span.now p && signed_selects c.in-Compare.op c.in-Compare.constant e) (entry_read columns c.in-Compare.c column within c.index-columns-c.is r)
     ∙ ap (λ q. bit_of c.args.span.now p && holds q (row_in columns r)) (sym c.in-Compare.is)
+
+pub returns-in-Columns-clause-rows : goal.returns-in-Columns-clause-rows
+returns-in-Columns-clause-rows t c = λ p below row.
+    let columns = c.args.columns.now in
+    let r : ℕ = 64 * c.args.at + p in
+    let a = c.in-Columns.first in
+    let b = c.in-Columns.second in
+    let one = c.index-columns-first.result in
+    let two = c.index-columns-second.result in
+    let none = ap (λ q. missing_of (length columns) (columns_of_pred q)) (sym c.in-Columns.is) ∙ c.requires.there in
+    let first = there (length columns) a (none_missing_first (length columns) (a ∷ []) (b ∷ []) none) in
+    let second = there (length columns) b (none_missing_second (length columns) (a ∷ []) (b ∷ []) none) in
+    c.keep_related.ensures p below
+    ∙ ap₂ (λ x y. bit_of c.args.span.now p && signed_relates c.in-Columns.op x y)
+    (entry_read columns a one first c.index-columns-first.is r) (entry_read columns b two second c.index-columns-second.is r)
+    ∙ ap (λ q. bit_of c.args.span.now p && holds q (row_in columns r)) (sym c.in-Columns.is)
 
 pub returns-in-Null-clause-rows : goal.returns-in-Null-clause-rows
 returns-in-Null-clause-rows t c = λ p below row.

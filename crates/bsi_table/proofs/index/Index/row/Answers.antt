@@ -8,25 +8,13 @@ use Rattle.bsi_table.specs.Kept.{kept_at, row_in}
 use Rattle.bsi_table.proofs.TableRows.{entries-fed_rows, length-fed_rows}
 use Rattle.bsi_table.proofs.index.Index.row.Goals as goal
 
--- the found set has a bit for each row
 pub read_row-requires-clause-even : goal.read_row-requires-clause-even
 read_row-requires-clause-even c = λ k within.
     let i = c.self.inside in
     let rows = ap (λ t. length t.rows) (sym c.self.view_is) ∙ length-fed_rows i.origins.rows i.columns.items in
-    let bits = ap length c.in_ok-only.ensures ∙ length-map-range_with_len (nat_eq c.args.r) 0 c.len.result in
-    subst (λ xs. length (shifted_entries (kept_at xs k)) ≡ length c.in_ok-only.only.bits) (sym c.deref.ensures.value)
+    subst (λ xs. length (shifted_entries (kept_at xs k)) ≡ c.len.result) (sym c.deref.ensures.value)
     ((c.self.invariant.0.columns_are.each k (omega (arith, within, ap length c.deref.ensures.value, c.self.invariant.0.columns_are.long))).rows
-    ∙ sym rows ∙ sym c.len.ensures.len ∙ sym bits)
-
-pub read_row-requires-clause-only : goal.read_row-requires-clause-only
-read_row-requires-clause-only c =
-    let bits = ap length c.in_ok-only.ensures ∙ length-map-range_with_len (nat_eq c.args.r) 0 c.len.result in
-    c.in_ok-only.ensures ∙ ap (λ n. map (nat_eq c.args.r) (range_with_len 0 n)) (sym bits)
-
-pub read_row-requires-clause-there : goal.read_row-requires-clause-there
-read_row-requires-clause-there c =
-    let bits = ap length c.in_ok-only.ensures ∙ length-map-range_with_len (nat_eq c.args.r) 0 c.len.result in
-    omega (arith, c.requires, c.len.ensures.len, bits)
+    ∙ sym rows ∙ sym c.len.ensures.len)
 
 pub returns : goal.returns
 returns c =

@@ -1,0 +1,58 @@
+//! The numbers of 64 rows, read at once by the binary places of their digits.
+
+ghost use Rattle.std.specs.Prelude.{◌≡◌, ℕ, ◌+◌, ◌*◌, ◌<◌, length, slice_index};
+ghost use Rattle.bsi_bits.specs.BitList.{max_block, word_count};
+ghost use Rattle.bsi_bits.specs.Packed.{end_of_u64};
+ghost use Rattle.bsi_slices.specs.Blocks.{AreNumbersFrom};
+
+use crate::decomposed::Decomposed;
+use crate::{BinaryPlaces, Column};
+use bsi_bits::MAX_BLOCK;
+use bsi_components::place_count;
+use bsi_slices::transposing::transpose;
+
+impl<E: BinaryPlaces> Decomposed<E> {
+    /// Writes the numbers of the 64 rows from row `64 * at` on, and 0 for a null. What it writes past the last row is
+    /// unspecified. It takes no memory.
+    pub fn numbers_into(&self, at: usize, numbers: &mut [u64; MAX_BLOCK])
+        requires { at < word_count (length self.now.entries) }
+        ensures long { length numbers.new ≡ max_block }
+        ensures numbers { AreNumbersFrom self.now.entries (64 * at) numbers.new }
+    {
+        numbers.fill(0);
+        let mut digits = [0; MAX_BLOCK];
+        let bases = self.bases();
+        'components: for i in (0..bases.len()).rev() {
+            digits_into(self.component(i), at, &mut digits);
+            take_in(u64::from(bases.base(i)), &digits, numbers);
+        }
+    }
+}
+
+/// Writes the digits of the 64 rows from row `64 * at` on. What it writes past the last row is unspecified.
+fn digits_into<E: BinaryPlaces>(component: &E, at: usize, digits: &mut [u64; MAX_BLOCK])
+    requires { at < word_count (length (E.digits component.now)) }
+    ensures long { length digits.new ≡ max_block }
+    ensures digits { (r : ℕ) → r < max_block → 64 * at + r < length (E.digits component.now) →
+        slice_index digits.new r ≡ slice_index (E.digits component.now) (64 * at + r) }
+{
+    digits.fill(0);
+    'places: for k in 0..place_count(component.base()) {
+        digits[k] = component.place_word(k, at);
+    }
+    transpose(digits);
+}
+
+/// Appends to each number a digit under a base, the least significant one so far. A number past 64 bits, which no row
+/// has, is cut.
+fn take_in(base: u64, digits: &[u64; MAX_BLOCK], numbers: &mut [u64; MAX_BLOCK])
+    ensures long { length numbers.new ≡ max_block }
+    ensures numbers { (r : ℕ) → r < max_block →
+        slice_index numbers.old r * base + slice_index digits.now r < end_of_u64 →
+        slice_index numbers.new r
+        ≡ slice_index numbers.old r * base + slice_index digits.now r }
+{
+    'rows: for r in 0..MAX_BLOCK {
+        numbers[r] = numbers[r].wrapping_mul(base).wrapping_add(digits[r]);
+    }
+}

@@ -1,0 +1,36 @@
+-- A word of a binary place, as it is read.
+use Rattle.std.proofs.Common.{◌≡◌, ℕ, ◌+◌, ◌*◌, ◌/◌, ◌%◌, ◌<◌, Bool, true, false, List, length, get_or, cond, ap, ap₂, ◌∙◌, arith}
+use Rattle.std.specs.Prelude.{◌==◌}
+use Rattle.std.specs.Int.{bit_at}
+use Rattle.std.proofs.lemmas.List.{get_or-map}
+use Rattle.bsi_bits.specs.BitList.{BitList}
+use Rattle.bsi_bits.specs.Packed.{bit_of}
+use Rattle.bsi_words.proofs.BitmapReads.{read_bitmap}
+use Rattle.bsi_words.specs.Places.{has_place, IsEncoded}
+use Rattle.bsi_components.specs.Bitmaps.{kept_places}
+use Rattle.bsi_components.specs.PlaceNumbers.{place_count}
+
+-- where places are kept, all are
+kept_within : (base n k : ℕ) → n ≡ kept_places base → 0 < n → k < place_count base → k < n
+kept_within base n k many some within = by _ many
+  where
+    by : (few : Bool) → n ≡ cond few 0 (place_count base) → k < n
+    by true none = absurd (omega (arith, none, some))
+    by false all = omega (arith, all, within)
+
+-- the bit of a row, in the word where it stands
+pub word_bit : (words : List ℕ) (at r : ℕ) → r < 64 → (bit_at (get_or words at 0) r == 1) ≡ bit_of words (64 * at + r)
+word_bit words at r near =
+    let word : at ≡ (64 * at + r) / 64 = omega arith in
+    let place : r ≡ (64 * at + r) % 64 = omega arith in
+    ap₂ (λ i p. bit_at (get_or words i 0) p == 1) word place
+
+pub place_bit : (places : List BitList) (digits : List ℕ) (base k at r : ℕ) (place : BitList) (words : List ℕ) → IsEncoded has_place places digits → length places ≡ kept_places base
+    → 0 < length places → k < place_count base → place ≡ get_or places k place → ((i : ℕ) → bit_of words i ≡ get_or place.bits i false)
+    → r < 64 → 64 * at + r < length digits → (bit_at (get_or words at 0) r == 1) ≡ has_place k (get_or digits (64 * at + r) 0)
+place_bit places digits base k at r place words encoded many some within read bits near row =
+    let there = kept_within base (length places) k many some within in
+    word_bit words at r near ∙ bits (64 * at + r)
+    ∙ ap (λ v. get_or v.bits (64 * at + r) false) (read_bitmap places k place there read)
+    ∙ ap (λ v. get_or v (64 * at + r) false) (encoded.each k there)
+    ∙ get_or-map (has_place k) digits (64 * at + r) 0 false row

@@ -1,0 +1,150 @@
+//! 64 rows, read at once, and comparisons of two columns: of slices by their binary places, of other forms by the numbers
+//! of such rows.
+
+ghost use Rattle.std.specs.Prelude.{◌≡◌, ℕ, pos, ◌<ℤ◌, ◌+◌, ◌*◌, ◌<◌, ◌≤◌, ◌==◌, ◌&&◌, length, None, slice_index, slice_index_or, IfSome};
+ghost use Rattle.std.specs.Int.{bit_at};
+ghost use Rattle.bsi_digits.specs.Digits.{max_size};
+ghost use Rattle.bsi_digits.specs.Signed.{end_of_i64};
+ghost use Rattle.bsi_bits.specs.BitList.{max_block, word_count};
+ghost use Rattle.bsi_orders.specs.Orders.{compares_by};
+ghost use Rattle.bsi_orders.specs.WholeNumbers.{signed_order, signed_relates};
+ghost use Rattle.bsi_slices.specs.Related.{relates};
+ghost use Rattle.bsi_shift.specs.Blocks.{block_entry, KeepsRelated};
+ghost use Rattle.bsi_shift.specs.Shifted.{number_of, shifted_entries};
+
+use crate::Shifted;
+use bsi_bits::{MAX_BLOCK, MAX_LEN};
+use bsi_columns::{AnyColumn, Column, Op};
+use bsi_slices::Relating;
+
+impl Shifted {
+    /// Reads the 64 rows from row `64 * at` on: writes the number of row `64 * at + r` at place `r`, and returns a word
+    /// whose bit `r` says whether it has one. Past the last row the bits are 0. What is written for a row without a
+    /// number is unspecified. It takes no memory.
+    pub fn read_block(&self, at: usize, numbers: &mut [i64; MAX_BLOCK]) -> u64
+        requires { at < word_count (length (shifted_entries self.now)) }
+        ensures long { length numbers.new ≡ max_block }
+        ensures entries { (r : ℕ) → r < max_block → block_entry result numbers.new r
+            ≡ slice_index_or (shifted_entries self.now) (64 * at + r) None }
+    {
+        let mut stored = [0; MAX_BLOCK];
+        self.stored.numbers_into(at, &mut stored);
+        add_offset(self.offset, &stored, numbers);
+        self.stored.not_null().words()[at]
+    }
+
+    /// Keeps in a span of words the rows whose number satisfies the comparison `op` with the number that another column
+    /// has there. The first word stands for the 64 rows from row `64 * at` on. A row that is null in one of the two is
+    /// not kept, nor a bit past the last row. It takes no memory. Two columns of slices are gone over once, slice by
+    /// slice; others are read row by row, but for words that have no row.
+    pub fn keep_related(&self, op: Op, other: &Shifted, at: usize, span: &mut [u64])
+        requires within { at + length span.old ≤ word_count (length (shifted_entries self.now)) }
+        requires same { length (shifted_entries other.now) ≡ length (shifted_entries self.now) }
+        ensures { KeepsRelated op (shifted_entries self.now) (shifted_entries other.now) at
+            span.old span.new }
+    {
+        let relating = relating_of(self.offset, op, other.offset);
+        match (&self.stored, &other.stored, relating) {
+            (AnyColumn::Slices(slices), AnyColumn::Slices(others), Some(relating)) => {
+                slices.keep_related(relating, others, at, span);
+            }
+            _ => self.keep_related_rows(op, other, at, span),
+        }
+    }
+
+    /// Keeps those rows word by word.
+    fn keep_related_rows(&self, op: Op, other: &Shifted, at: usize, span: &mut [u64])
+        requires within { at + length span.old ≤ word_count (length (shifted_entries self.now)) }
+        requires same { length (shifted_entries other.now) ≡ length (shifted_entries self.now) }
+        ensures { KeepsRelated op (shifted_entries self.now) (shifted_entries other.now) at
+            span.old span.new }
+    {
+        // The proof takes from this that there are at most 2^32 rows, so at most 2^26 words.
+        prove!(self.len() <= MAX_LEN);
+        'words: for k in 0..span.len() {
+            span[k] = self.related_rows(op, other, at + k, span[k]);
+        }
+    }
+
+    /// Returns those of a word's rows, the 64 from row `64 * at` on, whose numbers in this column and another compare so.
+    fn related_rows(&self, op: Op, other: &Shifted, at: usize, rows: u64) -> u64
+        requires within { at < word_count (length (shifted_entries self.now)) }
+        requires same { length (shifted_entries other.now) ≡ length (shifted_entries self.now) }
+        ensures { (r : ℕ) → r < max_block → (bit_at result r == 1) ≡ (bit_at rows r == 1
+            && signed_relates op (slice_index_or (shifted_entries self.now) (64 * at + r) None)
+            (slice_index_or (shifted_entries other.now) (64 * at + r) None)) }
+    {
+        if rows == 0 {
+            return 0;
+        }
+        let (mut numbers, mut others) = ([0; MAX_BLOCK], [0; MAX_BLOCK]);
+        let first = self.read_block(at, &mut numbers);
+        let second = other.read_block(at, &mut others);
+        rows & (first & second & compare_each(op, &numbers, &others))
+    }
+}
+
+/// Returns the comparison of stored numbers that says the same as `op` of numbers from these offsets on, or none where
+/// the offsets lie 2^63 or more apart.
+fn relating_of(offset: i64, op: Op, other: i64) -> Option<Relating>
+    ensures small { IfSome result (λ relating.
+        (relating.more < max_size) × (relating.others_more < max_size)) }
+    ensures agree { IfSome result (λ relating. (x y : ℕ) → relates relating x y
+        ≡ compares_by signed_order op (number_of offset x) (number_of other y)) }
+{
+    let apart = offset.abs_diff(other);
+    if apart >= 1 << 63 {
+        return None;
+    }
+    let (more, others_more) = if offset < other {
+        (0, apart)
+    } else {
+        (apart, 0)
+    };
+    Some(Relating {
+        more,
+        op,
+        others_more,
+    })
+}
+
+/// Writes the number that is stored as each of these. One that no column stores is cut to 64 bits.
+fn add_offset(offset: i64, stored: &[u64; MAX_BLOCK], numbers: &mut [i64; MAX_BLOCK])
+    ensures long { length numbers.new ≡ max_block }
+    ensures numbers { (r : ℕ) → r < max_block → slice_index stored.now r < max_size →
+        number_of offset (slice_index stored.now r) <ℤ pos end_of_i64 →
+        slice_index_or numbers.new r (pos 0) ≡ number_of offset (slice_index stored.now r) }
+{
+    'rows: for r in 0..MAX_BLOCK {
+        numbers[r] = offset.wrapping_add_unsigned(stored[r]);
+    }
+}
+
+/// Returns a word whose bit `r` says whether number `r` of one block compares so with that of another.
+fn compare_each(op: Op, numbers: &[i64; MAX_BLOCK], others: &[i64; MAX_BLOCK]) -> u64
+    ensures { (r : ℕ) → r < max_block → (bit_at result r == 1)
+        ≡ compares_by signed_order op (slice_index_or numbers.now r (pos 0))
+        (slice_index_or others.now r (pos 0)) }
+{
+    match op {
+        Op::Eq => !(lower_places(numbers, others) | lower_places(others, numbers)),
+        Op::Ne => lower_places(numbers, others) | lower_places(others, numbers),
+        Op::Lt => lower_places(numbers, others),
+        Op::Le => !lower_places(others, numbers),
+        Op::Gt => lower_places(others, numbers),
+        Op::Ge => !lower_places(numbers, others),
+    }
+}
+
+/// Returns a word whose bit `r` says whether the number at place `r` is below the other.
+fn lower_places(numbers: &[i64; MAX_BLOCK], others: &[i64; MAX_BLOCK]) -> u64
+    ensures { (r : ℕ) → r < max_block → (bit_at result r == 1)
+        ≡ signed_order.below (slice_index_or numbers.now r (pos 0))
+        (slice_index_or others.now r (pos 0)) }
+{
+    let mut word = 0;
+    'places: for r in 0..MAX_BLOCK {
+        word |= ((numbers[r] < others[r]) as u64) << r;
+    }
+    word
+}
