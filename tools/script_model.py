@@ -126,6 +126,8 @@ class Machine:
         self.feeders = []
         self.limit = MAX_LIMIT
         self.has_begun = False
+        # (those that keep an index do)
+        self.compares_columns = False
         self.indexed = []
 
     def step(self, record):
@@ -258,13 +260,18 @@ def joined(join, first, second):
 
 
 def read_comparison(machine, name, left):
-    """Returns the test of a column that the name and the next fields spell, which it takes from the list, or None."""
+    """Returns the test of a column that the name and the next fields spell, which it takes from the list, or None. In place
+    of a constant may stand a column's name where the machine compares columns."""
     place, sign = machine.position(name), left.pop() if left else None
     if place is not None and sign == b"null":
         return lambda row: row[place] is None
-    compares, constant = SIGNS.get(sign), machine.read(left.pop()) if left else None
-    if None in (place, compares, constant):
+    compares, text = SIGNS.get(sign), left.pop() if left else b""
+    other = machine.position(text) if machine.compares_columns else None
+    constant = machine.read(text)
+    if None in (place, compares) or constant is None and other is None:
         return None
+    if other is not None:
+        return lambda row: None not in (row[place], row[other]) and compares(row[place], row[other])
     return lambda row: row[place] is not None and compares(row[place], constant)
 
 

@@ -1,4 +1,5 @@
-"""Which rows a question is over: comparisons of columns with constants and tests for null, joined by `&`, `|` and `~`.
+"""Which rows a question is over: comparisons of columns with constants or with each other and tests for null, joined by
+`&`, `|` and `~`.
 
 A predicate is its terms in postfix order, as a query of the library has them, and never changes.
 """
@@ -24,6 +25,17 @@ class Comparison(NamedTuple):
 
     def __str__(self) -> str:
         return f"{_name(self.column)} {'==' if self.sign == '=' else self.sign} {self.constant!r}"
+
+
+class Related(NamedTuple):
+    """A column, one of the signs, and another column."""
+
+    column: str
+    sign: str
+    other: str
+
+    def __str__(self) -> str:
+        return f"{_name(self.column)} {'==' if self.sign == '=' else self.sign} {_name(self.other)}"
 
 
 class Null(NamedTuple):
@@ -65,7 +77,7 @@ class Stored(NamedTuple):
         return f"({_name(self.column)} {'==' if self.sign == '=' else self.sign} number {self.number})"
 
 
-Term = Union[Comparison, Null, Among, Holds, Stored, str]
+Term = Union[Comparison, Related, Null, Among, Holds, Stored, str]
 
 
 def _name(column: str) -> str:
@@ -138,7 +150,7 @@ class Predicate:
                 stack.append(f"({left} {'&' if term == 'and' else '|'} {right})")
             else:
                 stack.append(
-                    "all_rows" if term == "all" else f"({term})" if isinstance(term, Comparison) else str(term)
+                    "all_rows" if term == "all" else f"({term})" if isinstance(term, (Comparison, Related)) else str(term)
                 )
         return stack[0]
 
@@ -152,7 +164,7 @@ def _scalar(constant: Any) -> Any:
 
 
 class Column:
-    """A column by its name, to be compared with constants of the column's own type."""
+    """A column by its name, to be compared with constants of the column's own type, and with columns of its kind."""
 
     __slots__ = ("name",)
     __array_ufunc__ = None  # (NumPy leaves comparisons to this class)
@@ -170,8 +182,10 @@ class Column:
         return Column, (self.name,)
 
     def _compared(self, sign: str, constant: Any) -> Predicate:
-        if isinstance(constant, (Column, Predicate)):
-            raise TypeError("a column is compared with a constant, and not with another column")
+        if isinstance(constant, Predicate):
+            raise TypeError("a column is compared with a constant or a column, and not with a predicate")
+        if isinstance(constant, Column):
+            return Predicate((Related(self.name, sign, constant.name),))
         return Predicate((Comparison(self.name, sign, _scalar(constant)),))
 
     def __eq__(self, constant: Any) -> Predicate:  # type: ignore[override]

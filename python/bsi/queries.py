@@ -11,8 +11,8 @@ from typing import Any, Dict, Iterable, Iterator, List, Mapping, Optional, Seque
 
 from .errors import BadQuery
 from .forms import Form
-from .kinds import FAR, Cut, Flags, Texts, shown
-from .predicates import MAX_FIELDS, Among, Column, Comparison, Holds, Null, Predicate, Stored, refuse_long
+from .kinds import FAR, Cut, Flags, Kind, Texts, Times, shown
+from .predicates import MAX_FIELDS, Among, Column, Comparison, Holds, Null, Predicate, Related, Stored, refuse_long
 from .values import is_null
 
 Name = Union[str, Column]
@@ -85,6 +85,8 @@ class Writer:
         name = name_among(self.forms, term.column)
         if isinstance(term, Comparison):
             return self._comparison(name, term)
+        if isinstance(term, Related):
+            return self._related(name, term)
         if isinstance(term, Null):
             return [self.within[name], b"null"]
         if isinstance(term, Among):
@@ -105,6 +107,15 @@ class Writer:
         sign, number = among_numbers(term.sign, *cut)
         sign, number = clamped(self.forms[name], sign, number)
         return [self.within[name], sign.encode(), b"%d" % number]
+
+    def _related(self, name: str, term: Related) -> Fields:
+        other = name_among(self.forms, term.other)
+        kind, second = self.forms[name].kind, self.forms[other].kind
+        if not _compare(kind, second):
+            raise BadQuery(f"columns {name!r} and {other!r} can't be compared: they hold {kind} and {second}")
+        if isinstance(kind, Texts) and (kind.grows or second.grows) and term.sign not in ("=", "!="):
+            raise BadQuery(f"columns {name!r} and {other!r} hold {kind} that grow, which == and != alone compare")
+        return [self.within[name], term.sign.encode(), self.within[other]]
 
     def _one_of(self, name: str, numbers: Iterable[int]) -> Fields:
         """Returns the fields that select some numbers of a column, run by run, of those in its span."""
@@ -127,6 +138,13 @@ class Writer:
         except (TypeError, ValueError, ArithmeticError) as why:
             hint = "; isnull() finds the nulls" if is_null(constant) and "isnull" not in str(why) else ""
             raise BadQuery(f"column {name!r} is compared with one of {kind}: {why}{hint}") from None
+
+
+def _compare(kind: Kind, other: Kind) -> bool:
+    """Returns whether equal numbers of the two kinds stand for equal values, and others in the same order."""
+    if isinstance(kind, Times) and isinstance(other, Times):
+        return kind.unit == other.unit and (kind.zone is None) == (other.zone is None)
+    return kind == other
 
 
 def among_numbers(sign: str, left: int, right: int) -> Tuple[str, int]:

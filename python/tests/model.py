@@ -63,6 +63,14 @@ class Table:
     def forms(self):
         return {name: form for name, (form, *_) in self.columns.items()}
 
+    def related(self, name):
+        """Returns a comparison of a column with one of its kind, which may be itself, and the rows that it selects."""
+        form, numbers, there, _ = self.columns[name]
+        other = str(self.rng.choice([one for one, (second, *_) in self.columns.items() if second.kind == form.kind]))
+        _, others, other_there, _ = self.columns[other]
+        sign = str(self.rng.choice(list(COMPARE)))
+        return bsi.col[name]._compared(sign, bsi.col[other]), COMPARE[sign](numbers, others) & there & other_there
+
     def comparison(self):
         """Returns a comparison and the rows that it selects. Constants lie among the numbers, between two of them and
         past both ends."""
@@ -71,6 +79,8 @@ class Table:
         column = bsi.col[name]
         if self.rng.random() < 0.15:
             return column.isnull(), ~there
+        if self.rng.random() < 0.2:
+            return self.related(name)
         sign, number = str(self.rng.choice(list(COMPARE))), int(self.rng.integers(form.offset - 3, form.most + 4))
         number = int(self.rng.choice([-(10**5), 2 * 10**6])) if self.rng.random() < 0.05 else number
         half = self.rng.random() < 0.2

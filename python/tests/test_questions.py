@@ -38,6 +38,8 @@ def index():
         ("median price where not price = 7", 100),
         ("least 'Amount (EUR)' price!=100", bsi.Decimals(2).decode(225)),
         ("count price<2.5", 0),
+        ('rows "and" < price', [0, 1, 3]),
+        ('count "and" >= price or price == price', 3),
         ("count not price null and not (price = 7 or price = 100)", 1),
         ("count price null or price not null", 4),
         ("greatest price price > 1000", None),
@@ -93,6 +95,22 @@ def test_answers(index, text, answer):
 def test_questions_that_are_none(index, text, why):
     with pytest.raises(bsi.BadQuery, match=why):
         bsi.ask(index, text)
+
+
+def test_columns_of_other_kinds_are_refused(index):
+    for where, why in (
+        (col.price < col.day, "columns 'price' and 'day' can't be compared: they hold whole numbers and "),
+        (col.price == col["Amount (EUR)"], "columns 'price' and 'Amount (EUR)' can't be compared: "),
+        (col.price == col.nothing, "there is no column 'nothing'"),
+    ):
+        with pytest.raises(bsi.BadQuery) as told:
+            index.count(where)
+        assert str(told.value).startswith(why)
+    with bsi.Index({"a": bsi.Texts(["x", "y"]), "b": bsi.Texts(["x", "y"], grows=True)}) as texts:
+        texts.append({"a": ["x", "y", None], "b": ["y", "y", "y"]})
+        assert texts.rows(col.a == col.b).tolist() == [1]
+        with pytest.raises(bsi.BadQuery, match="texts that grow"):
+            texts.count(col.a < col.b)
 
 
 def test_deep_questions(index):

@@ -49,7 +49,7 @@ class Table:
         limit = f"limit,{max(ROWS) * self.feeders}\n"
         self.schema = "".join([*records, self.chance.choice(("", limit))]).encode()
         self.machine = files_model.read_schema(self.schema)
-        self.machine.has_begun = True
+        self.machine.has_begun = self.machine.compares_columns = True
         # (numbers that come often)
         self.often = [[0, column.size - 1, *(self.chance.randrange(column.size) for _ in range(5))] for column in self.machine.columns]
 
@@ -80,6 +80,8 @@ class Table:
             return [*self.predicate(depth - 1), *self.predicate(depth - 1), self.chance.choice(("and", "or"))]
         if self.chance.random() < 0.2:
             return self.chance.choice((["all"], [self.names[at], "null"]))
+        if self.chance.random() < 0.2:
+            return [self.names[at], self.chance.choice(SIGNS), self.chance.choice(self.names)]
         return [self.names[at], self.chance.choice(SIGNS), str(self.number(at) + self.chance.choice((-1, 0, 0, 1)))]
 
     def asks(self):
