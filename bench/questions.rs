@@ -287,6 +287,7 @@ fn time_scans(lists: &Lists, samples: u32) {
     let n = lists.len();
     time("scan.le", n, samples, || lists.count_first(|a| a <= BELOW));
     time("scan.between", n, samples, || lists.count_first(|a| (a > ABOVE) & (a < BELOW)));
+    time("scan.related", n, samples, || lists.count(|a, b, _| a < b));
     time("scan.not", n, samples, || lists.count_first(|a| !(a <= BELOW)));
     time("scan.two", n, samples, || lists.count_two());
     time("scan.three", n, samples, || lists.count(|a, b, c| (a > ABOVE) & (b < BELOW) & (c <= HALF)));

@@ -10,7 +10,7 @@ mod growth;
 pub use any::AnyColumn;
 pub use bitmaps::{count_places, slices_from_bitmaps};
 pub use bsi_components::{BinaryPlaces, Encoding, EqualityComponent, RangeComponent, RankedRows};
-pub use bsi_slices::{Column, Op, Slices};
+pub use bsi_slices::{Column, Op, Relating, Slices};
 pub use bsi_words::spans::MAX_SPAN_WORDS;
 pub use decomposed::Decomposed;
 pub use std::alloc::AllocError as NoMemory;

@@ -14,8 +14,7 @@ ghost use Rattle.bsi_shift.specs.Shifted.{number_of, shifted_entries};
 
 use crate::Shifted;
 use bsi_bits::{MAX_BLOCK, MAX_LEN};
-use bsi_columns::{AnyColumn, Column, Op};
-use bsi_slices::Relating;
+use bsi_columns::{AnyColumn, Column, Op, Relating};
 
 impl Shifted {
     /// Reads the 64 rows from row `64 * at` on: writes the number of row `64 * at + r` at place `r`, and returns a word
