@@ -28,11 +28,11 @@ class Comparison(NamedTuple):
 
 
 class Related(NamedTuple):
-    """A column, one of the signs, and another column."""
+    """A column, another column, and the sign between them."""
 
     column: str
-    sign: str
     other: str
+    sign: str
 
     def __str__(self) -> str:
         return f"{_name(self.column)} {'==' if self.sign == '=' else self.sign} {_name(self.other)}"
@@ -185,7 +185,7 @@ class Column:
         if isinstance(constant, Predicate):
             raise TypeError("a column is compared with a constant or a column, and not with a predicate")
         if isinstance(constant, Column):
-            return Predicate((Related(self.name, sign, constant.name),))
+            return Predicate((Related(self.name, constant.name, sign),))
         return Predicate((Comparison(self.name, sign, _scalar(constant)),))
 
     def __eq__(self, constant: Any) -> Predicate:  # type: ignore[override]

@@ -111,10 +111,11 @@ class Writer:
     def _related(self, name: str, term: Related) -> Fields:
         other = name_among(self.forms, term.other)
         kind, second = self.forms[name].kind, self.forms[other].kind
-        if not _compare(kind, second):
-            raise BadQuery(f"columns {name!r} and {other!r} can't be compared: they hold {kind} and {second}")
+        if not _are_comparable(kind, second):
+            which = "other texts" if isinstance(kind, Texts) and isinstance(second, Texts) else f"{kind} and {second}"
+            raise BadQuery(f"columns {name!r} and {other!r} can't be compared: they hold {which}; kinds= gives both one kind")
         if isinstance(kind, Texts) and (kind.grows or second.grows) and term.sign not in ("=", "!="):
-            raise BadQuery(f"columns {name!r} and {other!r} hold {kind} that grow, which == and != alone compare")
+            raise BadQuery(f"columns {name!r} and {other!r} hold texts that grow, which == and != alone compare")
         return [self.within[name], term.sign.encode(), self.within[other]]
 
     def _one_of(self, name: str, numbers: Iterable[int]) -> Fields:
@@ -140,7 +141,7 @@ class Writer:
             raise BadQuery(f"column {name!r} is compared with one of {kind}: {why}{hint}") from None
 
 
-def _compare(kind: Kind, other: Kind) -> bool:
+def _are_comparable(kind: Kind, other: Kind) -> bool:
     """Returns whether equal numbers of the two kinds stand for equal values, and others in the same order."""
     if isinstance(kind, Times) and isinstance(other, Times):
         return kind.unit == other.unit and (kind.zone is None) == (other.zone is None)

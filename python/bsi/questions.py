@@ -3,8 +3,8 @@
     count [P]    rows [P]    sum COLUMN [P]    mean COLUMN [P]    median COLUMN [P]
     least COLUMN [P]    greatest COLUMN [P], or min and max
 
-P is made of `COLUMN SIGN CONSTANT` with one of = == != < <= > >=, `COLUMN SIGN COLUMN`, `COLUMN null`, `COLUMN not
-null`, `all`, `and`, `or`, `not` and brackets; `where` may stand before it. `not` binds closest, then `and`. A name or a constant that is no plain
+P is made of `COLUMN SIGN CONSTANT` with one of = == != < <= > >=, `COLUMN null`, `COLUMN not null`, `all`, `and`, `or`,
+`not` and brackets; `where` may stand before it. What is none of the column's constants may name another column. `not` binds closest, then `and`. A name or a constant that is no plain
 word, or one of these words, stands in quotes: "Amount (EUR)", 'Okafor, Ada'; a quote within them is written twice.
 Constants are read as the column's own kind: 100, 12.50, 2026-01-31, true, Meyer.
 """
@@ -15,6 +15,7 @@ import re
 from typing import Any, List, Tuple
 
 from .errors import BadQuery
+from .kinds import Texts
 from .predicates import Column, Predicate, all_rows, col
 from .table import Table
 
@@ -147,12 +148,14 @@ def _operand(table: Table, tokens: List[Token], at: int) -> Tuple[Predicate, int
 
 
 def _compared(table: Table, column: Column, sign: str, constant: Token) -> Predicate:
-    sign = "=" if sign == "==" else sign
-    if not constant.quoted and str(constant) in table.columns:
-        return column._compared(sign, col[str(constant)])
-    kind = table.forms[column.name].kind
+    sign, name, kind = "=" if sign == "==" else sign, str(constant), table.forms[column.name].kind
+    other = col[name] if name in table.columns else None
+    if other is not None and isinstance(kind, Texts) and name not in kind.places:
+        return column._compared(sign, other)
     try:
-        value = kind.parse(str(constant))
+        value = kind.parse(name)
     except (ValueError, ArithmeticError) as why:
+        if other is not None:
+            return column._compared(sign, other)
         raise BadQuery(f"column {column.name!r} is compared with one of {kind}: {why}") from None
     return column._compared(sign, value)

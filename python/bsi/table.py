@@ -314,6 +314,8 @@ class Table:
         equal ones the mean of their places, or the "min" or "max" of these. None where none of the rows has it."""
         if method not in ("average", "min", "max"):
             raise ValueError(f"method is 'average', 'min' or 'max', and not {method!r}")
+        if isinstance(value, Column):
+            raise TypeError("rank takes a value of the column, and not a column")
         one = Column(self._name(column))
         less, same = self.count((one < value) & where), self.count((one == value) & where)
         places = {"min": less + 1, "max": less + same, "average": less + (same + 1) / 2}

@@ -10,6 +10,7 @@ import numpy as np
 import pytest
 
 import bsi
+import model
 from bsi import col
 
 
@@ -717,3 +718,20 @@ def test_progress_is_told():
     told = []
     bsi.Index.from_frame({"a": np.arange(1 << 19 | 5)}, progress=lambda done, total: told.append((done, total)))
     assert told == [(1 << 18, 524293), (1 << 19, 524293), (524293, 524293)]
+
+
+def test_columns_of_many_rows_are_compared():
+    rng = np.random.default_rng(11)
+    low, high = rng.integers(-7, 9, 5000), rng.integers(-3, 13, 5000)
+    there = rng.random(5000) < 0.9
+    forms = {"low": bsi.slices(5, offset=-7), "high": bsi.slices(4, offset=-3), "digits": bsi.range(3, 7, offset=-7)}
+    with bsi.Index(forms) as index:
+        values = [value if is_there else None for value, is_there in zip(low.tolist(), there)]
+        index.append({"low": values, "high": high, "digits": low})
+        for sign, compare in model.COMPARE.items():
+            for name, known in (("low", there), ("digits", True)):
+                for one, other, wanted in ((name, "high", compare(low, high)), ("high", name, compare(high, low))):
+                    where = col[one]._compared(sign, col[other])
+                    assert (index.mask(where) == (wanted & known)).all(), where
+                    assert pickle.loads(pickle.dumps(where)) == where != col[one]._compared(sign, other)
+    assert repr(~(col.low < col.high)) == "~(col.low < col.high)"

@@ -3,6 +3,7 @@
 import os
 import subprocess
 import sys
+from datetime import timedelta, timezone
 
 import pytest
 
@@ -106,11 +107,37 @@ def test_columns_of_other_kinds_are_refused(index):
         with pytest.raises(bsi.BadQuery) as told:
             index.count(where)
         assert str(told.value).startswith(why)
-    with bsi.Index({"a": bsi.Texts(["x", "y"]), "b": bsi.Texts(["x", "y"], grows=True)}) as texts:
+    two, grows = bsi.Texts(["x", "y"]), bsi.Texts(["x", "y"], grows=True)
+    with bsi.Index({"a": bsi.slices(1).of(two), "b": bsi.slices(2).of(grows)}) as texts:
         texts.append({"a": ["x", "y", None], "b": ["y", "y", "y"]})
         assert texts.rows(col.a == col.b).tolist() == [1]
         with pytest.raises(bsi.BadQuery, match="texts that grow"):
             texts.count(col.a < col.b)
+    with pytest.raises(TypeError, match="rank takes a value"):
+        index.rank("price", col["and"])
+
+
+def test_constants_come_before_columns():
+    data = {"a": [1, 2, 2024], "2024": [1, 5, 6], "Amount (EUR)": [2, 2, 2]}
+    data.update(city=["Ulm", "b", "Ulm"], b=["Ulm", "Ulm", "b"])
+    with bsi.Index.from_frame(data) as index:
+        for text, rows in (
+            ("rows a = 2024", [2]),
+            ('rows a < "Amount (EUR)"', [0]),
+            ("rows city = b", [1]),
+            ("rows city = 'b' or b = city", [0, 1]),
+        ):
+            assert bsi.ask(index, text).tolist() == rows, text
+
+
+def test_times_are_compared_where_unit_and_zone_agree():
+    kinds = {"day": bsi.Times("D"), "other": bsi.Times("D"), "second": bsi.Times("s"), "utc": bsi.Times("s", timezone.utc)}
+    kinds["east"] = bsi.Times("s", timezone(timedelta(hours=2)))
+    with bsi.Index({name: bsi.slices(40).of(kind) for name, kind in kinds.items()}) as times:
+        assert times.count((col.day <= col.other) | (col.utc > col.east)) == 0
+        for where in (col.day < col.second, col.second == col.utc):
+            with pytest.raises(bsi.BadQuery, match="can't be compared"):
+                times.count(where)
 
 
 def test_deep_questions(index):

@@ -16,7 +16,7 @@ use std::alloc::Global;
 pub enum Wording {
     /// Queries, as `read_query` reads them.
     Queries,
-    /// Questions, as `read_question` reads them: queries, and ranks.
+    /// Questions, as `read_question` reads them: queries, ranks, and comparisons of columns.
     Questions,
 }
 

@@ -1,5 +1,5 @@
 -- Questions of an index that is kept or held.
-use Rattle.std.proofs.Common.{◌≡◌, ℕ, Bool, true, false, if◌then◌else◌, List, [], ◌∷◌, drop, length, Option, Some, None, MatchOption, option_map, ap, sym, subst, ◌∙◌, refl, codes}
+use Rattle.std.proofs.Common.{◌≡◌, ℕ, Bool, true, false, if◌then◌else◌, List, [], ◌∷◌, drop, length, Option, Some, None, option_map, ap, sym, ◌∙◌, refl, codes}
 use Rattle.std.specs.Option.{option_and_then}
 use Rattle.std.specs.Str.{bytes_eq}
 use Rattle.csv.specs.Records.{field_at}
@@ -12,7 +12,7 @@ use Rattle.bsi_records.specs.Events.{total_of}
 use Rattle.bsi_records.specs.Numbers.{Field, spelled_number}
 use Rattle.bsi_records.specs.Predicates.{IsPredicate}
 use Rattle.bsi_records.specs.Questions.{asked_total, rank_total, IsQuestion}
-use Rattle.bsi_records.proofs.SpellWords.{if_same, mapped, none_is_some, some_same}
+use Rattle.bsi_records.proofs.SpellWords.{mapped, none_is_some, some_same}
 use Rattle.bsi_records.proofs.Spelling.{AsksBy, neither_missing, none_missing, not_missing, total_there}
 use Rattle.std.proofs.lemmas.Option.{option_and_then_some}
 

@@ -1,5 +1,5 @@
 -- Words, names and signs are told apart.
-use Rattle.std.proofs.Common.{◌≡◌, ℕ, Bool, true, false, ◌||◌, not, ◌&&◌, if◌then◌else◌, List, length, get_or, Option, Some, None, option_map, nat_le, true≢false, [], ◌∷◌, ℤ, pos, ap, sym, ◌∙◌, refl, arith, codes}
+use Rattle.std.proofs.Common.{◌≡◌, ℕ, Bool, true, false, ◌||◌, not, ◌&&◌, if◌then◌else◌, List, length, get_or, Option, Some, None, option_map, nat_le, true≢false, [], ◌∷◌, pos, ap, sym, ◌∙◌, refl, arith, codes}
 use Rattle.std.specs.Prelude.{◌==◌, ◌^◌, nat_lt, neg_ℤ}
 use Rattle.std.specs.Char.{is_ascii_digit, is_ascii_lowercase}
 use Rattle.std.specs.Str.Parse.{digits_value}

@@ -12,8 +12,8 @@ use csv::ByteRecord;
 use std::alloc::Global;
 
 /// Reads a record as a query: `count` or `list`, or another total and its column, and then the fields of a predicate in
-/// postfix order, at most 1,000. `None` stands for a record that is not a query. It allocates memory for each part of
-/// the predicate.
+/// postfix order, at most 1,000. `None` stands for a record that is not a query, as one that compares two columns. It
+/// allocates memory for each part of the predicate.
 pub fn read_query(
     alloc: Global,
     schema: &Schema,

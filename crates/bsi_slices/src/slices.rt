@@ -125,8 +125,8 @@ impl Slices {
         numbers_by_places(self.slices.as_slice(), at, numbers);
     }
 
-    /// Keeps in a span of words the rows whose number here compares so with that of another column. The first word stands
-    /// for the 64 rows from row `64 * at` on. A row that is null in one of the two is not kept, nor a bit past the last
+    /// Keeps in a span of words the rows whose number here compares, as `relating` says, with that of another column of as
+    /// many rows. The first word stands for the 64 rows from row `64 * at` on. A row that is null in one of the two is not kept, nor a bit past the last
     /// row. It takes no memory.
     pub fn keep_related(&self, relating: Relating, other: &Slices, at: usize, span: &mut [u64])
         requires more { (relating.more < max_size) × (relating.others_more < max_size) }

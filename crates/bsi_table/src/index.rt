@@ -312,8 +312,7 @@ impl Index {
         Ok(first)
     }
 
-    /// Makes row `r`, counted from 0, as a row of its own. It makes a bit for each row of the index, one after another,
-    /// and passes over all columns.
+    /// Makes row `r`, counted from 0, as a row of its own. It reads the 64 rows around it in each column.
     pub fn row(&self, r: u64) -> Result<Row, NoMemory>
         requires { r < length self.now.rows }
         ensures { IfOk result (λ row. slice_get (entries_of self.now.rows) r ≡ Some row) }

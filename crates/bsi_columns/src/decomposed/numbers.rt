@@ -5,8 +5,8 @@ ghost use Rattle.bsi_bits.specs.BitList.{max_block, word_count};
 ghost use Rattle.bsi_bits.specs.Packed.{end_of_u64};
 ghost use Rattle.bsi_slices.specs.Blocks.{AreNumbersFrom};
 
+use crate::BinaryPlaces;
 use crate::decomposed::Decomposed;
-use crate::{BinaryPlaces, Column};
 use bsi_bits::MAX_BLOCK;
 use bsi_components::place_count;
 use bsi_slices::transposing::transpose;

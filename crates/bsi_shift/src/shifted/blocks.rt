@@ -1,5 +1,5 @@
-//! 64 rows, read at once, and comparisons of two columns: of slices by their binary places, of other forms by the numbers
-//! of such rows.
+//! 64 rows, read at once, and comparisons of two columns: of slices by their binary places, of others by the numbers of
+//! such rows.
 
 ghost use Rattle.std.specs.Prelude.{◌≡◌, ℕ, pos, ◌<ℤ◌, ◌+◌, ◌*◌, ◌<◌, ◌≤◌, ◌==◌, ◌&&◌, length, None, slice_index, slice_index_or, IfSome};
 ghost use Rattle.std.specs.Int.{bit_at};
@@ -33,9 +33,9 @@ impl Shifted {
     }
 
     /// Keeps in a span of words the rows whose number satisfies the comparison `op` with the number that another column
-    /// has there. The first word stands for the 64 rows from row `64 * at` on. A row that is null in one of the two is
+    /// of as many rows has there. The first word stands for the 64 rows from row `64 * at` on. A row that is null in one of the two is
     /// not kept, nor a bit past the last row. It takes no memory. Two columns of slices are gone over once, slice by
-    /// slice; others are read row by row, but for words that have no row.
+    /// slice, unless their offsets lie 2^63 or more apart; others are read row by row, but for words that have no row.
     pub fn keep_related(&self, op: Op, other: &Shifted, at: usize, span: &mut [u64])
         requires within { at + length span.old ≤ word_count (length (shifted_entries self.now)) }
         requires same { length (shifted_entries other.now) ≡ length (shifted_entries self.now) }

@@ -1,10 +1,10 @@
 //! Comparisons of the numbers of two columns of slices, span by span and from the least significant slices up.
 //!
-//! A number stands less its column's offset, so one of the two has an addend, and a carry takes it in. Two states say of
-//! the places so far whether the first number is below the second, and whether they are the same (O'Neil and Quass 1997
-//! compare with a constant so).
+//! A number stands less its column's offset, so one of the two has an addend, and a carry takes it in (Rinfret, O'Neil and
+//! O'Neil 2001 add slices so). Two states say of the places so far whether the first number is below the second, and
+//! whether they are the same.
 
-ghost use Rattle.std.specs.Prelude.{◌≡◌, ℕ, ◌+◌, ◌*◌, ◌-◌, ◌/◌, ◌<◌, ◌≤◌, ◌^◌, ◌&&◌, ◌||◌, ◌==◌, not, if◌then◌else◌, length, nat_eq, nat_lt, slice_index_or, false, true};
+ghost use Rattle.std.specs.Prelude.{◌≡◌, ℕ, ◌+◌, ◌*◌, ◌-◌, ◌/◌, ◌<◌, ◌≤◌, ◌^◌, ◌&&◌, ◌||◌, not, if◌then◌else◌, length, nat_eq, nat_lt, slice_index_or, false, true};
 ghost use Rattle.bsi_words.specs.Places.{max_places};
 ghost use Rattle.bsi_bits.specs.BitList.{differ, max_words, word_count};
 ghost use Rattle.bsi_bits.specs.BitLists.{bits_at};

@@ -1,6 +1,5 @@
-use Rattle.std.proofs.Common.{◌≡◌, ◌<◌, ◌≤◌, ◌+◌, ◌∷◌, [], ℕ, List, length, get_or, map, ap, sym, subst, ◌∙◌, length-append}
+use Rattle.std.proofs.Common.{◌≡◌, ◌<◌, ◌≤◌, ◌+◌, ◌∷◌, [], ℕ, length, get_or, map, ap, sym, subst, ◌∙◌, length-append}
 use Rattle.std.proofs.lemmas.List.{take_all}
-use Rattle.std.specs.Vec.{vec_capacity}
 use Rattle.bsi_columns.proofs.ComponentLists.{map_copied}
 use Rattle.bsi_columns.proofs.decomposed.copy_each.Goals as goal
 

@@ -1,4 +1,4 @@
-use Rattle.std.proofs.Common.{◌≡◌, ◌<◌, ◌≤◌, ◌+◌, ◌∷◌, [], ℕ, length, get_or, take, replicate, ap, sym, subst, ◌∙◌, length-append}
+use Rattle.std.proofs.Common.{◌<◌, ◌≤◌, ◌+◌, ◌∷◌, [], ℕ, length, get_or, take, replicate, ap, sym, subst, ◌∙◌, length-append}
 use Rattle.std.proofs.lemmas.List.{take_all, take_more, replicate_more}
 use Rattle.bsi_columns.proofs.ComponentLists.{map_pushed}
 use Rattle.bsi_columns.proofs.decomposed.make_each.Goals as goal

@@ -1,4 +1,4 @@
-use Rattle.std.proofs.Common.{◌≡◌, ◌<◌, ◌≤◌, ◌+◌, ◌++◌, ℕ, length, get_or, ap, ◌∙◌, sym, subst, arith}
+use Rattle.std.proofs.Common.{◌≡◌, ◌<◌, ◌≤◌, ◌+◌, ◌++◌, ℕ, length, get_or, ap, ◌∙◌, sym, subst}
 use Rattle.std.proofs.lemmas.List.{length-map, take_at}
 use Rattle.bsi_columns.proofs.growth.push_block.Goals as goal
 

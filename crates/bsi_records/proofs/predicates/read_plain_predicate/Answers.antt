@@ -1,7 +1,6 @@
-use Rattle.std.proofs.Common.{◌≡◌, true, false, drop, sym, ◌∙◌}
+use Rattle.std.proofs.Common.{drop, sym, ◌∙◌}
 use Rattle.csv.specs.Records.{fields_of}
-use Rattle.bsi_rows.specs.declared.query.Pred.{Pred}
-use Rattle.bsi_records.specs.Predicates.{compares_columns, IsPredicate}
+use Rattle.bsi_records.specs.Predicates.{IsPredicate}
 use Rattle.bsi_records.proofs.Spelling.{not_plain}
 use Rattle.bsi_records.proofs.predicates.read_plain_predicate.Goals as goal
 

@@ -1,4 +1,4 @@
-use Rattle.std.proofs.Common.{◌≡◌, ◌-◌, ◌*◌, ◌++◌, ℕ, false, length, get_or, map, arith, ◌<◌, ◌≤◌, ◌+◌, ap, ◌∙◌, subst, take}
+use Rattle.std.proofs.Common.{◌≡◌, ◌-◌, ◌*◌, ◌++◌, ℕ, false, length, get_or, map, arith, ◌≤◌, ◌+◌, ap, ◌∙◌, subst, take}
 use Rattle.std.specs.Prelude.{min}
 use Rattle.std.proofs.lemmas.List.{length-append, length-take}
 use Rattle.bsi_slices.specs.Decisions.{relates}

@@ -1,7 +1,5 @@
-use Rattle.std.proofs.Common.{◌≡◌, ◌<◌, Some, length, map, nat_eq, ap, subst, sym, arith, ◌∙◌}
-use Rattle.std.specs.List.{range_with_len}
+use Rattle.std.proofs.Common.{◌≡◌, ◌<◌, Some, length, ap, subst, sym, arith, ◌∙◌}
 use Rattle.std.specs.Prelude.{slice_get}
-use Rattle.std.proofs.lemmas.List.FromFn.{length-map-range_with_len}
 use Rattle.bsi_shift.specs.Shifted.{shifted_entries}
 use Rattle.bsi_rows.specs.RowBlocks.{entries_of}
 use Rattle.bsi_table.specs.Kept.{kept_at, row_in}
