@@ -205,7 +205,6 @@ def test_predicates_never_change():
         lambda: 1 < col.price < 5,
         lambda: not where,
         lambda: where and where,
-        lambda: col.a < col.b,
         lambda: where & True,
         lambda: where | 5,
     ):

@@ -1,7 +1,7 @@
 //! What the words after the program's name ask for.
 //!
-//! A further command is a variant of `Subcommand` and of `Request`, a line of `subcommand_of` and of `parse_words`, and
-//! one function of `words.rt`.
+//! A further command is a variant of `Subcommand` and of `Request`, a line of `COMMANDS`, `subcommand_of` and
+//! `parse_words`, and one function of `words.rt`.
 ghost use Rattle.std.specs.Prelude.{◌≡◌, IfOk};
 ghost use Rattle.bsi_shell.specs.Commands.{subcommand_of};
 ghost use Rattle.bsi_shell.specs.Requests.{IsRequestOf};
@@ -30,6 +30,65 @@ pub(crate) enum Subcommand {
     Ask,
     /// Says what a kept index is.
     Show,
+}
+
+/// An argument of a command.
+#[derive(Clone, Copy)]
+enum Argument {
+    /// The file of the schema.
+    Schema,
+    /// The file of the questions.
+    Asks,
+    /// That file, which may be left out.
+    AsksIfGiven,
+    /// The file that is to keep the rows.
+    To,
+    /// The file that keeps an index.
+    Kept,
+    /// Whether a file that is not whole is taken as far as it goes.
+    SoFar,
+    /// The row files, one or more.
+    Rows,
+}
+
+/// Each command, and its arguments.
+const COMMANDS: [(&str, &[Argument]); 7] = [
+    ("script", &[]),
+    ("files", &[Argument::Schema, Argument::Asks, Argument::Rows]),
+    (
+        "check",
+        &[Argument::Schema, Argument::AsksIfGiven, Argument::Rows],
+    ),
+    ("save", &[Argument::Schema, Argument::To, Argument::Rows]),
+    ("add", &[Argument::SoFar, Argument::Kept, Argument::Rows]),
+    (
+        "ask",
+        &[Argument::SoFar, Argument::Kept, Argument::AsksIfGiven],
+    ),
+    ("show", &[Argument::Kept]),
+];
+
+impl Argument {
+    /// Makes the argument.
+    fn made<'a>(self, alloc: Global) -> Arg<'a> {
+        match self {
+            Argument::Schema => option(alloc, "schema").required(true),
+            Argument::Asks => option(alloc, "asks").required(true),
+            Argument::AsksIfGiven => option(alloc, "asks"),
+            Argument::To => option(alloc, "to").required(true),
+            Argument::Kept => Arg::new(alloc, "kept").required(true),
+            Argument::SoFar => option(alloc, "so-far").action(ArgAction::SetTrue),
+            Argument::Rows => Arg::new(alloc, "rows")
+                .required(true)
+                .num_args(1..)
+                .action(ArgAction::Append),
+        }
+    }
+}
+
+/// Makes the argument that two dashes and this name stand before.
+fn option<'a>(alloc: Global, name: &'static str) -> Arg<'a> {
+    Arg::new(alloc, name).long(name)
 }
 
 /// What the words ask for.
@@ -114,82 +173,26 @@ pub(crate) fn subcommand_of(words: &[String]) -> Subcommand
 
 /// Makes the commands of the program.
 fn commands<'a>(alloc: Global) -> Result<Command<'a>, AllocError> {
-    let command = Command::new(alloc, "bsi")
+    let mut command = Command::new(alloc, "bsi")
         .no_binary_name(true)
-        .subcommand_required(true)
-        .subcommand(Command::new(alloc, "script"))?
-        .subcommand(files_command(alloc)?)?
-        .subcommand(check_command(alloc)?)?;
-    with_kept(alloc, command)
+        .subcommand_required(true);
+    'commands: for (name, arguments) in COMMANDS {
+        command = command.subcommand(command_of(alloc, name, arguments)?)?;
+    }
+    Ok(command)
 }
 
-/// Adds the commands over a kept index.
-fn with_kept<'a>(alloc: Global, command: Command<'a>) -> Result<Command<'a>, AllocError> {
-    command
-        .subcommand(save_command(alloc)?)?
-        .subcommand(add_command(alloc)?)?
-        .subcommand(ask_command(alloc)?)?
-        .subcommand(Command::new(alloc, "show").arg(kept_file(alloc))?)
-}
-
-/// Makes the command `files`.
-fn files_command<'a>(alloc: Global) -> Result<Command<'a>, AllocError> {
-    Command::new(alloc, "files")
-        .arg(Arg::new(alloc, "schema").long("schema").required(true))?
-        .arg(Arg::new(alloc, "asks").long("asks").required(true))?
-        .arg(row_files(alloc))
-}
-
-/// Makes the command `check`.
-fn check_command<'a>(alloc: Global) -> Result<Command<'a>, AllocError> {
-    Command::new(alloc, "check")
-        .arg(Arg::new(alloc, "schema").long("schema").required(true))?
-        .arg(Arg::new(alloc, "asks").long("asks"))?
-        .arg(row_files(alloc))
-}
-
-/// Makes the command `save`.
-fn save_command<'a>(alloc: Global) -> Result<Command<'a>, AllocError> {
-    Command::new(alloc, "save")
-        .arg(Arg::new(alloc, "schema").long("schema").required(true))?
-        .arg(Arg::new(alloc, "to").long("to").required(true))?
-        .arg(row_files(alloc))
-}
-
-/// Makes the command `add`.
-fn add_command<'a>(alloc: Global) -> Result<Command<'a>, AllocError> {
-    Command::new(alloc, "add")
-        .arg(so_far(alloc))?
-        .arg(kept_file(alloc))?
-        .arg(row_files(alloc))
-}
-
-/// Makes the command `ask`.
-fn ask_command<'a>(alloc: Global) -> Result<Command<'a>, AllocError> {
-    Command::new(alloc, "ask")
-        .arg(so_far(alloc))?
-        .arg(kept_file(alloc))?
-        .arg(Arg::new(alloc, "asks").long("asks"))
-}
-
-/// Makes the argument of the file that keeps an index.
-fn kept_file<'a>(alloc: Global) -> Arg<'a> {
-    Arg::new(alloc, "kept").required(true)
-}
-
-/// Makes the flag by which a file that is not whole is taken as far as it goes.
-fn so_far<'a>(alloc: Global) -> Arg<'a> {
-    Arg::new(alloc, "so-far")
-        .long("so-far")
-        .action(ArgAction::SetTrue)
-}
-
-/// Makes the argument of the row files.
-fn row_files<'a>(alloc: Global) -> Arg<'a> {
-    Arg::new(alloc, "rows")
-        .required(true)
-        .num_args(1..)
-        .action(ArgAction::Append)
+/// Makes a command of this name with these arguments.
+fn command_of<'a>(
+    alloc: Global,
+    name: &'static str,
+    arguments: &'static [Argument],
+) -> Result<Command<'a>, AllocError> {
+    let mut command = Command::new(alloc, name);
+    'arguments: for argument in arguments {
+        command = command.arg(argument.made(alloc))?;
+    }
+    Ok(command)
 }
 
 /// Takes the paths from the matches of the command `files`.
