@@ -24,7 +24,7 @@ class Comparison(NamedTuple):
     constant: Any
 
     def __str__(self) -> str:
-        return f"{_name(self.column)} {'==' if self.sign == '=' else self.sign} {self.constant!r}"
+        return _shown(self.column, self.sign, repr(self.constant))
 
 
 class Related(NamedTuple):
@@ -35,7 +35,7 @@ class Related(NamedTuple):
     sign: str
 
     def __str__(self) -> str:
-        return f"{_name(self.column)} {'==' if self.sign == '=' else self.sign} {_name(self.other)}"
+        return _shown(self.column, self.sign, _name(self.other))
 
 
 class Null(NamedTuple):
@@ -74,10 +74,14 @@ class Stored(NamedTuple):
     number: int
 
     def __str__(self) -> str:
-        return f"({_name(self.column)} {'==' if self.sign == '=' else self.sign} number {self.number})"
+        return f"({_shown(self.column, self.sign, f'number {self.number}')})"
 
 
 Term = Union[Comparison, Related, Null, Among, Holds, Stored, str]
+
+
+def _shown(column: str, sign: str, other: str) -> str:
+    return f"{_name(column)} {'==' if sign == '=' else sign} {other}"
 
 
 def _name(column: str) -> str:

@@ -4,8 +4,9 @@
     least COLUMN [P]    greatest COLUMN [P], or min and max
 
 P is made of `COLUMN SIGN CONSTANT` with one of = == != < <= > >=, `COLUMN null`, `COLUMN not null`, `all`, `and`, `or`,
-`not` and brackets; `where` may stand before it. What is none of the column's constants may name another column. `not` binds closest, then `and`. A name or a constant that is no plain
-word, or one of these words, stands in quotes: "Amount (EUR)", 'Okafor, Ada'; a quote within them is written twice.
+`not` and brackets; `where` may stand before it. What is none of the column's constants may name another column. `not`
+binds closest, then `and`. A name or a constant that is no plain word, or one of these words, stands in quotes:
+"Amount (EUR)", 'Okafor, Ada'; a quote within them is written twice.
 Constants are read as the column's own kind: 100, 12.50, 2026-01-31, true, Meyer.
 """
 
