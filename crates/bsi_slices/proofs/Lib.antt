@@ -8,12 +8,12 @@ pub mod FromPlaces
 pub mod Gathering
 pub mod Ranking
 pub mod Related
-pub mod RelatedSpans
 pub mod SliceEntries
 pub mod SliceGrowth
 pub mod SliceNumbers
 pub mod SliceSelections
 pub mod SliceSpans
+pub mod StateWords
 pub mod Turning
 pub mod WholeRanks
 pub mod WordSpans

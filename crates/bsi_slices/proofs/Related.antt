@@ -1,6 +1,6 @@
 -- Sums and their comparison, one binary place after the other.
-use Rattle.std.proofs.Common.{◌≡◌, ℕ, ◌+◌, ◌*◌, ◌-◌, ◌%◌, ◌^◌, ◌<◌, ◌≤◌, Bool, true, false, ◌&&◌, ◌||◌, not, nat_lt, cond, List, length, get_or, take, inl, inr, ap, ap₂, sym, subst, ◌∙◌, refl, arith, length-take}
-use Rattle.std.specs.Prelude.{◌==◌, nat_eq, nat_le, if◌then◌else◌}
+use Rattle.std.proofs.Common.{◌≡◌, ℕ, ◌+◌, ◌*◌, ◌-◌, ◌%◌, ◌^◌, ◌<◌, ◌≤◌, Bool, true, false, Some, None, ◌&&◌, ◌||◌, cond, List, length, get_or, take, inl, inr, ap, ap₂, sym, subst, ◌∙◌, refl, arith, length-take}
+use Rattle.std.specs.Prelude.{◌==◌, nat_le, if◌then◌else◌}
 use Rattle.std.specs.Int.{bit_at}
 use Rattle.std.specs.Int.Count.{count_leading_zeros}
 use Rattle.std.proofs.Math.Nat.{pow-le-pow_right}
@@ -11,7 +11,15 @@ use Rattle.std.proofs.lemmas.List.{get_or_past, take_all}
 use Rattle.std.proofs.Math.Nat.{mod-eq_of_lt}
 use Rattle.bsi_bits.specs.BitList.{differ, BitList}
 use Rattle.bsi_bits.specs.BitLists.{bits_at, no_bits}
+use Rattle.bsi_orders.specs.Rows.{compares}
+use Rattle.bsi_orders.specs.declared.op.Op.{Op}
+use Rattle.bsi_orders.specs.declared.op.Op.TheVariants.{Eq, Ne, Lt, Le, Gt, Ge}
+use Rattle.bsi_slices.specs.Related.{relates, relates_entries}
 use Rattle.bsi_slices.specs.Slices.{bit_value, number}
+use Rattle.bsi_slices.specs.Standings.{stands, stepped}
+use Rattle.bsi_slices.specs.declared.slices.related.Relating.{Relating}
+use Rattle.bsi_slices.specs.declared.standing.Standing.{Standing}
+use Rattle.bsi_slices.specs.declared.standing.Standing.TheVariants.{Below, AtMost, Unlike}
 use Rattle.bsi_slices.proofs.SliceNumbers.{number_below, number_more, number_none, places_more}
 
 -- how many binary places a number has
@@ -77,38 +85,36 @@ low_more s m a b some small = by a b (nat_le m s) refl (nat_le (2 * m) (s + bit_
     by false false false is true high = grind (arith, nat_tests)
     by false false false is false high = grind (arith, nat_tests)
 
-below_place : (x y m : ℕ) (a b : Bool) → x < m → y < m
-    → ((nat_lt x y && not (differ a b)) || (b && not a)) ≡ nat_lt (x + bit_value a * m) (y + bit_value b * m)
-below_place x y m true true first second = grind (arith, nat_tests)
-below_place x y m true false first second = grind (arith, nat_tests)
-below_place x y m false true first second = grind (arith, nat_tests)
-below_place x y m false false first second = grind (arith, nat_tests)
+-- how two numbers stand by one more place of both
+pub stands_place : (standing : Standing) (x y m : ℕ) (a b : Bool) → x < m → y < m
+    → stepped standing a b (stands standing x y) ≡ stands standing (x + bit_value a * m) (y + bit_value b * m)
+stands_place Below x y m true true first second = grind (arith, nat_tests)
+stands_place Below x y m true false first second = grind (arith, nat_tests)
+stands_place Below x y m false true first second = grind (arith, nat_tests)
+stands_place Below x y m false false first second = grind (arith, nat_tests)
+stands_place AtMost x y m true true first second = grind (arith, nat_tests)
+stands_place AtMost x y m true false first second = grind (arith, nat_tests)
+stands_place AtMost x y m false true first second = grind (arith, nat_tests)
+stands_place AtMost x y m false false first second = grind (arith, nat_tests)
+stands_place Unlike x y m true true first second = grind (arith, nat_tests)
+stands_place Unlike x y m true false first second = grind (arith, nat_tests)
+stands_place Unlike x y m false true first second = grind (arith, nat_tests)
+stands_place Unlike x y m false false first second = grind (arith, nat_tests)
 
-same_place : (x y m : ℕ) (a b : Bool) → x < m → y < m → (nat_eq x y && not (differ a b)) ≡ nat_eq (x + bit_value a * m) (y + bit_value b * m)
-same_place x y m true true first second = grind (arith, nat_tests)
-same_place x y m true false first second = grind (arith, nat_tests)
-same_place x y m false true first second = grind (arith, nat_tests)
-same_place x y m false false first second = grind (arith, nat_tests)
+-- the same added to both numbers
+pub compares_more : (op : Op) (x y more : ℕ) → compares op (x + more) (y + more) ≡ compares op x y
+compares_more Eq x y more = grind (arith, nat_tests)
+compares_more Ne x y more = grind (arith, nat_tests)
+compares_more Lt x y more = grind (arith, nat_tests)
+compares_more Le x y more = grind (arith, nat_tests)
+compares_more Gt x y more = grind (arith, nat_tests)
+compares_more Ge x y more = grind (arith, nat_tests)
 
--- two sums compared by one more place
-module _ (s t m : ℕ) (a b c d : Bool) (some : 0 < m) (first : s < 2 * m) (second : t < 2 * m) where
-  abbrev x : Bool
-  x = differ (differ a (nat_le m s)) b
-
-  abbrev y : Bool
-  y = differ (differ c (nat_le m t)) d
-
-  pub below_more : ((nat_lt (low s m) (low t m) && not (differ x y)) || (y && not x))
-      ≡ nat_lt (low (s + bit_value a * m + bit_value b * m) (2 * m)) (low (t + bit_value c * m + bit_value d * m) (2 * m))
-  below_more =
-      below_place (low s m) (low t m) m x y (low_below s m some first) (low_below t m some second)
-      ∙ ap₂ nat_lt (sym (low_more s m a b some first)) (sym (low_more t m c d some second))
-
-  pub same_more : (nat_eq (low s m) (low t m) && not (differ x y))
-      ≡ nat_eq (low (s + bit_value a * m + bit_value b * m) (2 * m)) (low (t + bit_value c * m + bit_value d * m) (2 * m))
-  same_more =
-      same_place (low s m) (low t m) m x y (low_below s m some first) (low_below t m some second)
-      ∙ ap₂ nat_eq (sym (low_more s m a b some first)) (sym (low_more t m c d some second))
+-- a number by its lowest binary places
+upto_small : (slices : List BitList) (r i : ℕ) → number (take i slices) r < 2 ^ i
+upto_small slices r i =
+    let short : 2 ^ length (take i slices) ≤ 2 ^ i = pow-le-pow_right (omega arith) (omega (arith, length-take i slices)) in
+    omega (arith, number_below (take i slices) r, short)
 
 -- the numbers of a row in some slices, and what is added to them, by their lowest binary places
 module _ (slices : List BitList) (more r : ℕ) where
@@ -116,11 +122,9 @@ module _ (slices : List BitList) (more r : ℕ) where
   sum i = number (take i slices) r + more % 2 ^ i
 
   pub sum_small : (i : ℕ) → sum i < 2 * 2 ^ i
-  sum_small i =
-      let short : 2 ^ length (take i slices) ≤ 2 ^ i = pow-le-pow_right (omega arith) (omega (arith, length-take i slices)) in
-      omega (arith, number_below (take i slices) r, short, mod_below more (2 ^ i) (pow_pos i))
+  sum_small i = omega (arith, upto_small slices r i, mod_below more (2 ^ i) (pow_pos i))
 
-  upto_more : (i : ℕ) → number (take (i + 1) slices) r ≡ number (take i slices) r + bit_value (get_or (bits_at slices i) r false) * 2 ^ i
+  pub upto_more : (i : ℕ) → number (take (i + 1) slices) r ≡ number (take i slices) r + bit_value (get_or (bits_at slices i) r false) * 2 ^ i
   upto_more i = elim (cases_lt i (length slices)) [
     | inl inside ↦ number_more slices r i inside
     | inr past ↦
@@ -148,35 +152,29 @@ carry_next slices more r i part carry part_is carry_is =
     ∙ carry_more (sum slices more r i) (2 ^ i) a one (pow_pos i) (sum_small slices more r i)
     ∙ ap₂ nat_le (sym (double i)) (sym (sum_more slices more r i))
 
--- how two sums compare, by one more place
-module _ (slices others : List BitList) (more others_more r i : ℕ) (first second : Bool)
-    (first_is : first ≡ differ (differ (get_or (bits_at slices i) r false) (nat_le (2 ^ i) (sum slices more r i))) (bit_at more i == 1))
-    (second_is : second ≡ differ (differ (get_or (bits_at others i) r false) (nat_le (2 ^ i) (sum others others_more r i))) (bit_at others_more i == 1)) where
-  next : (compare : ℕ → ℕ → Bool)
-      → compare (low (sum slices more r i + bit_value (get_or (bits_at slices i) r false) * 2 ^ i + bit_value (bit_at more i == 1) * 2 ^ i) (2 * 2 ^ i))
-      (low (sum others others_more r i + bit_value (get_or (bits_at others i) r false) * 2 ^ i + bit_value (bit_at others_more i == 1) * 2 ^ i) (2 * 2 ^ i))
-      ≡ compare (low (sum slices more r (i + 1)) (2 ^ (i + 1))) (low (sum others others_more r (i + 1)) (2 ^ (i + 1)))
-  next compare =
-      ap₂ compare (ap₂ low (sym (sum_more slices more r i)) (sym (double i))) (ap₂ low (sym (sum_more others others_more r i)) (sym (double i)))
+-- how two numbers stand, by their place i and those below it
+pub stands_next : (standing : Standing) (slices others : List BitList) (r i : ℕ) (part other state : Bool)
+    → part ≡ get_or (bits_at slices i) r false → other ≡ get_or (bits_at others i) r false → state ≡ stands standing (number (take i slices) r) (number (take i others) r)
+    → stepped standing part other state ≡ stands standing (number (take (i + 1) slices) r) (number (take (i + 1) others) r)
+stands_next standing slices others r i part other state part_is other_is state_is =
+    ap₂ (λ a b. stepped standing a b state) part_is other_is
+    ∙ ap (stepped standing (get_or (bits_at slices i) r false) (get_or (bits_at others i) r false)) state_is
+    ∙ stands_place standing _ _ (2 ^ i) _ _ (upto_small slices r i) (upto_small others r i)
+    ∙ ap₂ (stands standing) (sym (upto_more slices 0 r i)) (sym (upto_more others 0 r i))
 
-  pub below_next : (below : Bool) → below ≡ nat_lt (low (sum slices more r i) (2 ^ i)) (low (sum others others_more r i) (2 ^ i))
-      → ((below && not (differ first second)) || (second && not first))
-      ≡ nat_lt (low (sum slices more r (i + 1)) (2 ^ (i + 1))) (low (sum others others_more r (i + 1)) (2 ^ (i + 1)))
-  below_next below is =
-      ap (λ b. (b && not (differ first second)) || (second && not first)) is
-      ∙ ap₂ (λ x y. (nat_lt (low (sum slices more r i) (2 ^ i)) (low (sum others others_more r i) (2 ^ i)) && not (differ x y)) || (y && not x)) first_is second_is
-      ∙ below_more (sum slices more r i) (sum others others_more r i) (2 ^ i) (get_or (bits_at slices i) r false) (bit_at more i == 1) (get_or (bits_at others i) r false) (bit_at others_more i == 1)
-      (pow_pos i) (sum_small slices more r i) (sum_small others others_more r i)
-      ∙ next nat_lt
-
-  pub same_next : (same : Bool) → same ≡ nat_eq (low (sum slices more r i) (2 ^ i)) (low (sum others others_more r i) (2 ^ i))
-      → (same && not (differ first second)) ≡ nat_eq (low (sum slices more r (i + 1)) (2 ^ (i + 1))) (low (sum others others_more r (i + 1)) (2 ^ (i + 1)))
-  same_next same is =
-      ap (λ b. b && not (differ first second)) is
-      ∙ ap₂ (λ x y. nat_eq (low (sum slices more r i) (2 ^ i)) (low (sum others others_more r i) (2 ^ i)) && not (differ x y)) first_is second_is
-      ∙ same_more (sum slices more r i) (sum others others_more r i) (2 ^ i) (get_or (bits_at slices i) r false) (bit_at more i == 1) (get_or (bits_at others i) r false) (bit_at others_more i == 1)
-      (pow_pos i) (sum_small slices more r i) (sum_small others others_more r i)
-      ∙ next nat_eq
+-- how a sum stands to a number
+pub sums_next : (standing : Standing) (slices others : List BitList) (more r i : ℕ) (part other state : Bool)
+    → part ≡ differ (differ (get_or (bits_at slices i) r false) (nat_le (2 ^ i) (sum slices more r i))) (bit_at more i == 1)
+    → other ≡ get_or (bits_at others i) r false → state ≡ stands standing (low (sum slices more r i) (2 ^ i)) (number (take i others) r)
+    → stepped standing part other state ≡ stands standing (low (sum slices more r (i + 1)) (2 ^ (i + 1))) (number (take (i + 1) others) r)
+sums_next standing slices others more r i part other state part_is other_is state_is =
+    ap₂ (λ a b. stepped standing a b state) part_is other_is
+    ∙ ap (stepped standing (differ (differ (get_or (bits_at slices i) r false) (nat_le (2 ^ i) (sum slices more r i))) (bit_at more i == 1)) (get_or (bits_at others i) r false)) state_is
+    ∙ stands_place standing _ _ (2 ^ i) _ _ (low_below (sum slices more r i) (2 ^ i) (pow_pos i) (sum_small slices more r i)) (upto_small others r i)
+    ∙ ap₂ (stands standing)
+    (sym (low_more (sum slices more r i) (2 ^ i) (get_or (bits_at slices i) r false) (bit_at more i == 1) (pow_pos i) (sum_small slices more r i))
+    ∙ ap₂ low (sym (sum_more slices more r i)) (sym (double i)))
+    (sym (upto_more others 0 r i))
 
 -- a sum that is below the power has no carry
 pub low_all : (s m : ℕ) → s < m → low s m ≡ s
@@ -185,3 +183,12 @@ low_all s m below = let none : nat_le m s ≡ false = grind (arith, nat_tests) i
 -- no place yet
 pub none_yet : (slices : List BitList) (more r : ℕ) → sum slices more r 0 ≡ 0
 none_yet slices more r = ap (λ n. n + more % 2 ^ 0) (number_none r) ∙ omega arith
+
+-- neither row is null
+pub both_there : (relating : Relating) (was first second : Bool) (x y : ℕ) → (((was && first) && second) && relates relating x y)
+    ≡ (was && relates_entries relating (if first then Some x else None) (if second then Some y else None))
+both_there relating true true true x y = refl
+both_there relating true true false x y = refl
+both_there relating true false true x y = refl
+both_there relating true false false x y = refl
+both_there relating false first second x y = refl

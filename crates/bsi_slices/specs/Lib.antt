@@ -6,3 +6,4 @@ pub mod Exchanges
 pub mod NotNull
 pub mod Related
 pub mod Slices
+pub mod Standings

@@ -6,6 +6,7 @@ mod column;
 mod decision;
 mod not_null;
 mod slices;
+mod standing;
 #[doc(hidden)]
 pub mod transposing;
 

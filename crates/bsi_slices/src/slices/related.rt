@@ -1,24 +1,27 @@
-//! Comparisons of the numbers of two columns of slices, span by span and from the least significant slices up.
+//! Comparisons of the numbers of two columns of slices, block by block and from the least significant slices up.
 //!
 //! A number stands less its column's offset, so one of the two has an addend, and a carry takes it in (Rinfret, O'Neil and
-//! O'Neil 2001 add slices so). Two states say of the places so far whether the first number is below the second, and
-//! whether they are the same.
+//! O'Neil 2001 add slices so).
 
-ghost use Rattle.std.specs.Prelude.{◌≡◌, ℕ, ◌+◌, ◌*◌, ◌-◌, ◌/◌, ◌<◌, ◌≤◌, ◌^◌, ◌&&◌, ◌||◌, not, if◌then◌else◌, length, nat_eq, nat_lt, slice_index_or, false, true};
+ghost use Rattle.std.specs.Prelude.{◌≡◌, ℕ, ◌+◌, ◌*◌, ◌-◌, ◌/◌, ◌<◌, ◌≤◌, ◌^◌, ◌&&◌, length, slice_index_or, false};
 ghost use Rattle.bsi_words.specs.Places.{max_places};
-ghost use Rattle.bsi_bits.specs.BitList.{differ, max_words, word_count};
+ghost use Rattle.bsi_bits.specs.BitList.{max_words, word_count};
 ghost use Rattle.bsi_bits.specs.BitLists.{bits_at};
 ghost use Rattle.bsi_bits.specs.Packed.{bit_of};
 ghost use Rattle.bsi_digits.specs.Digits.{max_size};
 ghost use Rattle.bsi_orders.specs.Rows.{compares};
 ghost use Rattle.bsi_slices.specs.Related.{relates};
 ghost use Rattle.bsi_slices.specs.Slices.{number};
-ghost use Rattle.bsi_slices.specs.Spans.{max_lanes, IsKept};
+ghost use Rattle.bsi_slices.specs.Spans.{IsKept};
+ghost use Rattle.bsi_slices.specs.Standings.{stands};
 
-use super::compare::{REGISTER_WORDS, words_of};
+use super::compare::words_of;
 use crate::Op;
-use bsi_bits::Bits;
-use std::simd::Simd;
+use crate::standing::{Standing, add_place};
+use bsi_bits::{Bits, know_fits, lanes};
+
+/// The most words of a block. Those of both columns, the state and the sums take 20 KiB, so they stay in the first cache.
+const BLOCK_WORDS: usize = 512;
 
 /// A comparison of two numbers, and what is added to each of them before, below 2^63.
 #[derive(Clone, Copy)]
@@ -32,7 +35,7 @@ pub struct Relating {
 }
 
 /// Keeps in a span of words the rows whose numbers in two lists of slices compare so. The first word stands for the 64
-/// rows from row `64 * start` on. It works on whole spans first, and on single words after them.
+/// rows from row `64 * start` on.
 pub(super) fn keep_related(
     slices: &[Bits],
     relating: Relating,
@@ -50,161 +53,194 @@ pub(super) fn keep_related(
     ensures { IsKept (λ r. relates relating (number slices.now (64 * start + r))
         (number others.now (64 * start + r))) 0 (length words.old) words.old words.new }
 {
-    let whole = words.len() / REGISTER_WORDS * REGISTER_WORDS;
-    keep_spans::<REGISTER_WORDS>(slices, relating, others, start, 0, words);
-    keep_spans::<1>(slices, relating, others, start, whole, words);
-}
-
-/// Keeps those rows in the words from word `from` on, as far as whole spans of `N` words go.
-fn keep_spans<const N: usize>(
-    slices: &[Bits],
-    relating: Relating,
-    others: &[Bits],
-    start: usize,
-    from: usize,
-    words: &mut [u64],
-)
-    requires spans { (1 ≤ N) × (N ≤ max_lanes) }
-    requires few { (length slices.now ≤ max_places) × (length others.now ≤ max_places) }
-    requires more { (relating.more < max_size) × (relating.others_more < max_size) }
-    requires within { from ≤ length words.old }
-    requires small { start + length words.old ≤ max_words }
-    requires long { (i : ℕ) → i < length slices.now →
-        start + length words.old ≤ word_count (length (bits_at slices.now i)) }
-    requires others_long { (i : ℕ) → i < length others.now →
-        start + length words.old ≤ word_count (length (bits_at others.now i)) }
-    ensures { IsKept (λ r. relates relating (number slices.now (64 * start + r))
-        (number others.now (64 * start + r))) from
-        (from + N * ((length words.old - from) / N)) words.old words.new }
-{
-    let spans = (words.len() - from) / N;
-    'span: for k in 0..spans {
-        let at = from + N * k;
-        let span = Simd::<u64, N>::from_slice(&words[at..]);
-        let related = related_span::<N>(slices, relating, others, start + at);
-        (span & related).copy_to_slice(&mut words[at..]);
+    let len = words.len();
+    'blocks: for k in 0..len.div_ceil(BLOCK_WORDS) {
+        let from = BLOCK_WORDS * k;
+        let block = &mut words[from..len.min(from + BLOCK_WORDS)];
+        keep_block(slices, relating, others, start + from, block);
     }
 }
 
-/// Returns for the rows of a span whether their numbers compare so.
-fn related_span<const N: usize>(
-    slices: &[Bits],
-    relating: Relating,
-    others: &[Bits],
-    at: usize,
-) -> Simd<u64, N>
-    requires spans { (1 ≤ N) × (N ≤ max_lanes) }
+/// Keeps those rows in a block. What is added to both numbers need not be, so one of them has an addend at most.
+fn keep_block(slices: &[Bits], relating: Relating, others: &[Bits], at: usize, words: &mut [u64])
+    requires block { length words.old ≤ BLOCK_WORDS }
     requires few { (length slices.now ≤ max_places) × (length others.now ≤ max_places) }
     requires more { (relating.more < max_size) × (relating.others_more < max_size) }
     requires long { (i : ℕ) → i < length slices.now →
-        at + N ≤ word_count (length (bits_at slices.now i)) }
+        at + length words.old ≤ word_count (length (bits_at slices.now i)) }
     requires others_long { (i : ℕ) → i < length others.now →
-        at + N ≤ word_count (length (bits_at others.now i)) }
-    ensures long { length result ≡ N }
-    ensures bits { (p : ℕ) → p < 64 * N → bit_of result p
-        ≡ relates relating (number slices.now (64 * at + p)) (number others.now (64 * at + p)) }
+        at + length words.old ≤ word_count (length (bits_at others.now i)) }
+    ensures long { length words.new ≡ length words.old }
+    ensures bits { (p : ℕ) → p < 64 * length words.old → bit_of words.new p
+        ≡ (bit_of words.old p && relates relating (number slices.now (64 * at + p))
+        (number others.now (64 * at + p))) }
 {
-    let zero = Simd::<u64, N>::splat(0);
-    let (mut carry, mut others_carry) = (zero, zero);
-    let (mut below, mut same) = (zero, all::<N>());
-    'places: for place in 0..places_of(slices.len(), others.len(), relating) {
-        let part = part_of::<N>(slices, place, at);
-        let other = part_of::<N>(others, place, at);
-        let is_one = relating.more >> place & 1 == 1;
-        let others_one = relating.others_more >> place & 1 == 1;
-        let first = added(part, carry, is_one);
-        let second = added(other, others_carry, others_one);
-        below = below_by(below, first, second);
-        same = same & (first ^ second ^ all::<N>());
-        carry = carried(part, carry, is_one);
-        others_carry = carried(other, others_carry, others_one);
+    let Relating {
+        more,
+        op,
+        others_more,
+    } = relating;
+    if more < others_more {
+        keep_sums(others, others_more - more, mirrored(op), slices, at, words);
+    } else {
+        keep_sums(slices, more - others_more, op, others, at, words);
     }
-    wanted(relating.op, below, same)
 }
 
-/// Returns so many binary places that both sums are below two to their power.
-fn places_of(slices: usize, others: usize, relating: Relating) -> usize
-    requires few { (slices ≤ max_places) × (others ≤ max_places) }
-    requires more { (relating.more < max_size) × (relating.others_more < max_size) }
-    ensures few { result ≤ 64 }
-    ensures all { (slices ≤ result) × (others ≤ result) }
-    ensures first { 2 ^ slices + relating.more ≤ 2 ^ result }
-    ensures second { 2 ^ others + relating.others_more ≤ 2 ^ result }
-{
-    let more = relating.more.max(relating.others_more).leading_zeros();
-    slices.max(others).max((u64::BITS - more) as usize) + 1
-}
-
-/// Returns a binary place of the numbers of a span's rows, which is 0 where there is no slice for it.
-fn part_of<const N: usize>(slices: &[Bits], place: usize, at: usize) -> Simd<u64, N>
-    requires spans { (1 ≤ N) × (N ≤ max_lanes) }
-    requires long { (i : ℕ) → i < length slices.now →
-        at + N ≤ word_count (length (bits_at slices.now i)) }
-    ensures long { length result ≡ N }
-    ensures bits { (p : ℕ) → p < 64 * N →
-        bit_of result p ≡ slice_index_or (bits_at slices.now place) (64 * at + p) false }
-{
-    if place >= slices.len() {
-        return Simd::<u64, N>::splat(0);
-    }
-    let words = words_of(&slices[place]);
-    Simd::<u64, N>::from_slice(&words[at..])
-}
-
-/// Returns a span that has each row. A span without the rows of another is its difference from this.
-fn all<const N: usize>() -> Simd<u64, N>
-    ensures long { length result ≡ N }
-    ensures bits { (p : ℕ) → p < 64 * N → bit_of result p ≡ true }
-{
-    Simd::splat(u64::MAX)
-}
-
-/// Returns a binary place of a sum: that of the numbers, the carry into it, and that of the addend.
-fn added<const N: usize>(part: Simd<u64, N>, carry: Simd<u64, N>, is_one: bool) -> Simd<u64, N>
-    ensures long { length result ≡ N }
-    ensures bits { (p : ℕ) → p < 64 * N →
-        bit_of result p ≡ differ (differ (bit_of part.entry p) (bit_of carry.entry p)) is_one }
-{
-    let sum = part ^ carry;
-    if is_one { sum ^ all::<N>() } else { sum }
-}
-
-/// Returns the carry out of that place.
-fn carried<const N: usize>(part: Simd<u64, N>, carry: Simd<u64, N>, is_one: bool) -> Simd<u64, N>
-    ensures long { length result ≡ N }
-    ensures bits { (p : ℕ) → p < 64 * N → bit_of result p
-        ≡ (if is_one then bit_of part.entry p || bit_of carry.entry p else bit_of part.entry p && bit_of
-        carry.entry p) }
-{
-    if is_one { part | carry } else { part & carry }
-}
-
-/// Returns which rows are below once one more binary place of both numbers is taken in.
-fn below_by<const N: usize>(
-    below: Simd<u64, N>,
-    first: Simd<u64, N>,
-    second: Simd<u64, N>,
-) -> Simd<u64, N>
-    ensures long { length result ≡ N }
-    ensures bits { (p : ℕ) → p < 64 * N → bit_of result p
-        ≡ (bit_of below.entry p && not (differ (bit_of first.entry p) (bit_of second.entry p))
-        || bit_of second.entry p && not (bit_of first.entry p)) }
-{
-    below & (first ^ second ^ all::<N>()) | second & (first ^ all::<N>())
-}
-
-/// Returns which rows compare so, by those where the first number is below the second, and those where both are the same.
-fn wanted<const N: usize>(op: Op, below: Simd<u64, N>, same: Simd<u64, N>) -> Simd<u64, N>
-    ensures long { length result ≡ N }
-    ensures bits { (p x y : ℕ) → p < 64 * N → bit_of below.entry p ≡ nat_lt x y →
-        bit_of same.entry p ≡ nat_eq x y → bit_of result p ≡ compares op x y }
+/// Returns the comparison that says the same of two numbers once they change places.
+fn mirrored(op: Op) -> Op
+    ensures { (x y : ℕ) → compares result y x ≡ compares op x y }
 {
     match op {
-        Op::Eq => same,
-        Op::Ne => same ^ all::<N>(),
-        Op::Lt => below,
-        Op::Le => below | same,
-        Op::Gt => (below | same) ^ all::<N>(),
-        Op::Ge => below ^ all::<N>(),
+        Op::Eq | Op::Ne => op,
+        Op::Lt => Op::Gt,
+        Op::Le => Op::Ge,
+        Op::Gt => Op::Lt,
+        Op::Ge => Op::Le,
     }
+}
+
+/// Keeps in a block the rows whose number in the first slices, and so much more, compares so with that in the second.
+fn keep_sums(slices: &[Bits], more: u64, op: Op, others: &[Bits], at: usize, words: &mut [u64])
+    requires block { length words.old ≤ BLOCK_WORDS }
+    requires few { (length slices.now ≤ max_places) × (length others.now ≤ max_places) }
+    requires more { more < max_size }
+    requires long { (i : ℕ) → i < length slices.now →
+        at + length words.old ≤ word_count (length (bits_at slices.now i)) }
+    requires others_long { (i : ℕ) → i < length others.now →
+        at + length words.old ≤ word_count (length (bits_at others.now i)) }
+    ensures long { length words.new ≡ length words.old }
+    ensures bits { (p : ℕ) → p < 64 * length words.old → bit_of words.new p
+        ≡ (bit_of words.old p && compares op (number slices.now (64 * at + p) + more)
+        (number others.now (64 * at + p))) }
+{
+    let (standing, wanted) = Standing::of(op);
+    let mut buffer = no_rows();
+    let state = &mut buffer[..words.len()];
+    stand(standing, slices, more, others, at, state);
+    if wanted {
+        lanes::and(words, state);
+    } else {
+        know_fits(state);
+        lanes::and_not(words, state);
+    }
+}
+
+/// Writes for the rows of a block whether the sum of their number in the first slices and of the addend stands so to
+/// that in the second.
+fn stand(
+    standing: Standing,
+    slices: &[Bits],
+    more: u64,
+    others: &[Bits],
+    at: usize,
+    state: &mut [u64],
+)
+    requires block { length state.old ≤ BLOCK_WORDS }
+    requires few { (length slices.now ≤ max_places) × (length others.now ≤ max_places) }
+    requires more { more < max_size }
+    requires long { (i : ℕ) → i < length slices.now →
+        at + length state.old ≤ word_count (length (bits_at slices.now i)) }
+    requires others_long { (i : ℕ) → i < length others.now →
+        at + length state.old ≤ word_count (length (bits_at others.now i)) }
+    ensures long { length state.new ≡ length state.old }
+    ensures bits { (p : ℕ) → p < 64 * length state.old → bit_of state.new p
+        ≡ stands standing (number slices.now (64 * at + p) + more) (number others.now (64 * at + p)) }
+{
+    if more == 0 {
+        stand_numbers(standing, slices, others, at, state);
+    } else {
+        stand_sums(standing, slices, more, others, at, state);
+    }
+}
+
+/// Writes for the rows of a block whether their numbers stand so.
+fn stand_numbers(standing: Standing, slices: &[Bits], others: &[Bits], at: usize, state: &mut [u64])
+    requires block { length state.old ≤ BLOCK_WORDS }
+    requires few { (length slices.now ≤ max_places) × (length others.now ≤ max_places) }
+    requires long { (i : ℕ) → i < length slices.now →
+        at + length state.old ≤ word_count (length (bits_at slices.now i)) }
+    requires others_long { (i : ℕ) → i < length others.now →
+        at + length state.old ≤ word_count (length (bits_at others.now i)) }
+    ensures long { length state.new ≡ length state.old }
+    ensures bits { (p : ℕ) → p < 64 * length state.old → bit_of state.new p
+        ≡ stands standing (number slices.now (64 * at + p)) (number others.now (64 * at + p)) }
+{
+    let zeros = no_rows();
+    let zeros = &zeros[..state.len()];
+    standing.begin(state);
+    'places: for place in 0..slices.len().max(others.len()) {
+        let part = part_of(slices, place, at, zeros);
+        let other = part_of(others, place, at, zeros);
+        standing.step(part, other, state);
+    }
+}
+
+/// Writes for the rows of a block whether such sums stand so.
+fn stand_sums(
+    standing: Standing,
+    slices: &[Bits],
+    more: u64,
+    others: &[Bits],
+    at: usize,
+    state: &mut [u64],
+)
+    requires block { length state.old ≤ BLOCK_WORDS }
+    requires few { (length slices.now ≤ max_places) × (length others.now ≤ max_places) }
+    requires more { more < max_size }
+    requires long { (i : ℕ) → i < length slices.now →
+        at + length state.old ≤ word_count (length (bits_at slices.now i)) }
+    requires others_long { (i : ℕ) → i < length others.now →
+        at + length state.old ≤ word_count (length (bits_at others.now i)) }
+    ensures long { length state.new ≡ length state.old }
+    ensures bits { (p : ℕ) → p < 64 * length state.old → bit_of state.new p
+        ≡ stands standing (number slices.now (64 * at + p) + more) (number others.now (64 * at + p)) }
+{
+    let (zeros, mut carry, mut sum) = (no_rows(), no_rows(), no_rows());
+    let zeros = &zeros[..state.len()];
+    let (carry, sum) = (&mut carry[..state.len()], &mut sum[..state.len()]);
+    standing.begin(state);
+    'places: for place in 0..places_of(slices.len(), more, others.len()) {
+        let part = part_of(slices, place, at, zeros);
+        let other = part_of(others, place, at, zeros);
+        add_place(part, more >> place & 1 == 1, carry, sum);
+        standing.step(sum, other, state);
+    }
+}
+
+/// Returns the words of a block without a row.
+fn no_rows() -> [u64; BLOCK_WORDS]
+    ensures long { length result ≡ BLOCK_WORDS }
+    ensures bits { (p : ℕ) → bit_of result p ≡ false }
+{
+    [0; BLOCK_WORDS]
+}
+
+/// Returns so many binary places that the sums and the other numbers are below two to their power.
+fn places_of(slices: usize, more: u64, others: usize) -> usize
+    requires few { (slices ≤ max_places) × (others ≤ max_places) }
+    requires more { more < max_size }
+    ensures few { result ≤ 64 }
+    ensures all { (slices ≤ result) × (others ≤ result) }
+    ensures sums { 2 ^ slices + more ≤ 2 ^ result }
+{
+    let addend = (u64::BITS - more.leading_zeros()) as usize;
+    slices.max(others).max(addend) + 1
+}
+
+/// Returns a binary place of the numbers of a block's rows, which is 0 where there is no slice for it. There are as many
+/// zeros as words of the block.
+fn part_of<'a>(slices: &'a [Bits], place: usize, at: usize, zeros: &'a [u64]) -> &'a [u64]
+    requires long { (i : ℕ) → i < length slices.now →
+        at + length zeros.now ≤ word_count (length (bits_at slices.now i)) }
+    requires zeros { (p : ℕ) → bit_of zeros.now p ≡ false }
+    ensures long { length result.now ≡ length zeros.now }
+    ensures bits { (p : ℕ) → p < 64 * length zeros.now →
+        bit_of result.now p ≡ slice_index_or (bits_at slices.now place) (64 * at + p) false }
+{
+    if place >= slices.len() {
+        return zeros;
+    }
+    let words = words_of(&slices[place]);
+    &words[at..at + zeros.len()]
 }

@@ -5,7 +5,7 @@ use Rattle.bsi_bits.specs.Packed.{bit_of}
 use Rattle.bsi_slices.specs.Related.{relates, relates_entries}
 use Rattle.bsi_slices.specs.Slices.{number}
 use Rattle.bsi_slices.proofs.SliceEntries.{length-entries_in, sliced_at}
-use Rattle.bsi_slices.proofs.RelatedSpans.{both_there}
+use Rattle.bsi_slices.proofs.Related.{both_there}
 use Rattle.bsi_slices.proofs.slices.Slices.keep_related.Goals as goal
 
 pub keep_in-requires : goal.keep_in-requires
