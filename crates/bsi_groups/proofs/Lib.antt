@@ -1,4 +1,11 @@
+pub mod DistinctNumbers
 pub mod FirstEntries
 pub mod Grouped
 pub mod Order
+pub mod PairOrder
+pub mod PairRows
+pub mod PairsMade
 pub mod Remaining
+pub mod TopsFirst
+pub mod TopsPlaces
+pub mod TopsSorted

@@ -1,2 +1,5 @@
 pub mod Entries
 pub mod Groups
+pub mod Pairs
+pub mod Replies
+pub mod Tops

@@ -73,7 +73,7 @@ pub fn group_by(
 }
 
 /// Puts the rows of a found set in groups, as `group_by` does.
-fn group_found(
+pub(crate) fn group_found(
     alloc: Global,
     index: &Index,
     total: Total,

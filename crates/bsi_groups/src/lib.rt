@@ -1,7 +1,16 @@
 //! The rows that a query selects, in groups by their entry in a column (O'Neil and Quass 1997).
 #![tactic(auto)]
 
+mod differing;
 mod grouping;
+mod pairs;
+mod ranking;
+mod selecting;
 mod taking;
+mod tops;
 
+pub use differing::distinct;
 pub use grouping::{Group, GroupError, group_by};
+pub use pairs::{PairGroup, group_by_two};
+pub use ranking::ranks;
+pub use tops::{End, TopRow, top};

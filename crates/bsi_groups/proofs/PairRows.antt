@@ -1,0 +1,132 @@
+-- The rows of a found set, and their entries in two columns.
+use Rattle.std.proofs.Common.{◌≡◌, ℕ, Bool, true, false, true≢false, List, [], ◌∷◌, Option, ℤ, All, Contains, map, filter, cond, refl, ap, sym, subst, ◌∙◌}
+use Rattle.std.specs.Prelude.{◌&&◌}
+use Rattle.std.specs.List.{items_where_true}
+use Rattle.std.specs.Simd.Lanes.{zip2}
+use Rattle.std.proofs.lemmas.Simd.{map-map}
+use Rattle.std.proofs.lemmas.List.Elements.{All-cons, All-contains, All-contains_itself, All-filter, All-head, All-map, All-nil, All-tail, All-weaker, filter_passes}
+use Rattle.bsi_schema.specs.Columns.{entry_at}
+use Rattle.bsi_rows.specs.Rows.{row_entries, FedRow}
+use Rattle.bsi_groups.specs.Entries.{is_entry}
+use Rattle.bsi_groups.specs.Groups.{entries_at, rows_with}
+use Rattle.bsi_groups.specs.Pairs.{all_entries_at, entries_in}
+use Rattle.bsi_groups.proofs.Order.{entry_is, is_itself}
+
+-- what a map makes of the items of a found set
+found_map : {X Y : Type 0} (f : X → Y) (found : List Bool) (xs : List X) → items_where_true found (map f xs) ≡ map f (items_where_true found xs)
+found_map f [] [] = refl
+found_map f [] (x ∷ xs) = refl
+found_map f (b ∷ found) [] = refl
+found_map f (true ∷ found) (x ∷ xs) = ap (λ ys. f x ∷ ys) (found_map f found xs)
+found_map f (false ∷ found) (x ∷ xs) = found_map f found xs
+
+-- those of them that pass a test
+found_passing : {X : Type 0} (test : X → Bool) (found : List Bool) (xs : List X)
+    → items_where_true (zip2 ◌&&◌ (map test xs) found) xs ≡ filter test (items_where_true found xs)
+found_passing test [] [] = refl
+found_passing test (b ∷ found) [] = refl
+found_passing test [] (x ∷ xs) = refl
+found_passing test (true ∷ found) (x ∷ xs) = by (test x) (found_passing test found xs)
+  where
+    by : (b : Bool) → items_where_true (zip2 ◌&&◌ (map test xs) found) xs ≡ filter test (items_where_true found xs)
+        → items_where_true ((b && true) ∷ zip2 ◌&&◌ (map test xs) found) (x ∷ xs) ≡ cond b (x ∷ filter test (items_where_true found xs)) (filter test (items_where_true found xs))
+    by true rest = ap (λ xs. x ∷ xs) rest
+    by false rest = rest
+found_passing test (false ∷ found) (x ∷ xs) = by (test x) (found_passing test found xs)
+  where
+    by : (b : Bool) → items_where_true (zip2 ◌&&◌ (map test xs) found) xs ≡ filter test (items_where_true found xs)
+        → items_where_true ((b && false) ∷ zip2 ◌&&◌ (map test xs) found) (x ∷ xs) ≡ filter test (items_where_true found xs)
+    by true rest = rest
+    by false rest = rest
+
+module _ {X : Type 0} where
+  -- what holds of each that a map makes
+  pub unmapped : {Y : Type 0} (P : Y → Type 0) (f : X → Y) (xs : List X) → All P (map f xs) → All (λ x. P (f x)) xs
+  unmapped P f [] all = All-nil (λ x. P (f x))
+  unmapped P f (x ∷ xs) all = All-cons (λ x. P (f x)) x xs (All-head P (f x) (map f xs) all) (unmapped P f xs (All-tail P (f x) (map f xs) all))
+
+  -- what holds of two facts of each
+  pub both : (P Q R : X → Type 0) → ((x : X) → P x → Q x → R x) → (xs : List X) → All P xs → All Q xs → All R xs
+  both P Q R then_so [] all others = All-nil R
+  both P Q R then_so (x ∷ xs) all others =
+      All-cons R x xs (then_so x (All-head P x xs all) (All-head Q x xs others)) (both P Q R then_so xs (All-tail P x xs all) (All-tail Q x xs others))
+
+  -- what holds of all that pass a test
+  pub unpassed : (P : X → Type 0) (test : X → Bool) (xs : List X) → All P (filter test xs) → All (λ x. test x ≡ true → P x) xs
+  unpassed P test [] all = All-nil (λ x. test x ≡ true → P x)
+  unpassed P test (x ∷ xs) all = by (test x) refl all (unpassed P test xs)
+    where
+      by : (b : Bool) → test x ≡ b → All P (cond b (x ∷ filter test xs) (filter test xs)) → (All P (filter test xs) → All (λ x. test x ≡ true → P x) xs)
+          → All (λ x. test x ≡ true → P x) (x ∷ xs)
+      by true is all rest = All-cons (λ x. test x ≡ true → P x) x xs (λ _. All-head P x (filter test xs) all) (rest (All-tail P x (filter test xs) all))
+      by false is all rest = All-cons (λ x. test x ≡ true → P x) x xs (λ passes. absurd (true≢false (sym passes ∙ is))) (rest all)
+
+-- a row's entry in a column
+abbrev pub entry_in : ℕ → FedRow → Option ℤ
+entry_in c row = entry_at (row_entries row) c
+
+module _ (found : List Bool) (first second : ℕ) (rows : List FedRow) where
+  -- the found rows
+  abbrev pub found_rows : List FedRow
+  found_rows = items_where_true found rows
+
+  pub firsts_are : entries_at found first rows ≡ map (entry_in first) found_rows
+  firsts_are = found_map (entry_in first) found rows
+
+  pub pairs_are : all_entries_at found (first ∷ second ∷ []) rows ≡ map (entries_in (first ∷ second ∷ [])) found_rows
+  pairs_are = found_map (entries_in (first ∷ second ∷ [])) found rows
+
+  module _ (e : Option ℤ) where
+    has : FedRow → Bool
+    has row = is_entry e (entry_in first row)
+
+    -- the second entries of the rows that have this first one
+    abbrev pub seconds : List (Option ℤ)
+    seconds = entries_at (rows_with found first rows e) second rows
+
+    seconds_are : seconds ≡ map (entry_in second) (filter has found_rows)
+    unfolding has
+    seconds_are =
+        found_map (entry_in second) (rows_with found first rows e) rows
+        ∙ ap (λ bits. map (entry_in second) (items_where_true (zip2 ◌&&◌ bits found) rows)) (map-map (is_entry e) (entry_in first) rows)
+        ∙ ap (map (entry_in second)) (found_passing has found rows)
+
+    -- what holds of them holds of each such row's
+    pub of_seconds : (P : Option ℤ → Type 0) → All P seconds → All (λ row. entry_in first row ≡ e → P (entry_in second row)) found_rows
+    unfolding has
+    of_seconds P all =
+        All-weaker (λ row. has row ≡ true → P (entry_in second row)) (λ row. entry_in first row ≡ e → P (entry_in second row))
+        (λ row holds is. holds (ap (is_entry e) is ∙ is_itself e)) found_rows
+        (unpassed (λ row. P (entry_in second row)) has found_rows (unmapped P (entry_in second) (filter has found_rows) (subst (All P) seconds_are all)))
+
+    -- a found row has both
+    pub pair_there : All (λ y. Contains (all_entries_at found (first ∷ second ∷ []) rows) (e ∷ y ∷ [])) seconds
+    unfolding has
+    pair_there =
+        subst (All P) (sym seconds_are)
+        (All-map P (entry_in second) (filter has found_rows)
+        (both There (λ row. has row ≡ true) (λ row. P (entry_in second row))
+        (λ row there is. subst (λ x. Contains pairs (x ∷ entry_in second row ∷ [])) (entry_is e (entry_in first row) is) there) (filter has found_rows)
+        (All-filter has There found_rows (unmapped (Contains pairs) (entries_in (first ∷ second ∷ [])) found_rows (subst (All (Contains pairs)) pairs_are (All-contains_itself pairs))))
+        (filter_passes has found_rows)))
+      where
+        pairs : List (List (Option ℤ))
+        pairs = all_entries_at found (first ∷ second ∷ []) rows
+
+        P : Option ℤ → Type 0
+        P y = Contains pairs (e ∷ y ∷ [])
+
+        There : FedRow → Type 0
+        There row = Contains pairs (entries_in (first ∷ second ∷ []) row)
+
+    -- a first entry has a second
+    pub second_of : Contains (entries_at found first rows) e → (y : Option ℤ) × Contains seconds y
+    second_of there =
+        All-contains P (map (entry_in first) found_rows) e
+        (All-map P (entry_in first) found_rows
+        (All-weaker (λ row. entry_in first row ≡ e → Contains seconds (entry_in second row)) (λ row. P (entry_in first row)) (λ row holds is. (entry_in second row, holds is)) found_rows
+        (of_seconds (Contains seconds) (All-contains_itself seconds))))
+        (subst (λ entries. Contains entries e) firsts_are there) refl
+      where
+        P : Option ℤ → Type 0
+        P x = x ≡ e → (y : Option ℤ) × Contains seconds y
