@@ -3,6 +3,7 @@ pub mod BitmapEntries
 pub mod ColumnPlaces
 pub mod ComponentLists
 pub mod Deciding
+pub mod DigitStandings
 pub mod DigitSums
 pub mod EndDigits
 pub mod EntriesFrom

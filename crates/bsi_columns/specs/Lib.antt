@@ -4,6 +4,7 @@ pub mod ComponentPlaces
 pub mod Decomposed
 pub mod DigitTests
 pub mod Places
+pub mod Standings
 pub use Rattle.bsi_slices.specs.Ends
 pub use Rattle.bsi_orders.specs.Orders
 pub use Rattle.bsi_orders.specs.Rows

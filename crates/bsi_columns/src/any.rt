@@ -3,9 +3,11 @@
 //! An index keeps its columns as this type, so `keep_selected` is no call of the trait `Column`: a user's own column is
 //! asked by `compare`.
 
-ghost use Rattle.std.specs.Prelude.{◌≡◌, ◌↔◌, ◌+◌, ◌*◌, ◌<◌, ◌≤◌, is_none, length, IfOk, IsOk, IsTrue};
+ghost use Rattle.std.specs.Prelude.{◌≡◌, ◌↔◌, ◌+◌, ◌*◌, ◌<◌, ◌≤◌, is_none, length, IfOk, IsFalse, IsOk, IsTrue};
 ghost use Rattle.bsi_bits.specs.BitList.{max_block, word_count};
+ghost use Rattle.bsi_digits.specs.Digits.{max_size};
 ghost use Rattle.bsi_slices.specs.Blocks.{AreNumbersFrom};
+ghost use Rattle.bsi_slices.specs.Related.{KeepsRelatedRows};
 ghost use Rattle.bsi_slices.specs.Spans.{KeepsRows};
 ghost use Rattle.bsi_columns.specs.AnyRows.{any_entries, any_form, any_room, size_in_form, AnyForm};
 ghost use Rattle.bsi_columns.specs.Places.{bits_each, column_bitmaps};
@@ -15,7 +17,8 @@ ghost use Rattle.bsi_orders.specs.Totals.{IsGreatestOf, IsLeastOf};
 
 use crate::bitmaps::bitmaps_of_slices;
 use crate::{
-    Column, Decomposed, EqualityComponent, MAX_SPAN_WORDS, NoMemory, Op, RangeComponent, Slices,
+    Column, Decomposed, EqualityComponent, MAX_SPAN_WORDS, NoMemory, Op, RangeComponent, Relating,
+    Slices,
 };
 use bsi_bits::{Bits, MAX_BLOCK};
 use bsi_words::spans::drop_in;
@@ -59,6 +62,46 @@ impl AnyColumn {
             AnyColumn::Slices(column) => column.numbers_into(at, numbers),
             AnyColumn::Equality(column) => column.numbers_into(at, numbers),
             AnyColumn::Range(column) => column.numbers_into(at, numbers),
+        }
+    }
+
+    /// Keeps in a span of words the rows whose number here compares, as `relating` says, with that of another column of
+    /// as many rows, and returns true, if both go by binary places that can be compared: those of two columns of slices
+    /// or, where the same is added to both numbers, of two under the same bases. If not it returns false. The first word
+    /// stands for the 64 rows from row `64 * at` on. A row that is null in one of the two is not kept, nor a bit past
+    /// the last row. It takes no memory.
+    pub fn keep_related(
+        &self,
+        relating: Relating,
+        other: &AnyColumn,
+        at: usize,
+        span: &mut [u64],
+    ) -> bool
+        requires more { (relating.more < max_size) × (relating.others_more < max_size) }
+        requires within { at + length span.old ≤ word_count (length (any_entries self.now)) }
+        requires same { length (any_entries other.now) ≡ length (any_entries self.now) }
+        ensures kept { IsTrue result → KeepsRelatedRows relating (any_entries self.now)
+            (any_entries other.now) at span.old span.new }
+        ensures unchanged { IsFalse result → span.new ≡ span.old }
+    {
+        match (self, other) {
+            (AnyColumn::Slices(own), AnyColumn::Slices(others)) => {
+                own.keep_related(relating, others, at, span);
+                true
+            }
+            (AnyColumn::Equality(own), AnyColumn::Equality(others)) => {
+                own.keep_related(relating, others, at, span)
+            }
+            (AnyColumn::Equality(own), AnyColumn::Range(others)) => {
+                own.keep_related(relating, others, at, span)
+            }
+            (AnyColumn::Range(own), AnyColumn::Equality(others)) => {
+                own.keep_related(relating, others, at, span)
+            }
+            (AnyColumn::Range(own), AnyColumn::Range(others)) => {
+                own.keep_related(relating, others, at, span)
+            }
+            _ => false,
         }
     }
 

@@ -21,6 +21,7 @@ mod compare;
 mod ends;
 mod narrowing;
 mod numbers;
+mod related;
 mod totals;
 mod vectors;
 

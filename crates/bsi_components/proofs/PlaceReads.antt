@@ -1,5 +1,5 @@
--- A word of a binary place, as it is read.
-use Rattle.std.proofs.Common.{◌≡◌, ℕ, ◌+◌, ◌*◌, ◌/◌, ◌%◌, ◌<◌, Bool, true, false, List, length, get_or, cond, ap, ap₂, ◌∙◌, arith}
+-- A word or a span of a binary place, as it is read.
+use Rattle.std.proofs.Common.{◌≡◌, ℕ, ◌+◌, ◌*◌, ◌/◌, ◌%◌, ◌<◌, Bool, true, false, List, length, map, get_or, cond, ap, ap₂, ◌∙◌, arith}
 use Rattle.std.specs.Prelude.{◌==◌}
 use Rattle.std.specs.Int.{bit_at}
 use Rattle.std.proofs.lemmas.List.{get_or-map}
@@ -25,12 +25,19 @@ word_bit words at r near =
     let place : r ≡ (64 * at + r) % 64 = omega arith in
     ap₂ (λ i p. bit_at (get_or words i 0) p == 1) word place
 
-pub place_bit : (places : List BitList) (digits : List ℕ) (base k at r : ℕ) (place : BitList) (words : List ℕ) → IsEncoded has_place places digits → length places ≡ kept_places base
-    → 0 < length places → k < place_count base → place ≡ get_or places k place → ((i : ℕ) → bit_of words i ≡ get_or place.bits i false)
-    → r < 64 → 64 * at + r < length digits → (bit_at (get_or words at 0) r == 1) ≡ has_place k (get_or digits (64 * at + r) 0)
-place_bit places digits base k at r place words encoded many some within read bits near row =
-    let there = kept_within base (length places) k many some within in
-    word_bit words at r near ∙ bits (64 * at + r)
-    ∙ ap (λ v. get_or v.bits (64 * at + r) false) (read_bitmap places k place there read)
-    ∙ ap (λ v. get_or v (64 * at + r) false) (encoded.each k there)
-    ∙ get_or-map (has_place k) digits (64 * at + r) 0 false row
+module _ (places : List BitList) (digits : List ℕ) (base k : ℕ) (place : BitList) (encoded : IsEncoded has_place places digits) (many : length places ≡ kept_places base)
+    (some : 0 < length places) (within : k < place_count base) (read : place ≡ get_or places k place) where
+  -- the vector of a place, where places are kept
+  place_is : place.bits ≡ map (has_place k) digits
+  place_is =
+      let there = kept_within base (length places) k many some within in
+      ap (λ v. v.bits) (read_bitmap places k place there read) ∙ encoded.each k there
+
+  -- a row of it
+  pub place_read : (r : ℕ) → r < length digits → get_or place.bits r false ≡ has_place k (get_or digits r 0)
+  place_read r row = ap (λ v. get_or v r false) place_is ∙ get_or-map (has_place k) digits r 0 false row
+
+  -- and one of its words
+  pub place_bit : (at r : ℕ) (words : List ℕ) → ((i : ℕ) → bit_of words i ≡ get_or place.bits i false)
+      → r < 64 → 64 * at + r < length digits → (bit_at (get_or words at 0) r == 1) ≡ has_place k (get_or digits (64 * at + r) 0)
+  place_bit at r words bits near row = word_bit words at r near ∙ bits (64 * at + r) ∙ place_read (64 * at + r) row

@@ -1,8 +1,9 @@
 //! Components by the binary places of their digits: what each place is, and the component that is made of all of them.
 
-ghost use Rattle.std.specs.Prelude.{◌≡◌, ℕ, ◌+◌, ◌*◌, ◌<◌, ◌==◌, length, map, slice_index, IfNone, IfOk, IfSome, OnSome};
+ghost use Rattle.std.specs.Prelude.{◌≡◌, ℕ, ◌+◌, ◌*◌, ◌<◌, ◌≤◌, ◌==◌, length, map, slice_index, IfNone, IfOk, IfSome, OnSome};
 ghost use Rattle.std.specs.Int.{bit_at};
 ghost use Rattle.bsi_bits.specs.BitList.{max_block, word_count};
+ghost use Rattle.bsi_bits.specs.Packed.{bit_of};
 ghost use Rattle.bsi_digits.specs.Digits.{IsBase};
 ghost use Rattle.bsi_words.specs.Places.{has_place};
 ghost use Rattle.bsi_components.specs.PlaceNumbers.{numbers_in, place_count, AreLevel, HasPast};
@@ -25,6 +26,15 @@ pub trait BinaryPlaces: Encoding {
         requires there { at < word_count (length (Self.digits self.now)) }
         ensures { (r : ℕ) → r < max_block → 64 * at + r < length (Self.digits self.now) →
             (bit_at result r == 1) ≡ has_place k (slice_index (Self.digits self.now) (64 * at + r)) };
+
+    /// Writes into a span of words whether binary place `k` of the digit of each row is 1. The words stand for the rows
+    /// from `64 * at` on. A bit past the last row is unspecified.
+    fn place_span(&self, k: usize, at: usize, span: &mut [u64])
+        requires place { k < place_count (Self.base_of self.now) }
+        requires within { at + length span.old ≤ word_count (length (Self.digits self.now)) }
+        ensures { (p : ℕ) → p < 64 * length span.old →
+            64 * at + p < length (Self.digits self.now) →
+            bit_of span.new p ≡ has_place k (slice_index (Self.digits self.now) (64 * at + p)) };
 
     /// Makes the component of the digits whose binary places these are, the least first, or none if a digit is not
     /// below the base.

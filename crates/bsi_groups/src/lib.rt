@@ -1,4 +1,4 @@
-//! The rows that a query selects, in groups by their entry in a column (O'Neil and Quass 1997).
+//! What reports ask of the rows that a query selects: groups (O'Neil and Quass 1997), ranks, different numbers, and the first rows.
 #![tactic(auto)]
 
 mod differing;

@@ -15,4 +15,5 @@ pub use column::Column;
 pub use decision::{Decision, Relation, Test, decide};
 pub use not_null::NotNull;
 pub use slices::{End, Relating, Slices};
+pub use standing::Standing;
 pub use std::alloc::AllocError as NoMemory;

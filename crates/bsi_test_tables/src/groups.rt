@@ -3,7 +3,7 @@
 use crate::tables::{append_row, index_of};
 use bsi_columns::{NoMemory, Op};
 use bsi_fixtures::{DeclaredColumn, FORMS, QTY, TestForm, row_of};
-use bsi_groups::{Group, GroupError, group_by};
+use bsi_groups::{Group, GroupError, PairGroup, group_by, group_by_two};
 use bsi_table::{Answer, Index, IndexError, Pred, Query, Total};
 use std::alloc::Global;
 
@@ -107,5 +107,71 @@ fn groups_of_a_column(rt: HostRuntime) {
             matches!(is_grouped(rt.alloc(), form), Ok(true)),
             "{form:?}"
         );
+    }
+}
+
+fn paired(
+    alloc: Global,
+    index: &Index,
+    query: &Query,
+    by: [u32; 2],
+    most: usize,
+) -> Result<Vec<PairGroup>, GroupError> {
+    match group_by_two(alloc, index, query, by, most) {
+        Err(GroupError::NoMemory) => group_by_two(alloc, index, query, by, most),
+        made => made,
+    }
+}
+
+fn is_pair(pair: &PairGroup, wanted: [Option<i64>; 2]) -> bool {
+    pair.entries == wanted && pair.answer == Answer::Count(1)
+}
+
+// Whether each row has a pair of its own, in this order, and one less is too few.
+fn has_pairs(alloc: Global, index: &Index, by: [u32; 2], wanted: &[[Option<i64>; 2]]) -> bool {
+    let query = Query {
+        total: Total::Count,
+        pred: Pred::All,
+    };
+    let is_made = match paired(alloc, index, &query, by, 5) {
+        Ok(pairs) => {
+            pairs.len() == wanted.len()
+                && pairs
+                    .iter()
+                    .zip(wanted)
+                    .all(|(pair, wanted)| is_pair(pair, *wanted))
+        }
+        Err(_) => false,
+    };
+    is_made
+        && matches!(
+            paired(alloc, index, &query, by, 4),
+            Err(GroupError::TooMany)
+        )
+}
+
+fn is_paired(alloc: Global, form: TestForm) -> Result<bool, IndexError> {
+    let index = five_rows(alloc, form)?;
+    let pairs = [
+        [Some(-3), Some(1)],
+        [Some(0), Some(3)],
+        [Some(2), Some(5)],
+        [Some(2), None],
+        [None, Some(7)],
+    ];
+    let turned = [
+        [Some(1), Some(-3)],
+        [Some(3), Some(0)],
+        [Some(5), Some(2)],
+        [Some(7), None],
+        [None, Some(2)],
+    ];
+    Ok(has_pairs(alloc, &index, [0, 1], &pairs) && has_pairs(alloc, &index, [1, 0], &turned))
+}
+
+#[test]
+fn groups_of_two_columns(rt: HostRuntime) {
+    for form in FORMS {
+        assert!(rt; matches!(is_paired(rt.alloc(), form), Ok(true)), "{form:?}");
     }
 }

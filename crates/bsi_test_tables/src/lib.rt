@@ -8,6 +8,8 @@ mod groups;
 #[cfg(test)]
 mod machine;
 #[cfg(test)]
+mod numbers;
+#[cfg(test)]
 mod tables;
 #[cfg(test)]
 mod worked;

@@ -3,7 +3,7 @@
 
 use crate::tables::{answer, append_row, has_rows, index_of};
 use bsi_columns::{AnyColumn, NoMemory, Op};
-use bsi_fixtures::{DeclaredColumn, FORMS, QTY, TestForm, add, both, has_bits, not, row_of};
+use bsi_fixtures::{DeclaredColumn, FORMS, QTY, TestForm, Wide, add, both, has_bits, not, row_of};
 use bsi_table::{Answer, AskError, Index, IndexError, Pred, Row, Schema, SchemaError, Total};
 use std::alloc::Global;
 
@@ -70,6 +70,85 @@ fn index_calls(rt: HostRuntime) {
     for form in FORMS {
         assert!(rt;
             matches!(is_answered(rt.alloc(), form), Ok(true)),
+            "{form:?}"
+        );
+    }
+}
+
+/// Rows of two numbers below 15. Under the bases 5 and 3 the least significant digits of the first and of the second row
+/// stand to each other otherwise than the numbers.
+const PAIRS: [[Option<i128>; 2]; 5] = [
+    [Some(5), Some(12)],
+    [Some(9), Some(8)],
+    [None, Some(1)],
+    [Some(7), Some(7)],
+    [Some(2), None],
+];
+
+/// The rows of feeder 0 whose first number compares so with the second.
+const RELATED: [(Op, &[(u32, u64)]); 6] = [
+    (Op::Lt, &[(0, 0)]),
+    (Op::Le, &[(0, 0), (0, 3)]),
+    (Op::Eq, &[(0, 3)]),
+    (Op::Ne, &[(0, 0), (0, 1)]),
+    (Op::Gt, &[(0, 1)]),
+    (Op::Ge, &[(0, 1), (0, 3)]),
+];
+
+// Appends these rows, each where it fits.
+fn append_pairs(alloc: Global, index: &mut Index) -> Result<(), NoMemory> {
+    for pair in PAIRS {
+        let row = row_of(alloc, &pair)?;
+        let _ = append_row(index, 0, &row);
+    }
+    Ok(())
+}
+
+// An index of them, in two columns of these forms.
+fn paired_rows(alloc: Global, first: TestForm, second: TestForm) -> Result<Index, IndexError> {
+    let wide = Wide {
+        width: 4,
+        bases: &[5, 3],
+    };
+    let own = DeclaredColumn {
+        form: first,
+        wide,
+        ..QTY
+    };
+    let other = DeclaredColumn {
+        name: "other",
+        form: second,
+        ..own
+    };
+    let mut index = index_of(alloc, &[own, other], 1, 10)?;
+    append_pairs(alloc, &mut index)?;
+    Ok(index)
+}
+
+// Whether each comparison of the two columns lists the rows that it should.
+fn is_related(alloc: Global, first: TestForm, second: TestForm) -> Result<bool, IndexError> {
+    let index = paired_rows(alloc, first, second)?;
+    let mut right = true;
+    for (op, wanted) in RELATED {
+        right &= lists(&index, Pred::Columns(0, op, 1), wanted);
+    }
+    Ok(right)
+}
+
+// Whether they do with a second column of each form.
+fn relates_to_each(alloc: Global, first: TestForm) -> Result<bool, IndexError> {
+    let mut right = true;
+    for second in FORMS {
+        right &= is_related(alloc, first, second)?;
+    }
+    Ok(right)
+}
+
+#[test]
+fn columns_of_every_form_are_compared(rt: HostRuntime) {
+    for form in FORMS {
+        assert!(rt;
+            matches!(relates_to_each(rt.alloc(), form), Ok(true)),
             "{form:?}"
         );
     }

@@ -7,6 +7,7 @@ use crate::encoding::Encoding;
 use crate::equality::{EqualityComponent, first_stored};
 use crate::places::kept_places;
 use bsi_bits::{Bitmaps, Bits};
+use bsi_words::spans::copy_in;
 
 impl BinaryPlaces for EqualityComponent {
     fn place_into(&self, k: usize, out: &mut Bits) {
@@ -26,6 +27,15 @@ impl BinaryPlaces for EqualityComponent {
         let mut span = [0];
         self.eq_span_into(digit_of_place(self.base(), k), at, &mut span);
         span[0]
+    }
+
+    fn place_span(&self, k: usize, at: usize, span: &mut [u64]) {
+        let places = self.places();
+        if places.is_empty() {
+            self.eq_span_into(digit_of_place(self.base(), k), at, span);
+        } else {
+            copy_in(&places[k], at, span);
+        }
     }
 
     fn from_places(base: u32, places: Vec<Bits>) -> Result<Option<Self>, NoMemory> {

@@ -1,5 +1,5 @@
-//! 64 rows, read at once, and comparisons of two columns: of slices by their binary places, of others by the numbers of
-//! such rows.
+//! 64 rows, read at once, and comparisons of two columns: by their binary places where these can be compared, else by
+//! the numbers of such rows.
 
 ghost use Rattle.std.specs.Prelude.{◌≡◌, ℕ, pos, ◌<ℤ◌, ◌+◌, ◌*◌, ◌<◌, ◌≤◌, ◌==◌, ◌&&◌, length, None, slice_index, slice_index_or, IfSome};
 ghost use Rattle.std.specs.Int.{bit_at};
@@ -14,7 +14,7 @@ ghost use Rattle.bsi_shift.specs.Shifted.{number_of, shifted_entries};
 
 use crate::Shifted;
 use bsi_bits::{MAX_BLOCK, MAX_LEN};
-use bsi_columns::{AnyColumn, Column, Op, Relating};
+use bsi_columns::{Column, Op, Relating};
 
 impl Shifted {
     /// Reads the 64 rows from row `64 * at` on: writes the number of row `64 * at + r` at place `r`, and returns a word
@@ -33,22 +33,23 @@ impl Shifted {
     }
 
     /// Keeps in a span of words the rows whose number satisfies the comparison `op` with the number that another column
-    /// of as many rows has there. The first word stands for the 64 rows from row `64 * at` on. A row that is null in one of the two is
-    /// not kept, nor a bit past the last row. It takes no memory. Two columns of slices are gone over once, slice by
-    /// slice, unless their offsets lie 2^63 or more apart; others are read row by row, but for words that have no row.
+    /// of as many rows has there. The first word stands for the 64 rows from row `64 * at` on. A row that is null in one
+    /// of the two is not kept, nor a bit past the last row. It takes no memory. Two columns go by their binary places,
+    /// each of which is read once, where both are of slices and their offsets lie less than 2^63 apart, and where both
+    /// have the same bases and the same offset, in whichever encodings. Others are read row by row, but for words that
+    /// have no row.
     pub fn keep_related(&self, op: Op, other: &Shifted, at: usize, span: &mut [u64])
         requires within { at + length span.old ≤ word_count (length (shifted_entries self.now)) }
         requires same { length (shifted_entries other.now) ≡ length (shifted_entries self.now) }
         ensures { KeepsRelated op (shifted_entries self.now) (shifted_entries other.now) at
             span.old span.new }
     {
-        let relating = relating_of(self.offset, op, other.offset);
-        match (&self.stored, &other.stored, relating) {
-            (AnyColumn::Slices(slices), AnyColumn::Slices(others), Some(relating)) => {
-                slices.keep_related(relating, others, at, span);
+        if let Some(relating) = relating_of(self.offset, op, other.offset) {
+            if self.stored.keep_related(relating, &other.stored, at, span) {
+                return;
             }
-            _ => self.keep_related_rows(op, other, at, span),
         }
+        self.keep_related_rows(op, other, at, span);
     }
 
     /// Keeps those rows word by word.

@@ -5,5 +5,5 @@ use Rattle.bsi_components.proofs.equality.binary_places.EqualityComponentBinaryP
 pub returns-then-not-is_empty : goal.returns-then-not-is_empty
 returns-then-not-is_empty c = λ r near row.
     let some : 0 < length c.places-places.result.now = search rules in
-    place_bit c.places-places.result.now c.args.self.now.digits c.args.self.now.base c.args.k c.args.at r c.index-places-k.result c.words.result.now
-    c.places-places.ensures.places c.places-places.ensures.many some c.requires.within c.index-places-k.is c.words.ensures.places near row
+    place_bit c.places-places.result.now c.args.self.now.digits c.args.self.now.base c.args.k c.index-places-k.result
+    c.places-places.ensures.places c.places-places.ensures.many some c.requires.within c.index-places-k.is c.args.at r c.words.result.now c.words.ensures.places near row

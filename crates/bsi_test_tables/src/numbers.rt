@@ -1,0 +1,155 @@
+//! The ranks, the different numbers and the first rows of worked rows. Where memory is refused, the same call is made
+//! again.
+
+use crate::tables::{append_row, index_of};
+use bsi_columns::{NoMemory, Op};
+use bsi_fixtures::{DeclaredColumn, FORMS, QTY, TestForm, row_of};
+use bsi_groups::{End, TopRow, distinct, ranks, top};
+use bsi_table::{AskError, Index, IndexError, Pred};
+use std::alloc::Global;
+
+/// The rows: the number that is read, and one to select by.
+const ROWS: [[Option<i128>; 2]; 6] = [
+    [Some(2), Some(5)],
+    [None, Some(7)],
+    [Some(-3), Some(1)],
+    [Some(2), Some(4)],
+    [Some(0), Some(6)],
+    [Some(-3), None],
+];
+
+/// Selects the rows 0, 1, 3 and 4.
+const SOME: Pred = Pred::Compare(1, Op::Gt, 3);
+
+// Appends them, each where it fits.
+fn append_rows(alloc: Global, index: &mut Index) -> Result<(), NoMemory> {
+    for row in ROWS {
+        let row = row_of(alloc, &row)?;
+        let _ = append_row(index, 0, &row);
+    }
+    Ok(())
+}
+
+// An index of these rows.
+fn six_rows(alloc: Global, form: TestForm) -> Result<Index, IndexError> {
+    let number = DeclaredColumn {
+        name: "number",
+        form,
+        offset: -3,
+        ..QTY
+    };
+    let mut index = index_of(alloc, &[number, QTY], 1, 10)?;
+    append_rows(alloc, &mut index)?;
+    Ok(index)
+}
+
+fn ranked(alloc: Global, index: &Index, c: u32, pred: &Pred) -> Result<Vec<Option<i64>>, AskError> {
+    match ranks(alloc, index, c, &[3, 0, 2, 5], pred) {
+        Err(AskError::NoMemory) => ranks(alloc, index, c, &[3, 0, 2, 5], pred),
+        made => made,
+    }
+}
+
+// Whether these are the numbers of the ranks 3, 0, 2 and 5.
+fn has_ranks(alloc: Global, index: &Index, pred: &Pred, wanted: &[Option<i64>]) -> bool {
+    match ranked(alloc, index, 0, pred) {
+        Ok(numbers) => numbers.as_slice() == wanted,
+        Err(_) => false,
+    }
+}
+
+fn is_ranked(alloc: Global, form: TestForm) -> Result<bool, IndexError> {
+    let index = six_rows(alloc, form)?;
+    let all = [Some(2), Some(-3), Some(0), None];
+    let some = [None, Some(0), Some(2), None];
+    let refused = ranked(alloc, &index, 2, &Pred::Null(5));
+    Ok(
+        has_ranks(alloc, &index, &Pred::All, &all)
+            && has_ranks(alloc, &index, &SOME, &some)
+            && matches!(refused, Err(AskError::BadColumn(2))),
+    )
+}
+
+#[test]
+fn ranks_of_a_column(rt: HostRuntime) {
+    for form in FORMS {
+        assert!(rt; matches!(is_ranked(rt.alloc(), form), Ok(true)), "{form:?}");
+    }
+}
+
+fn differing(alloc: Global, index: &Index, c: u32, pred: &Pred) -> Result<u64, AskError> {
+    match distinct(alloc, index, c, pred) {
+        Err(AskError::NoMemory) => distinct(alloc, index, c, pred),
+        counted => counted,
+    }
+}
+
+fn is_counted(alloc: Global, form: TestForm) -> Result<bool, IndexError> {
+    let index = six_rows(alloc, form)?;
+    Ok(
+        differing(alloc, &index, 0, &Pred::All) == Ok(3)
+            && differing(alloc, &index, 0, &SOME) == Ok(2)
+            && differing(alloc, &index, 0, &Pred::Null(5)) == Err(AskError::BadColumn(5)),
+    )
+}
+
+#[test]
+fn different_numbers_of_a_column(rt: HostRuntime) {
+    for form in FORMS {
+        assert!(rt;
+            matches!(is_counted(rt.alloc(), form), Ok(true)),
+            "{form:?}"
+        );
+    }
+}
+
+fn listed(
+    alloc: Global,
+    index: &Index,
+    most: usize,
+    end: End,
+    pred: &Pred,
+) -> Result<Vec<TopRow>, AskError> {
+    match top(alloc, index, 0, most, end, pred) {
+        Err(AskError::NoMemory) => top(alloc, index, 0, most, end, pred),
+        made => made,
+    }
+}
+
+fn is_row(row: &TopRow, wanted: (u64, i64)) -> bool {
+    let (position, number) = wanted;
+    row.row == position && row.number == number
+}
+
+// Whether these are the first four rows, each with its number.
+fn has_first(alloc: Global, index: &Index, end: End, pred: &Pred, wanted: &[(u64, i64)]) -> bool {
+    match listed(alloc, index, 4, end, pred) {
+        Ok(rows) => {
+            rows.len() == wanted.len()
+                && rows
+                    .iter()
+                    .zip(wanted)
+                    .all(|(row, wanted)| is_row(row, *wanted))
+        }
+        Err(_) => false,
+    }
+}
+
+fn is_listed(alloc: Global, form: TestForm) -> Result<bool, IndexError> {
+    let index = six_rows(alloc, form)?;
+    let greatest = [(0, 2), (3, 2), (4, 0), (2, -3)];
+    let least = [(4, 0), (0, 2), (3, 2)];
+    let refused = listed(alloc, &index, 4, End::Least, &Pred::Null(5));
+    Ok(
+        has_first(alloc, &index, End::Greatest, &Pred::All, &greatest)
+            && has_first(alloc, &index, End::Least, &SOME, &least)
+            && matches!(refused, Err(AskError::BadColumn(5))),
+    )
+}
+
+#[test]
+fn first_rows_by_a_column(rt: HostRuntime) {
+    for form in FORMS {
+        assert!(rt; matches!(is_listed(rt.alloc(), form), Ok(true)), "{form:?}");
+    }
+}
