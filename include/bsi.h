@@ -76,6 +76,24 @@ typedef struct {
     bsi_answer answer; /* the answer over these rows; of BSI_ROWS only the count */
 } bsi_group;
 
+/* A row's entry in a column, or the number of a rank. */
+typedef struct {
+    bool present;   /* whether there is a number; else the row is null there, or the rank is past the last */
+    int64_t number; /* the number, where there is one */
+} bsi_entry;
+
+/* A group of rows: those that have the same two entries in two columns. */
+typedef struct {
+    bsi_entry entries[2]; /* the entry in each column */
+    bsi_answer answer;    /* the answer over these rows; of BSI_ROWS only the count */
+} bsi_pair;
+
+/* A row of an index, and its number in a column. */
+typedef struct {
+    uint64_t row; /* from 0, as bsi_select numbers rows */
+    int64_t number;
+} bsi_row;
+
 /* How a call ended. */
 enum {
     BSI_OK = 0,             /* it was done */
@@ -90,7 +108,7 @@ enum {
     BSI_INDEX_FULL = 9,     /* there would be more rows than the limit */
     BSI_SHARED = 10,        /* a shared index takes no rows */
     BSI_BAD_QUERY = 11,     /* the fields ask no query, or spell no predicate, or are over 1,000 for the predicate; in
-                               bsi_group_by also no such column */
+                               bsi_group_by and bsi_group_by_two also no such column */
     BSI_NO_ROOM = 12,       /* there is too little room */
     BSI_BAD_TEXT = 13,      /* the schema has more than 1,000,000 records */
     BSI_LONG_NOTES = 14,    /* there are more than BSI_MAX_NOTES bytes of notes */
@@ -127,10 +145,33 @@ uint32_t bsi_ask(bsi_index *index, const bsi_text *fields, size_t fields_len, bs
 uint32_t bsi_group_by(bsi_index *index, const bsi_text *fields, size_t fields_len, const uint8_t *name, size_t name_len,
                       bsi_group *groups, size_t groups_len, size_t *count);
 
+/* Answers a query over each group of the rows that it selects: those with the same two entries in the columns of two names.
+ * The groups come in order of the first column's numbers, null last, and those of one of these in order of the second's.
+ * *count is how many they are; at BSI_NO_ROOM there are more than pairs_len, and nothing is written. No such column is
+ * BSI_BAD_QUERY. The names may be the same. */
+uint32_t bsi_group_by_two(bsi_index *index, const bsi_text *fields, size_t fields_len, const uint8_t *first, size_t first_len,
+                          const uint8_t *second, size_t second_len, bsi_pair *pairs, size_t pairs_len, size_t *count);
+
 /* Writes which rows a predicate selects, given as its fields: {"price", "<", "100"}. Row i is bit i % 64 of word i / 64,
  * from the lowest; bits past the last row are 0. Rows are numbered as they were appended, by all feeders together. It
  * takes and writes as many words as the rows fill: rows / 64, rounded up. */
 uint32_t bsi_select(bsi_index *index, const bsi_text *fields, size_t fields_len, uint64_t *words, size_t words_len);
+
+/* Writes how many different numbers the column of a name, given as its bytes, has at the rows that a predicate selects. A
+ * null is none. No such column is BSI_BAD_QUERY. */
+uint32_t bsi_distinct(bsi_index *index, const bsi_text *fields, size_t fields_len, const uint8_t *name, size_t name_len,
+                      uint64_t *count);
+
+/* Writes for each rank, from 0, the number that has it among those that the column of a name has at such rows, or none past
+ * the last: as "rank" is answered, but the rows are selected once. At BSI_NO_ROOM there are more ranks than numbers. */
+uint32_t bsi_ranks(bsi_index *index, const bsi_text *fields, size_t fields_len, const uint8_t *name, size_t name_len,
+                   const uint64_t *ranks, size_t ranks_len, bsi_entry *numbers, size_t numbers_len);
+
+/* Writes the rows with the greatest numbers, or the least, that the column of a name has at such rows: as many as rows_len,
+ * or all where fewer have a number. The greatest comes first, or the least, and of rows with one number the lower row.
+ * *count is how many they are. */
+uint32_t bsi_top(bsi_index *index, const bsi_text *fields, size_t fields_len, const uint8_t *name, size_t name_len, bool least,
+                 bsi_row *rows, size_t rows_len, size_t *count);
 
 /* Writes the number of rows, at most 2^32. */
 uint32_t bsi_rows(bsi_index *index, uint64_t *rows);

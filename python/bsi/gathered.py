@@ -13,6 +13,8 @@ from .predicates import MAX_FIELDS
 from .taking import Found
 
 Fields = Sequence[bytes]
+# The number of each column by which rows are grouped.
+Numbers = Tuple[int, ...]
 
 
 class _Left(NamedTuple):
@@ -112,6 +114,17 @@ class Gathered:
             low, high = self.value(b"least", name, fields), self.value(b"greatest", name, fields)
             return None if low is None or high is None else self._narrowed(name, fields, _Left(low, high), rank + 1)
 
+    def ranks(self, name: bytes, ranks: Sequence[int], fields: Fields) -> List[Optional[int]]:
+        """Returns the numbers of some ranks, as `ranked` does each."""
+        return [self.ranked(name, rank, fields) for rank in ranks]
+
+    def distinct(self, name: bytes, fields: Fields) -> int:
+        """Returns how many different numbers the column has in these rows: those of the parts are joined."""
+        most, found = 1 << 10, None
+        while found is None:
+            found, most = self.grouped((name,), [b"count", *fields], most), most << 4
+        return len(found)
+
     def _narrowed(self, name: bytes, fields: Fields, left: _Left, many: int) -> Optional[int]:
         """Returns the least number of what is left that has so many numbers at or below it."""
         while left.low < left.high:
@@ -124,18 +137,18 @@ class Gathered:
             left = left.after(bounds, counts, many)
         return left.low
 
-    def grouped(self, by: bytes, fields: Fields, most: int) -> Optional[Dict[int, Optional[int]]]:
-        """Returns the answers by number as a handle does, to a count, a sum, a least or a greatest number."""
-        joined: Dict[int, List[int]] = {}
+    def grouped(self, by: Tuple[bytes, ...], fields: Fields, most: int) -> Optional[Dict[Numbers, Optional[int]]]:
+        """Returns the answers by numbers as a handle does, to a count, a sum, a least or a greatest number."""
+        joined: Dict[Numbers, List[int]] = {}
         with self.alone():
             parts = self._each("grouped", by, fields, most)
         for part in parts:
-            for number, answer in (part or {}).items():
-                joined.setdefault(number, []).extend([] if answer is None else [answer])
+            for numbers, answer in (part or {}).items():
+                joined.setdefault(numbers, []).extend([] if answer is None else [answer])
         if None in parts or len(joined) > most:
             return None
         join = {b"least": min, b"greatest": max}.get(fields[0], sum)
-        return {number: join(joined[number]) if joined[number] else None for number in sorted(joined)}
+        return {numbers: join(joined[numbers]) if joined[numbers] else None for numbers in sorted(joined)}
 
     def select(self, fields: Fields) -> Tuple[np.ndarray, int]:
         with self.alone():

@@ -1,8 +1,9 @@
-"""Answers for each value of a column: how many rows have it, and figures of other columns in these."""
+"""Answers for each value of a column, or each pair of values of two: how many rows have it, and figures of other columns
+in these."""
 
 from __future__ import annotations
 
-from typing import TYPE_CHECKING, Any, Callable, Dict, Optional, Union
+from typing import TYPE_CHECKING, Any, Callable, Dict, Iterator, Optional, Tuple, Union
 
 from .errors import BadQuery
 from .predicates import Predicate, Stored, all_rows
@@ -14,30 +15,35 @@ MAX_GROUPS = 4096
 
 
 class Groups(Dict[Any, Any]):
-    """Answers by value, in order of the values."""
+    """Answers by value, in order of the values, or by pairs of values."""
 
-    def __init__(self, column: str, answers: Dict[Any, Any]):
+    def __init__(self, columns: Tuple[str, ...], answers: Dict[Any, Any]):
         super().__init__(answers)
-        self._column = column
+        self._columns = columns
 
     def to_pandas(self) -> Any:
         """Returns the answers as a series of pandas, with the values as its index."""
         import pandas
 
-        return pandas.Series(list(self.values()), pandas.Index(list(self), name=self._column))
+        if len(self._columns) == 1:
+            return pandas.Series(list(self.values()), pandas.Index(list(self), name=self._columns[0]))
+        return pandas.Series(list(self.values()), pandas.MultiIndex.from_tuples(list(self), names=self._columns))
 
 
-def too_many(column: str, most: int) -> BadQuery:
-    """Returns the refusal of a column that has more values than so many."""
-    return BadQuery(f"column {column!r} has more than {most:,} values in these rows")
+def too_many(columns: Tuple[str, ...], most: int) -> BadQuery:
+    """Returns the refusal of a column that has more values than so many, or of two that have more pairs."""
+    if len(columns) == 1:
+        return BadQuery(f"column {columns[0]!r} has more than {most:,} values in these rows")
+    named = " and ".join(map(repr, columns))
+    return BadQuery(f"columns {named} have more than {most:,} pairs of values in these rows")
 
 
 class GroupBy:
-    """The rows of a table by the values of a column, of which there are at most 4,096. Where the library has the answer
-    for all values at once, it takes one question, and else one or two a value."""
+    """The rows of a table by the values of a column, or by the pairs of values of two, of which there are at most
+    4,096. Where the library has the answer for all at once, it takes one question, and else one or two for each."""
 
-    def __init__(self, table: "Table", column: str):
-        self._table, self._column = table, column
+    def __init__(self, table: "Table", columns: Tuple[str, ...]):
+        self._table, self._columns = table, columns
 
     def count(self, column: Union["Name", Predicate, None] = None, where: Predicate = all_rows) -> Groups:
         """Returns how many rows have each value, or of how many of them a column has one too."""
@@ -73,15 +79,30 @@ class GroupBy:
 
     def _at_once(self, word: bytes, column: Optional["Name"], where: Predicate) -> Optional[Groups]:
         """Returns the answers where the library has them at once."""
-        found = self._table.grouped(self._column, word, column, where, MAX_GROUPS)
-        return None if found is None else Groups(self._column, found)
+        found = self._table.grouped(self._columns, word, column, where, MAX_GROUPS)
+        return None if found is None else Groups(self._columns, found)
 
     def _each(self, where: Predicate, ask: Callable[[Predicate], Any]) -> Groups:
-        kind, answers = self._table.forms[self._column].kind, {}
-        for number in self._table.numbers_in(self._column, where):
+        answers: Dict[Any, Any] = {}
+        for values, here in self._places(self._columns, where):
             if len(answers) == MAX_GROUPS:
-                raise too_many(self._column, MAX_GROUPS)
+                raise too_many(self._columns, MAX_GROUPS)
+            answers[key_of(values)] = ask(here)
+        return Groups(self._columns, answers)
+
+    def _places(self, columns: Tuple[str, ...], where: Predicate) -> Iterator[Tuple[Tuple[Any, ...], Predicate]]:
+        """Yields the values of these columns, and the rows that have them."""
+        if not columns:
+            yield (), where
+            return
+        name, kind = columns[0], self._table.forms[columns[0]].kind
+        for number in self._table.numbers_in(name, where):
             # (by its number: not every answer is a constant, as nanoseconds of a time zone are none)
-            here = Predicate([Stored(self._column, "=", number)])
-            answers[kind.decode(number)] = ask(here if where is all_rows else where & here)
-        return Groups(self._column, answers)
+            here = Predicate([Stored(name, "=", number)])
+            for values, rows in self._places(columns[1:], here if where is all_rows else where & here):
+                yield (kind.decode(number), *values), rows
+
+
+def key_of(values: Tuple[Any, ...]) -> Any:
+    """Returns what the answers of some values are found by: the value, or the pair of them."""
+    return values[0] if len(values) == 1 else values

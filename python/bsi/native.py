@@ -50,12 +50,24 @@ class _Group(Structure):
     _fields_ = [("present", c_bool), ("entry", c_int64), ("answer", _Answer)]
 
 
+class _Entry(Structure):
+    _fields_ = [("present", c_bool), ("number", c_int64)]
+
+
+class _Pair(Structure):
+    _fields_ = [("entries", _Entry * 2), ("answer", _Answer)]
+
+
 _CALLS: Dict[str, List[Any]] = {
     "bsi_open": [c_void_p, c_size_t, c_uint32, POINTER(c_uint64)],
     "bsi_append": [c_uint32, c_void_p, c_size_t, POINTER(c_uint64)],
     "bsi_ask": [c_void_p, c_size_t, POINTER(_Answer), c_void_p, c_size_t],
     "bsi_group_by": [c_void_p, c_size_t, c_void_p, c_size_t, c_void_p, c_size_t, POINTER(c_size_t)],
+    "bsi_group_by_two": [*[c_void_p, c_size_t] * 4, POINTER(c_size_t)],
     "bsi_select": [c_void_p, c_size_t, c_void_p, c_size_t],
+    "bsi_distinct": [c_void_p, c_size_t, c_void_p, c_size_t, POINTER(c_uint64)],
+    "bsi_ranks": [c_void_p, c_size_t, c_void_p, c_size_t, c_void_p, c_size_t, c_void_p, c_size_t],
+    "bsi_top": [c_void_p, c_size_t, c_void_p, c_size_t, c_bool, c_void_p, c_size_t, POINTER(c_size_t)],
     "bsi_rows": [POINTER(c_uint64)],
     "bsi_schema": [c_void_p, c_size_t, POINTER(c_size_t)],
     "bsi_save": [c_void_p, c_size_t, c_void_p, c_size_t, POINTER(c_size_t)],
@@ -165,22 +177,61 @@ class Handle:
         """Returns the number of a rank among those in these rows, from 0, or None past the last."""
         return self.value(b"rank", name, [b"%d" % rank, *fields])
 
+    def ranks(self, name: bytes, ranks: Sequence[int], fields: Sequence[bytes]) -> List[Optional[int]]:
+        """Returns the numbers of some ranks, as `ranked` does each."""
+        column, wanted = np.frombuffer(name, np.uint8), np.array(ranks, np.uint64)
+        (slices, length, _kept), found = _slices(tuple(fields)), (_Entry * max(1, len(ranks)))()
+        room = (_address(wanted), len(wanted), ctypes.addressof(found), len(found))
+        check(self._call("bsi_ranks", slices, length, _address(column), len(column), *room))
+        return [one.number if one.present else None for one in found[: len(ranks)]]
+
+    def top(self, name: bytes, most: int, least: bool, fields: Sequence[bytes]) -> np.ndarray:
+        """Returns the rows with the greatest numbers of the column, or the least, at most so many, in this order."""
+        column, rows, count = np.frombuffer(name, np.uint8), np.empty((most, 2), np.uint64), c_size_t()
+        slices, length, _kept = _slices(tuple(fields))
+        room = (_address(rows), most, byref(count))
+        check(self._call("bsi_top", slices, length, _address(column), len(column), least, *room))
+        return rows[: count.value, 0].astype(np.int64)
+
+    def distinct(self, name: bytes, fields: Sequence[bytes]) -> int:
+        """Returns how many different numbers the column has in these rows."""
+        count, column, (slices, length, _kept) = c_uint64(), np.frombuffer(name, np.uint8), _slices(tuple(fields))
+        check(self._call("bsi_distinct", slices, length, _address(column), len(column), byref(count)))
+        return count.value
+
     def median_and_count(self, name: bytes, fields: Sequence[bytes]) -> Tuple[Optional[int], int]:
         """Returns the lower median number in these rows, and how many numbers there are."""
         return self.value(b"median", name, fields), self.count([*fields, name, b"null", b"not", b"and"])
 
-    def grouped(self, by: bytes, fields: Sequence[bytes], most: int) -> Optional[Dict[int, Optional[int]]]:
-        """Returns the query's answer over the rows of each number of a column, in order of these, but none over the
-        nulls. None where there are more numbers than so many."""
-        groups, count, name = (_Group * (most + 1))(), c_size_t(), np.frombuffer(by, np.uint8)
+    def grouped(
+        self, by: Tuple[bytes, ...], fields: Sequence[bytes], most: int
+    ) -> Optional[Dict[Tuple[int, ...], Optional[int]]]:
+        """Returns the query's answer over the rows of each number of a column, or of each pair of numbers of two, in
+        order of these, but none over the nulls. None where there are more than so many. For two columns it takes eight
+        fields more."""
+        if len(by) == 2:
+            # (there may be more pairs with a null in them than others)
+            there = [word for name in by for word in (name, b"null", b"not", b"and")]
+            pairs = self._groups("bsi_group_by_two", (_Pair * most)(), by, [*fields, *there])
+            if pairs is None:
+                return None
+            return {(pair.entries[0].number, pair.entries[1].number): _number_of(pair.answer) for pair in pairs}
+        groups = self._groups("bsi_group_by", (_Group * (most + 1))(), by, fields)
+        if groups is None:
+            return None
+        found = {(group.entry,): _number_of(group.answer) for group in groups if group.present}
+        return found if len(found) <= most else None
+
+    def _groups(self, call: str, room: Any, by: Tuple[bytes, ...], fields: Sequence[bytes]) -> Optional[List[Any]]:
+        """Returns the groups of the rows, or None where there are more than this room has."""
         slices, length, _kept = _slices(tuple(fields))
-        room = (ctypes.addressof(groups), len(groups), byref(count))
-        status = self._call("bsi_group_by", slices, length, _address(name), len(name), *room)
+        count, names = c_size_t(), [np.frombuffer(name, np.uint8) for name in by]
+        named = (word for name in names for word in (_address(name), len(name)))
+        status = self._call(call, slices, length, *named, ctypes.addressof(room), len(room), byref(count))
         if status == NO_ROOM:
             return None
         check(status)
-        found = {group.entry: _number_of(group.answer) for group in groups[: count.value] if group.present}
-        return found if len(found) <= most else None
+        return room[: count.value]
 
     def select(self, fields: Sequence[bytes]) -> Tuple[np.ndarray, int]:
         """Returns the words whose bits say which rows the predicate selects, and how many rows there are."""

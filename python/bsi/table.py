@@ -2,7 +2,7 @@
 on the other.
 
 A *store* is a `native.Handle`, or a `gathered.Gathered` of several. Both have the calls `count`, `counts`, `sum`,
-`value`, `grouped`, `select`, `numbers`, `rows` and `close`, and but for Dask `append`.
+`value`, `ranked`, `ranks`, `distinct`, `grouped`, `select`, `numbers`, `rows` and `close`, and but for Dask `append`.
 """
 
 from __future__ import annotations
@@ -23,7 +23,7 @@ import numpy as np
 from .choosing import Chosen, of_each, refuse_misfit, refuse_no_kind
 from .errors import BadColumns, BadQuery, BadRow, BadSchema, Error, IndexFull, NoMemory
 from .forms import Form
-from .groups import GroupBy, Groups, too_many
+from .groups import GroupBy, Groups, key_of, too_many
 from .kinds import Flags, Misfit, Texts, Times, shown
 from .narrowing import encode
 from .native import BAD_ROW, INDEX_FULL, NO_MEMORY, Entries, Handle, check
@@ -254,6 +254,17 @@ class Table:
         """Returns the greatest value, as `greatest` does."""
         return self.greatest(column, where)
 
+    def distinct(self, column: Name, where: Predicate = all_rows) -> int:
+        """Returns how many different values the column has in these rows."""
+        name, queries = self._name(column), self._queries(where)
+        if len(queries) == 1:
+            return self._store.distinct(self._within[name], queries[0])
+        return sum(1 for _ in self.numbers_in(name, where))
+
+    def nunique(self, column: Name, where: Predicate = all_rows) -> int:
+        """Returns how many different values there are, as `distinct` does."""
+        return self.distinct(column, where)
+
     def quantile(
         self,
         column: Name,
@@ -267,12 +278,17 @@ class Table:
         if interpolation not in ("lower", "linear"):
             raise ValueError(f"interpolation is 'lower' or 'linear', and not {interpolation!r}")
         if isinstance(q, Iterable) and not isinstance(q, (str, bytes)) and not is_scalar(q):
-            return [self.quantile(column, one, where, interpolation) for one in q]
-        part, name = part_of(q), self._name(column)
+            return self._quantiles(self._name(column), [part_of(one) for one in q], where, interpolation)
+        return self._quantiles(self._name(column), [part_of(q)], where, interpolation)[0]
+
+    def _quantiles(self, name: str, parts: List[Part], where: Predicate, interpolation: str) -> List[Any]:
         count = self.count(name, where)
         if interpolation == "linear":
-            return self._between(name, count, part, where)
-        return self._forms[name].kind.decode(self._number_at(name, rank_of(count, part), where)) if count else None
+            return [self._between(name, count, part, where) for part in parts]
+        if not count:
+            return [None] * len(parts)
+        numbers = self._numbers_at(name, [rank_of(count, part) for part in parts], where)
+        return [self._forms[name].kind.decode(number) for number in numbers]
 
     def _between(self, name: str, count: int, part: Part, where: Predicate) -> Any:
         """Returns what lies between the two values next to a part of these rows."""
@@ -286,10 +302,17 @@ class Table:
         # (a float is the part that it prints as)
         place = (count - 1) * Fraction(str(part) if isinstance(part, float) else part)
         rank = math.floor(place)
-        low = high = self._number_at(name, rank, where)
-        if place > rank:
-            high = self._number_at(name, rank + 1, where)
+        low, high = self._numbers_at(name, [rank, rank + (place > rank)], where)
         return kind.decode_between(low + (high - low) * (place - rank))
+
+    def _numbers_at(self, name: str, ranks: List[int], where: Predicate) -> List[int]:
+        """Returns the numbers of ranks as `_number_at` does, which the library finds in one call where it can."""
+        kind, queries = self._forms[name].kind, self._queries(where, BOUND)
+        if len(queries) > 1 or isinstance(kind, Texts) and kind.grows:
+            return [self._number_at(name, rank, where) for rank in ranks]
+        numbers = self._store.ranks(self._within[name], ranks, queries[0])
+        assert None not in numbers
+        return numbers
 
     def _number_at(self, name: str, rank: int, where: Predicate) -> int:
         """Returns the number of a rank among those of these rows, from 0. There are more of them than that."""
@@ -339,8 +362,11 @@ class Table:
         n = min(n, count)
         if not n:
             return np.zeros(0, np.int64)
-        number, kind = self._number_at(name, count - n if sign == ">" else n - 1, where), self._forms[name].kind
+        kind, queries = self._forms[name].kind, self._queries(where)
         grows = isinstance(kind, Texts) and kind.grows
+        if isinstance(self._store, Handle) and len(queries) == 1 and not grows:
+            return self._store.top(self._within[name], n, sign == "<", queries[0])
+        number = self._number_at(name, count - n if sign == ">" else n - 1, where)
         past = Comparison(name, sign, kind.decode(number)) if grows else Stored(name, sign, number)
         rows = self.rows(where & Predicate([past]))
         keys, _ = self._numbers([name], rows)[name]
@@ -371,18 +397,22 @@ class Table:
             if number is not None:
                 yield number
 
-    def groupby(self, column: Name) -> GroupBy:
-        """Returns the rows by the values of a column: `groupby("station").sum("rain", where)`."""
-        return GroupBy(self, self._name(column))
+    def groupby(self, column: Union[Name, Sequence[Name]]) -> GroupBy:
+        """Returns the rows by the values of a column: `groupby("station").sum("rain", where)`, or by the pairs of values
+        of two: `groupby(["station", "day"])`."""
+        if isinstance(column, (list, tuple)) and len(column) == 2:
+            return GroupBy(self, (self._name(column[0]), self._name(column[1])))
+        return GroupBy(self, (self._name(column),))
 
     def grouped(
-        self, by: str, word: bytes, column: Optional[Name], where: Predicate, most: int
+        self, by: Tuple[str, ...], word: bytes, column: Optional[Name], where: Predicate, most: int
     ) -> Optional[Dict[Any, Any]]:
-        """Returns the answer to a question of one word for each value of a column, or None where the library does not
-        have them at once: of texts whose numbers are in no order, and of too long a predicate."""
-        names = [by] if column is None else [by, self._name(column)]
+        """Returns the answer to a question of one word for each value of a column, or for each pair of values of two,
+        or None where the library does not have them at once: of texts whose numbers are in no order, and of too long a
+        predicate."""
+        names = [*by] if column is None else [*by, self._name(column)]
         kinds = [self._forms[name].kind for name in names]
-        queries = self._queries(where)
+        queries = self._queries(where, 2 * BOUND if len(by) == 2 else 0)
         if len(queries) > 1 or any(isinstance(kind, Texts) and kind.grows for kind in kinds):
             return None
         if word == b"median" and not isinstance(self._store, Handle):
@@ -390,17 +420,21 @@ class Table:
         if word == b"sum":
             self._refuse_no_sum(names[-1])
         decode = {b"count": int, b"sum": kinds[-1].decode_sum}.get(word, kinds[-1].decode)
-        fields = [word, *(self._within[name] for name in names[1:]), *queries[0]]
-        found = self._store.grouped(self._within[by], fields, most)
+        fields = [word, *(self._within[name] for name in names[len(by) :]), *queries[0]]
+        found = self._store.grouped(tuple(self._within[name] for name in by), fields, most)
         if found is None:
             raise too_many(by, most)
-        return {kinds[0].decode(number): None if one is None else decode(one) for number, one in found.items()}
+        answers = {}
+        for numbers, one in found.items():
+            values = tuple(kind.decode(number) for kind, number in zip(kinds, numbers))
+            answers[key_of(values)] = None if one is None else decode(one)
+        return answers
 
     def value_counts(self, column: Name, where: Predicate = all_rows) -> Groups:
         """Returns how many of these rows have each value of the column, the most frequent first."""
         name = self._name(column)
         counts = self.groupby(name).count(where=where)
-        return Groups(name, dict(sorted(counts.items(), key=lambda one: -one[1])))
+        return Groups((name,), dict(sorted(counts.items(), key=lambda one: -one[1])))
 
     def describe(
         self,

@@ -386,45 +386,69 @@ def test_quantiles_that_are_none(q, kind, why):
         small().quantile("price", 0.5, interpolation="higher")
 
 
-def grouped(rows, name, where, figure):
-    """Returns a figure of the rows by the values of a column, as plain Python has it."""
+def grouped(rows, names, where, figure):
+    """Returns a figure of the rows by the values of a column, or the pairs of values of two, as plain Python has it."""
     found = {}
     for row in rows:
-        if row[name] is not None and where(row):
-            found.setdefault(row[name], []).append(row)
-    return {value: figure([row["n"] for row in found[value] if row["n"] is not None]) for value in sorted(found)}
+        values = tuple(row[name] for name in names)
+        if None not in values and where(row):
+            found.setdefault(values[0] if len(values) == 1 else values, []).append(row)
+    return {key: figure([row["n"] for row in found[key] if row["n"] is not None]) for key in sorted(found)}
 
 
-@pytest.mark.parametrize("seed", range(4))
-def test_groups_beside_plain_python(seed):
+FIGURES = (
+    ("sum", sum),
+    ("least", lambda numbers: min(numbers, default=None)),
+    ("max", lambda numbers: max(numbers, default=None)),
+    ("mean", lambda numbers: sum(numbers) / len(numbers) if numbers else None),
+    ("median", lambda numbers: sorted(numbers)[(len(numbers) - 1) // 2] if numbers else None),
+    ("count", len),
+)
+CHOICES = ((bsi.all_rows, lambda row: True), (col.w > 0, lambda row: row["w"] > 0))
+
+
+def random_columns(seed):
     rng = np.random.default_rng(seed)
-    days = [datetime.datetime(2026, 1, 1) + datetime.timedelta(days=int(day)) for day in rng.integers(0, 5, 300)]
-    data = {
+    return {
         "t": [None if word == "x" else str(word) for word in rng.choice(["a", "b", "c", "x"], 300)],
         "f": [None if number == 0 else bool(number - 1) for number in rng.integers(0, 3, 300)],
         "w": rng.choice([-5, 7, 10**9], 300).tolist(),
         "c": [Decimal(int(number)).scaleb(-1) for number in rng.integers(-3, 3, 300)],
-        "d": days,
+        "d": [datetime.datetime(2026, 1, 1) + datetime.timedelta(days=int(day)) for day in rng.integers(0, 5, 300)],
         "n": [None if number > 90 else int(number) for number in rng.integers(-20, 100, 300)],
     }
+
+
+@pytest.mark.parametrize("seed", range(4))
+def test_groups_beside_plain_python(seed):
+    data = random_columns(seed)
     rows = [dict(zip(data, row)) for row in zip(*data.values())]
     for index in (bsi.Index.from_frame(data), bsi.Index.from_frame(data, spare=2), bsi.Parts.from_frame(3, data)):
         for name in "tfwcd":
             by = index.groupby(name)
-            for predicate, where in ((bsi.all_rows, lambda row: True), (col.w > 0, lambda row: row["w"] > 0)):
-                for word, figure in (
-                    ("sum", sum),
-                    ("least", lambda numbers: min(numbers, default=None)),
-                    ("max", lambda numbers: max(numbers, default=None)),
-                    ("mean", lambda numbers: sum(numbers) / len(numbers) if numbers else None),
-                    ("median", lambda numbers: sorted(numbers)[(len(numbers) - 1) // 2] if numbers else None),
-                    ("count", len),
-                ):
-                    assert getattr(by, word)("n", predicate) == grouped(rows, name, where, figure), (name, word)
+            for predicate, where in CHOICES:
+                for word, figure in FIGURES:
+                    assert getattr(by, word)("n", predicate) == grouped(rows, [name], where, figure), (name, word)
                 counts = index.value_counts(name, predicate)
                 wanted = {value: sum(row[name] == value and where(row) for row in rows) for value in counts}
                 assert counts == wanted == by.count(predicate)
                 assert list(counts.values()) == sorted(counts.values(), reverse=True)
+
+
+@pytest.mark.parametrize("seed", range(4))
+def test_groups_of_two_columns_beside_plain_python(seed):
+    data = random_columns(seed)
+    rows = [dict(zip(data, row)) for row in zip(*data.values())]
+    for index in (bsi.Index.from_frame(data), bsi.Index.from_frame(data, spare=2), bsi.Parts.from_frame(3, data)):
+        for names in (["t", "f"], ("w", "c"), ["d", "t"], [col.f, "w"], ["c", "c"]):
+            by, plain = index.groupby(names), [getattr(name, "name", name) for name in names]
+            for predicate, where in CHOICES:
+                for word, figure in FIGURES:
+                    found, wanted = getattr(by, word)("n", predicate), grouped(rows, plain, where, figure)
+                    assert list(found.items()) == list(wanted.items()), (names, word)
+                pairs = [tuple(row[name] for name in plain) for row in rows if where(row)]
+                wanted = {pair: pairs.count(pair) for pair in sorted(pair for pair in set(pairs) if None not in pair)}
+                assert list(by.count(where=predicate).items()) == list(wanted.items())
 
 
 def test_groups_of_answers_that_are_no_constants():
@@ -459,6 +483,39 @@ def test_groups_that_are_many():
     series = index.groupby(col.t).max("n").to_pandas()
     assert series.to_dict() == {"a": 4998, "b": 4999} and series.index.name == "t"
     assert isinstance(series, pandas.Series)
+
+
+def test_groups_of_two_columns_and_nulls():
+    index = bsi.Index.from_frame({"n": [None, 3, None, 3, -7, 3], "m": [1, 2, 4, None, None, 2], "k": [1, 2, 3, 4, 5, None]})
+    pairs = index.groupby(["n", "m"])
+    assert pairs.count() == {(3, 2): 2} and pairs.sum("k") == {(3, 2): 2} and pairs.least("k", col.k > 2) == {}
+    assert index.groupby(["k", "n"]).count() == {(2, 3): 1, (4, 3): 1, (5, -7): 1}
+    assert index.groupby(["n", "m"]).median("k", col.k.isnull()) == {(3, 2): None}
+
+
+def test_groups_of_two_columns_that_are_many():
+    numbers = list(range(5000))
+    index = bsi.Index.from_frame({"n": [number // 50 for number in numbers], "m": [number % 50 for number in numbers]})
+    with pytest.raises(bsi.BadQuery, match="columns 'n' and 'm' have more than 4,096 pairs of values in these rows"):
+        index.groupby(["n", "m"]).count()
+    some = index.groupby(["n", "m"]).sum("m", col.n < 81)
+    assert len(some) == 4050 and list(some)[:2] == [(0, 0), (0, 1)] and some[80, 49] == 49
+
+
+def test_groups_of_two_columns_by_a_long_predicate():
+    numbers = list(range(3000))
+    index = bsi.Index.from_frame({"n": numbers, "t": ["a", "b", "c"] * 1000, "k": [number // 1500 for number in numbers]})
+    found = index.groupby(["t", "k"]).count(where=col.n.isin(numbers[1::2]))
+    assert found == {(word, half): 250 for word in "abc" for half in (0, 1)}
+
+
+def test_groups_of_two_columns_as_pandas_has_them():
+    pandas = pytest.importorskip("pandas")
+    frame = pandas.DataFrame({"t": ["a", "b", "a", "a"], "n": [2, 1, 1, 2], "m": [5, 6, 7, 8]})
+    series = bsi.Index.from_frame(frame).groupby(["t", "n"]).sum("m").to_pandas()
+    wanted = frame.groupby(["t", "n"])["m"].sum()
+    assert list(series.items()) == list(wanted.items()) == [(("a", 1), 7), (("a", 2), 13), (("b", 1), 6)]
+    assert isinstance(series.index, pandas.MultiIndex) and list(series.index.names) == ["t", "n"]
 
 
 @pytest.mark.parametrize("parts", [1, 3])

@@ -28,6 +28,8 @@ def read(**more):
 REFUSED = [
     (lambda: index().sum(["x"]), bsi.BadQuery, r"there is no column \['x'\], only 'x', 't', 'f'"),
     (lambda: index().groupby(["x"]), bsi.BadQuery, r"there is no column \['x'\]"),
+    (lambda: index().groupby(["t", "z"]), bsi.BadQuery, "there is no column 'z'"),
+    (lambda: index().groupby(["t", "t", "t"]), bsi.BadQuery, r"there is no column \['t', 't', 't'\]"),
     (lambda: index().median(None), bsi.BadQuery, "there is no column None"),
     (lambda: index().describe([5]), bsi.BadQuery, "there is no column 5"),
     (lambda: index().take([0], 5), TypeError, "columns is a list of names, and not 5"),

@@ -229,6 +229,10 @@ def test_the_outermost_rows_and_ranks_beside_plain_python(seed):
                     wanted = sorted(there, key=values.__getitem__, reverse=True)[:n]
                     assert table.nlargest(n, name, where).tolist() == wanted, (name, n)
                 found = [values[row] for row in there]
+                assert table.distinct(name, where) == table.nunique(name, where) == len(set(found))
+                ordered = sorted(found)
+                wanted = [ordered[part * (len(found) - 1) // 4] if found else None for part in (3, 0, 4, 2)]
+                assert table.quantile(name, (0.75, 0, 1, 0.5), where) == wanted
                 for value in found[:5]:
                     low, high = sum(one < value for one in found) + 1, sum(one <= value for one in found)
                     assert table.rank(name, value, where) == (low + high) / 2

@@ -111,6 +111,82 @@ static void group(bsi_index *index) {
     check(group_by(index, "count all", "d", groups, 1002, &count) == BSI_BAD_QUERY && count == 1, "no column, no groups");
 }
 
+/* Orders rows by their entries of b, null last, and then of c. */
+static int by_pair(const void *a, const void *b) {
+    size_t x = *(const size_t *)a, y = *(const size_t *)b;
+    bool there = is_there(1, x);
+    if (there != is_there(1, y)) return there ? -1 : 1;
+    if (there && plain[1][x] != plain[1][y]) return plain[1][x] < plain[1][y] ? -1 : 1;
+    return (plain[2][x] > plain[2][y]) - (plain[2][x] < plain[2][y]);
+}
+
+/* Compares the sums of a over the rows of each pair of entries of b and c where a is below 5,000. */
+static void group_by_pairs(bsi_index *index) {
+    static size_t rows[ROWS];
+    static bsi_pair pairs[ROWS];
+    size_t many = 0, count = 0, at = 0, wrong = 0;
+    for (size_t row = 0; row < ROWS; row++)
+        if (plain[0][row] < 5000) rows[many++] = row;
+    qsort(rows, many, sizeof *rows, by_pair);
+    uint32_t status = group_by_two(index, "sum a a < 5000", "b", "c", pairs, ROWS, &count);
+    for (size_t first = 0, end; first < many; first = end, at++) {
+        const bsi_pair *found = &pairs[at];
+        bool there = is_there(1, rows[first]);
+        uint64_t sum = 0;
+        for (end = first; end < many && !by_pair(&rows[first], &rows[end]); end++) sum += plain[0][rows[end]];
+        wrong += found->entries[0].present != there || (there && found->entries[0].number != plain[1][rows[first]]);
+        wrong += !found->entries[1].present || found->entries[1].number != plain[2][rows[first]];
+        wrong += found->answer.kind != BSI_SUM || found->answer.low != sum || found->answer.high != 0;
+    }
+    check(!status && many > 0 && count == at && !wrong, "the groups of two columns and their sums are those of a loop");
+    check(group_by_two(index, "count a < 5000", "b", "c", pairs, at - 1, &count) == BSI_NO_ROOM && count == at, "pairs want room");
+    check(group_by_two(index, "count b = 1", "b", "b", pairs, 1, &count) == BSI_OK && count == 1 && pairs[0].entries[0].number == 1
+              && pairs[0].entries[1].number == 1 && pairs[0].answer.kind == BSI_COUNT && pairs[0].answer.count > 1,
+          "a column is grouped by itself");
+    check(group_by_two(index, "count all", "b", "d", pairs, ROWS, &count) == BSI_BAD_QUERY && count == 1, "no column, no pairs");
+}
+
+static int which;
+
+/* Orders rows by their entries of a column, the greatest first, and then by position. */
+static int by_entry(const void *a, const void *b) {
+    size_t x = *(const size_t *)a, y = *(const size_t *)b;
+    if (plain[which][x] != plain[which][y]) return plain[which][x] > plain[which][y] ? -1 : 1;
+    return (x > y) - (x < y);
+}
+
+/* Compares the first rows, the ranks and the number of different entries of a column where b is below 12. */
+static void numbers(bsi_index *index, int column) {
+    static size_t rows[ROWS];
+    static bsi_row found[ROWS];
+    size_t many = 0, listed = 0;
+    uint64_t different = 0, count = 0;
+    for (size_t row = 0; row < ROWS; row++)
+        if (is_there(1, row) && plain[1][row] < 12 && is_there(column, row)) rows[many++] = row;
+    which = column;
+    qsort(rows, many, sizeof *rows, by_entry);
+    for (size_t k = 0; k < many; k++) different += k == 0 || plain[column][rows[k]] != plain[column][rows[k - 1]];
+    char text[128];
+    snprintf(text, sizeof text, "%s: the different numbers are those of a loop", names[column]);
+    check(!distinct(index, "b < 12", names[column], &count) && count == different, text);
+    uint64_t wanted[4] = {many / 2, 0, many, many - 1};
+    bsi_entry at[4];
+    bool right = !ranks(index, "b < 12", names[column], wanted, 4, at, 4);
+    for (size_t k = 0; k < 4; k++) {
+        right &= at[k].present == (wanted[k] < many);
+        right &= wanted[k] >= many || at[k].number == plain[column][rows[many - 1 - wanted[k]]];
+    }
+    snprintf(text, sizeof text, "%s: the numbers of ranks are those of a loop", names[column]);
+    check(right, text);
+    right = !top(index, "b < 12", names[column], false, found, 1000, &listed) && listed == (many < 1000 ? many : 1000);
+    for (size_t k = 0; k < listed; k++) right &= found[k].row == rows[k] && found[k].number == plain[column][rows[k]];
+    right &= !top(index, "b < 12", names[column], true, found, ROWS, &listed) && listed == many;
+    for (size_t k = 1; k < listed; k++)
+        right &= found[k - 1].number < found[k].number || (found[k - 1].number == found[k].number && found[k - 1].row < found[k].row);
+    snprintf(text, sizeof text, "%s: the first rows are those of a loop", names[column]);
+    check(right, text);
+}
+
 int main(void) {
     fill();
     bsi_index index = {0};
@@ -124,7 +200,9 @@ int main(void) {
     for (int column = 0; column < 3; column++)
         for (int sign = 0; sign < 6; sign++) compare(&index, column, sign);
     for (int column = 0; column < 3; column++) total(&index, column);
+    for (int column = 0; column < 3; column++) numbers(&index, column);
     group(&index);
+    group_by_pairs(&index);
     check(!ask(&index, "least a a < 0", &answer, places, 0) && answer.kind == BSI_VALUE && !answer.present, "there may be no least");
     size_t nulls = 0;
     for (size_t r = 0; r < ROWS; r++) nulls += !is_there(1, r);

@@ -41,6 +41,30 @@ static inline uint32_t group_by(bsi_index *index, const char *text, const char *
     return bsi_group_by(index, of.at, of.len, (const uint8_t *)name, strlen(name), groups, room, count);
 }
 
+static inline uint32_t group_by_two(bsi_index *index, const char *text, const char *first, const char *second, bsi_pair *pairs,
+                                    size_t room, size_t *count) {
+    fields of = fields_of(text);
+    return bsi_group_by_two(index, of.at, of.len, (const uint8_t *)first, strlen(first), (const uint8_t *)second, strlen(second),
+                            pairs, room, count);
+}
+
+static inline uint32_t distinct(bsi_index *index, const char *text, const char *name, uint64_t *count) {
+    fields of = fields_of(text);
+    return bsi_distinct(index, of.at, of.len, (const uint8_t *)name, strlen(name), count);
+}
+
+static inline uint32_t ranks(bsi_index *index, const char *text, const char *name, const uint64_t *wanted, size_t len,
+                             bsi_entry *numbers, size_t room) {
+    fields of = fields_of(text);
+    return bsi_ranks(index, of.at, of.len, (const uint8_t *)name, strlen(name), wanted, len, numbers, room);
+}
+
+static inline uint32_t top(bsi_index *index, const char *text, const char *name, bool least, bsi_row *rows, size_t room,
+                           size_t *count) {
+    fields of = fields_of(text);
+    return bsi_top(index, of.at, of.len, (const uint8_t *)name, strlen(name), least, rows, room, count);
+}
+
 static inline uint32_t selects(bsi_index *index, const char *text, uint64_t *words, size_t room) {
     fields of = fields_of(text);
     return bsi_select(index, of.at, of.len, words, room);

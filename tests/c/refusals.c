@@ -96,10 +96,43 @@ static void groups_below_100(bsi_index *index, uint64_t rows) {
     wrong += found != wanted;
 }
 
+/* Counts the rows of the groups of b and a where a is below 30. */
+static void pairs_below_30(bsi_index *index, uint64_t rows) {
+    static bsi_pair pairs[ROWS];
+    size_t count = 0;
+    uint64_t found = 0, wanted = 0;
+    uint32_t status = group_by_two(index, "count a < 30", "b", "a", pairs, ROWS, &count);
+    wrong += !is_fair(status);
+    if (is_to_repeat(status)) wrong += (status = group_by_two(index, "count a < 30", "b", "a", pairs, ROWS, &count)) != BSI_OK;
+    if (status) return;
+    for (size_t k = 0; k < count; k++) found += pairs[k].answer.count;
+    for (uint64_t row = 0; row < rows; row++) wanted += a[row] < 30;
+    wrong += found != wanted;
+}
+
+/* Counts the different entries of b, and lists the two greatest of a. */
+static void numbers_of_both(bsi_index *index, uint64_t rows) {
+    bsi_row first[2];
+    size_t listed = 0;
+    uint64_t count = 0, greatest = 0;
+    uint32_t status = distinct(index, "all", "b", &count);
+    wrong += !is_fair(status);
+    if (is_to_repeat(status)) wrong += (status = distinct(index, "all", "b", &count)) != BSI_OK;
+    wrong += !status && (count > rows || !count != !rows);
+    status = top(index, "all", "a", false, first, 2, &listed);
+    wrong += !is_fair(status);
+    if (is_to_repeat(status)) wrong += (status = top(index, "all", "a", false, first, 2, &listed)) != BSI_OK;
+    if (status || !rows) return;
+    for (uint64_t row = 1; row < rows; row++) greatest = a[row] > a[greatest] ? row : greatest;
+    wrong += !listed || first[0].row != greatest || first[0].number != a[greatest];
+}
+
 /* Asks an index of the first rows, and sees that each answer that is given is right. */
 static void question(bsi_index *index, uint64_t rows) {
     list_below_100(index, rows);
     groups_below_100(index, rows);
+    pairs_below_30(index, rows);
+    numbers_of_both(index, rows);
     median(index, rows);
     select_below_100(index, rows);
 }

@@ -6,6 +6,9 @@ static uint8_t bits[16] = {255, 255};
 static bsi_place places[8];
 static uint64_t words[4];
 static bsi_group groups[4];
+static bsi_pair pairs[4];
+static bsi_entry entries[4];
+static bsi_row rows[4];
 static bsi_index closed, open_one;
 
 static uint64_t rows_of(bsi_index *index) {
@@ -29,6 +32,10 @@ static void of_a_closed_handle(void) {
     check(append(&closed, 0, &column, 1, 0) == BSI_CLOSED, "append: a closed handle");
     check(ask(&closed, "count all", &answer, places, 0) == BSI_CLOSED, "ask: a closed handle");
     check(group_by(&closed, "count all", "x", groups, 1, &size) == BSI_CLOSED, "group_by: a closed handle");
+    check(group_by_two(&closed, "count all", "x", "y", pairs, 1, &size) == BSI_CLOSED, "group_by_two: a closed handle");
+    check(distinct(&closed, "all", "x", &number) == BSI_CLOSED, "distinct: a closed handle");
+    check(ranks(&closed, "all", "x", words, 1, entries, 1) == BSI_CLOSED, "ranks: a closed handle");
+    check(top(&closed, "all", "x", false, rows, 1, &size) == BSI_CLOSED, "top: a closed handle");
     check(selects(&closed, "all", words, 0) == BSI_CLOSED, "select: a closed handle");
     check(bsi_rows(&closed, &number) == BSI_CLOSED, "rows: a closed handle");
     check(bsi_schema(&closed, bits, 0, &size) == BSI_CLOSED, "schema: a closed handle");
@@ -86,6 +93,40 @@ static void of_columns(void) {
     two[1] = (bsi_column){low, 3, bits + 15, 1};
     low[2] = 0;
     check(append(&open_one, 1, two, 2, 3) == BSI_OK && rows_of(&open_one) == 3, "append: a null need not fit");
+}
+
+static void of_pairs(void) {
+    size_t count = 77;
+    check(group_by_two(&open_one, "all", "x", "y", pairs, 4, &count) == BSI_BAD_QUERY, "group_by_two: no query");
+    check(group_by_two(&open_one, "count all", "z", "y", pairs, 4, &count) == BSI_BAD_QUERY, "group_by_two: no first column");
+    check(group_by_two(&open_one, "count all", "x", "z", pairs, 4, &count) == BSI_BAD_QUERY, "group_by_two: no second column");
+    check(group_by_two(&open_one, "count all", "x", "y", pairs, 2, &count) == BSI_NO_ROOM && count == 77,
+          "group_by_two: too little room");
+    check(!pairs[0].entries[0].present && pairs[0].answer.kind == 0, "group_by_two: a refused call writes nothing");
+    check(group_by_two(&open_one, "count all", "x", "y", pairs, 4, &count) == BSI_OK && count == 3, "group_by_two: a group a pair");
+    check(pairs[0].entries[0].number == 1 && pairs[0].entries[1].number == -50 && pairs[1].entries[0].number == 2
+              && pairs[1].entries[1].present && pairs[1].entries[1].number == 0,
+          "group_by_two: in order of the first column");
+    check(!pairs[2].entries[0].present && !pairs[2].entries[1].present && pairs[2].answer.count == 1 && pairs[3].answer.kind == 0,
+          "group_by_two: the group of the nulls");
+}
+
+static void of_numbers(void) {
+    uint64_t count = 77, wanted[3] = {1, 2, 0};
+    size_t listed = 77;
+    check(distinct(&open_one, "count all", "x", &count) == BSI_BAD_QUERY && count == 77, "distinct: a query");
+    check(distinct(&open_one, "all", "z", &count) == BSI_BAD_QUERY && count == 77, "distinct: no such column");
+    check(distinct(&open_one, "all", "x", &count) == BSI_OK && count == 2, "distinct: a null is no number");
+    check(ranks(&open_one, "all", "z", wanted, 3, entries, 3) == BSI_BAD_QUERY, "ranks: no such column");
+    check(ranks(&open_one, "all", "y", wanted, 3, entries, 2) == BSI_NO_ROOM && !entries[0].present, "ranks: too little room");
+    check(ranks(&open_one, "all", "y", wanted, 3, entries, 4) == BSI_OK && entries[0].present && entries[0].number == 0
+              && !entries[1].present && entries[2].present && entries[2].number == -50,
+          "ranks: one past the last has no number");
+    check(top(&open_one, "nothing", "y", false, rows, 4, &listed) == BSI_BAD_QUERY && listed == 77, "top: no predicate");
+    check(top(&open_one, "all", "y", false, rows, 4, &listed) == BSI_OK && listed == 2 && rows[0].row == 2 && rows[0].number == 0
+              && rows[1].row == 0 && rows[1].number == -50,
+          "top: the greatest comes first, and a null has no place");
+    check(top(&open_one, "all", "y", true, rows, 1, &listed) == BSI_OK && listed == 1 && rows[0].row == 0, "top: the least");
 }
 
 static void of_questions(void) {
@@ -149,6 +190,16 @@ static void of_what_is_written(void) {
     mark(groups, sizeof groups);
     right = group_by(&open_one, "count y null", "y", groups, 4, &size) == BSI_OK && size == 1;
     check(right && is_untouched(groups, sizeof *groups, sizeof groups), "group_by: no group behind those of the answer is written");
+    mark(pairs, sizeof pairs);
+    right = group_by_two(&open_one, "count y null", "x", "y", pairs, 4, &size) == BSI_OK && size == 1;
+    check(right && is_untouched(pairs, sizeof *pairs, sizeof pairs), "group_by_two: no pair behind those of the answer is written");
+    uint64_t wanted = 0;
+    mark(entries, sizeof entries);
+    right = ranks(&open_one, "all", "x", &wanted, 1, entries, 4) == BSI_OK;
+    check(right && is_untouched(entries, sizeof *entries, sizeof entries), "ranks: no number behind those of the answer is written");
+    mark(rows, sizeof rows);
+    right = top(&open_one, "y = 0", "x", false, rows, 4, &size) == BSI_OK && size == 1;
+    check(right && is_untouched(rows, sizeof *rows, sizeof rows), "top: no row behind those of the answer is written");
     mark(text, sizeof text);
     right = bsi_schema(&open_one, text, sizeof text, &size) == BSI_OK && size == 52;
     check(right && is_untouched(text, size, sizeof text), "schema: no byte behind the text is written");
@@ -158,7 +209,8 @@ static void of_what_is_written(void) {
 static void of_the_interface(void) {
     check(bsi_version() == BSI_VERSION, "the library is of the header's version");
     check(sizeof(bsi_index) == 16 && sizeof(bsi_text) == 16 && sizeof(bsi_column) == 32 && sizeof(bsi_answer) == 40
-              && sizeof(bsi_place) == 16 && sizeof(bsi_group) == 56,
+              && sizeof(bsi_place) == 16 && sizeof(bsi_group) == 56 && sizeof(bsi_entry) == 16 && sizeof(bsi_pair) == 72
+              && sizeof(bsi_row) == 16,
           "the structs have the sizes of the release");
 }
 
@@ -195,6 +247,9 @@ static void of_null_pointers(void) {
     check(selects(&index, "all", NULL, 0) == BSI_OK, "select: null and no word");
     size_t count = 77;
     check(group_by(&index, "count all", "x", NULL, 0, &count) == BSI_OK && count == 0, "group_by: null and no group");
+    check(group_by_two(&index, "count all", "x", "x", NULL, 0, &count) == BSI_OK && count == 0, "group_by_two: null and no pair");
+    check(ranks(&index, "all", "x", NULL, 0, NULL, 0) == BSI_OK, "ranks: null and no rank");
+    check(top(&index, "all", "x", false, NULL, 0, &count) == BSI_OK && count == 0, "top: null and no row");
     bsi_close(&index);
 }
 
@@ -235,6 +290,8 @@ int main(void) {
     of_schemas();
     of_columns();
     of_questions();
+    of_pairs();
+    of_numbers();
     of_what_is_written();
     of_the_interface();
     of_sharing();

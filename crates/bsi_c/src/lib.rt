@@ -2,16 +2,20 @@
 //! `include/bsi.h` lists.
 #![tactic(auto)]
 
-ghost use Rattle.std.specs.Prelude.{◌≡◌, ◌≢◌, Err, None, drop, map};
+ghost use Rattle.std.specs.Prelude.{◌≡◌, ◌≢◌, Err, None, drop, length, map};
 ghost use Rattle.bsi_ffi.specs.Calls.{IsAppending, IsAsking, IsClosing, IsCounting, IsDescribing, IsKeeping, IsOpening, IsReopening, IsSelecting, IsSharing, LeavesRest, LeavesWords};
 ghost use Rattle.bsi_ffi.specs.Groups.{IsGrouping};
+ghost use Rattle.bsi_ffi.specs.Pairs.{IsGroupingByTwo};
+ghost use Rattle.bsi_ffi.specs.Numbers.{IsCountingDifferent, IsRanking};
 ghost use Rattle.bsi_ffi.specs.States.{opened_in};
 ghost use Rattle.bsi_ffi.specs.Statuses.{status_of, Tells};
+ghost use Rattle.bsi_ffi.specs.Tops.{end_of, IsTopping};
 ghost use Rattle.bsi_ffi.specs.declared.refusal.Refusal.TheVariants.{NoMemory, NoRoom};
 
 use bsi_ffi::{
-    FlatAnswer, FlatGroup, GivenColumn, Handle, Place, append, ask, close, count, describe, group,
-    open, open_kept, save, select, share, status_of,
+    FlatAnswer, FlatEntry, FlatGroup, FlatPair, FlatRow, GivenColumn, Handle, Place, append, ask,
+    close, count, describe, different, first_rows, group, group_pairs, open, open_kept, ranked,
+    save, select, share, status_of,
 };
 use std::alloc::Global;
 
@@ -90,6 +94,29 @@ pub extern "C" fn bsi_group_by(
     status_of(group(alloc, index, fields, name, groups, count))
 }
 
+/// Puts the rows that the query of the fields selects in groups by their entries in the columns of these two names. It
+/// writes the query's answer over each, in order of the first column's entries, null last, and within one of these of the
+/// second's, and how many groups there are.
+#[unsafe(no_mangle)]
+pub extern "C" fn bsi_group_by_two(
+    alloc: Global,
+    index: &mut Handle,
+    fields: &[&[u8]],
+    first: &[u8],
+    second: &[u8],
+    pairs: &mut [FlatPair],
+    count: &mut usize,
+) -> u32
+    ensures told { Tells result (IsGroupingByTwo (opened_in index.old.held.value)
+        (map (λ f. f.now) fields.now) first.now second.now pairs.new count.new) }
+    ensures kept { index.new.held.value ≡ index.old.held.value }
+    ensures left { result ≢ 0 → count.new ≡ count.old }
+    ensures unfilled { result ≢ 0 → pairs.new ≡ pairs.old }
+    ensures rest { result ≡ 0 → drop count.new pairs.new ≡ drop count.new pairs.old }
+{
+    status_of(group_pairs(alloc, index, fields, first, second, pairs, count))
+}
+
 /// Writes for each row whether the predicate selects it that the fields spell, the lowest bit of a word first, and 0
 /// past the last row.
 #[unsafe(no_mangle)]
@@ -106,6 +133,66 @@ pub extern "C" fn bsi_select(
     ensures rest { result ≡ 0 → LeavesWords (opened_in index.old.held.value) words.old words.new }
 {
     status_of(select(alloc, index, fields, words))
+}
+
+/// Writes how many different numbers the column of this name has at the rows of the predicate that the fields spell.
+#[unsafe(no_mangle)]
+pub extern "C" fn bsi_distinct(
+    alloc: Global,
+    index: &mut Handle,
+    fields: &[&[u8]],
+    name: &[u8],
+    count: &mut u64,
+) -> u32
+    ensures told { Tells result (IsCountingDifferent (opened_in index.old.held.value)
+        (map (λ f. f.now) fields.now) name.now count.new) }
+    ensures kept { index.new.held.value ≡ index.old.held.value }
+    ensures left { result ≢ 0 → count.new ≡ count.old }
+{
+    status_of(different(alloc, index, fields, name, count))
+}
+
+/// Writes for each rank, from 0, the number that has it among those that the column of this name has at the rows of the
+/// predicate that the fields spell.
+#[unsafe(no_mangle)]
+pub extern "C" fn bsi_ranks(
+    alloc: Global,
+    index: &mut Handle,
+    fields: &[&[u8]],
+    name: &[u8],
+    ranks: &[u64],
+    numbers: &mut [FlatEntry],
+) -> u32
+    ensures told { Tells result (IsRanking (opened_in index.old.held.value)
+        (map (λ f. f.now) fields.now) name.now ranks.now numbers.new) }
+    ensures kept { index.new.held.value ≡ index.old.held.value }
+    ensures left { result ≢ 0 → numbers.new ≡ numbers.old }
+    ensures rest { result ≡ 0 → drop (length ranks.now) numbers.new
+        ≡ drop (length ranks.now) numbers.old }
+{
+    status_of(ranked(alloc, index, fields, name, ranks, numbers))
+}
+
+/// Writes the rows with the greatest numbers, or the least, that the column of this name has at the rows of the predicate
+/// that the fields spell, the first ones first, as many as there is room for, and how many they are.
+#[unsafe(no_mangle)]
+pub extern "C" fn bsi_top(
+    alloc: Global,
+    index: &mut Handle,
+    fields: &[&[u8]],
+    name: &[u8],
+    least: bool,
+    rows: &mut [FlatRow],
+    count: &mut usize,
+) -> u32
+    ensures told { Tells result (IsTopping (opened_in index.old.held.value)
+        (map (λ f. f.now) fields.now) name.now (end_of least) rows.new count.new) }
+    ensures kept { index.new.held.value ≡ index.old.held.value }
+    ensures left { result ≢ 0 → count.new ≡ count.old }
+    ensures unfilled { result ≢ 0 → rows.new ≡ rows.old }
+    ensures rest { result ≡ 0 → drop count.new rows.new ≡ drop count.new rows.old }
+{
+    status_of(first_rows(alloc, index, fields, name, least, rows, count))
 }
 
 /// Writes the number of rows.

@@ -1,10 +1,13 @@
 pub mod Calls
 pub mod Columns
 pub mod Groups
+pub mod Numbers
 pub mod Opened
 pub mod Owned
+pub mod Pairs
 pub mod States
 pub mod Statuses
+pub mod Tops
 pub use Rattle.bsi_table.specs.Answers
 pub use Rattle.bsi_table.specs.Rows
 pub use Rattle.bsi_table.specs.Table

@@ -1,19 +1,25 @@
 //! The calls on a handle.
 
-ghost use Rattle.std.specs.Prelude.{◌≡◌, ◌≢◌, None, drop, is_some, map, IfErr, OnErr, OnOk};
+ghost use Rattle.std.specs.Prelude.{◌≡◌, ◌≢◌, None, drop, is_some, length, map, IfErr, OnErr, OnOk};
 ghost use Rattle.bsi_ffi.specs.Calls.{IsAppending, IsAsking, IsClosing, IsCounting, IsDescribing, IsKeeping, IsOpening, IsReopening, IsSelecting, IsSharing, LeavesRest, LeavesWords};
 ghost use Rattle.bsi_ffi.specs.Groups.{IsGrouping};
+ghost use Rattle.bsi_ffi.specs.Numbers.{IsCountingDifferent, IsRanking};
+ghost use Rattle.bsi_ffi.specs.Pairs.{IsGroupingByTwo};
 ghost use Rattle.bsi_ffi.specs.States.{opened_in};
+ghost use Rattle.bsi_ffi.specs.Tops.{end_of, IsTopping};
 
 use crate::answers::{FlatAnswer, Place, reply};
 use crate::columns::GivenColumn;
 use crate::groups::{FlatGroup, reply_groups};
 use crate::held::{Handle, put, take};
 use crate::keeping::{fill, keep, open_bytes};
+use crate::numbers::{count_different, reply_ranks};
+use crate::pairs::{FlatEntry, FlatPair, reply_pairs};
 use crate::reading::open_text;
 use crate::refusal::Refusal;
 use crate::selection::write_mask;
 use crate::state::State;
+use crate::tops::{FlatRow, end_of, reply_top};
 use bsi_table::MAX_FEEDERS;
 use std::alloc::Global;
 
@@ -130,6 +136,115 @@ pub fn group(
     };
     let ending = match state.opened() {
         Some(opened) => reply_groups(alloc, opened, fields, name, groups, count),
+        None => Err(Refusal::Closed),
+    };
+    put(index, state);
+    ending
+}
+
+/// Puts the rows that the query of the fields selects in groups by their entries in the columns of these names, and
+/// writes the query's answer over each, and how many groups there are.
+pub fn group_pairs(
+    alloc: Global,
+    index: &mut Handle,
+    fields: &[&[u8]],
+    first: &[u8],
+    second: &[u8],
+    pairs: &mut [FlatPair],
+    count: &mut usize,
+) -> Result<(), Refusal>
+    ensures ending { IsGroupingByTwo (opened_in index.old.held.value)
+        (map (λ f. f.now) fields.now) first.now second.now pairs.new count.new result }
+    ensures kept { index.new.held.value ≡ index.old.held.value }
+    ensures left { OnErr result (count.new ≡ count.old) }
+    ensures unfilled { OnErr result (pairs.new ≡ pairs.old) }
+    ensures rest { OnOk result (drop count.new pairs.new ≡ drop count.new pairs.old) }
+{
+    let Some(state) = take(index, alloc) else {
+        return Err(Refusal::Closed);
+    };
+    let ending = match state.opened() {
+        Some(opened) => reply_pairs(alloc, opened, fields, first, second, pairs, count),
+        None => Err(Refusal::Closed),
+    };
+    put(index, state);
+    ending
+}
+
+/// Writes how many different numbers the column of this name has at the rows of the predicate that the fields spell.
+pub fn different(
+    alloc: Global,
+    index: &mut Handle,
+    fields: &[&[u8]],
+    name: &[u8],
+    count: &mut u64,
+) -> Result<(), Refusal>
+    ensures ending { IsCountingDifferent (opened_in index.old.held.value)
+        (map (λ f. f.now) fields.now) name.now count.new result }
+    ensures kept { index.new.held.value ≡ index.old.held.value }
+    ensures left { OnErr result (count.new ≡ count.old) }
+{
+    let Some(state) = take(index, alloc) else {
+        return Err(Refusal::Closed);
+    };
+    let ending = match state.opened() {
+        Some(opened) => count_different(alloc, opened, fields, name, count),
+        None => Err(Refusal::Closed),
+    };
+    put(index, state);
+    ending
+}
+
+/// Writes the numbers of some ranks among those that the column of this name has at such rows.
+pub fn ranked(
+    alloc: Global,
+    index: &mut Handle,
+    fields: &[&[u8]],
+    name: &[u8],
+    wanted: &[u64],
+    numbers: &mut [FlatEntry],
+) -> Result<(), Refusal>
+    ensures ending { IsRanking (opened_in index.old.held.value) (map (λ f. f.now) fields.now)
+        name.now wanted.now numbers.new result }
+    ensures kept { index.new.held.value ≡ index.old.held.value }
+    ensures left { OnErr result (numbers.new ≡ numbers.old) }
+    ensures rest { OnOk result (drop (length wanted.now) numbers.new
+        ≡ drop (length wanted.now) numbers.old) }
+{
+    let Some(state) = take(index, alloc) else {
+        return Err(Refusal::Closed);
+    };
+    let ending = match state.opened() {
+        Some(opened) => reply_ranks(alloc, opened, fields, name, wanted, numbers),
+        None => Err(Refusal::Closed),
+    };
+    put(index, state);
+    ending
+}
+
+/// Writes the rows with the greatest numbers, or the least, that the column of this name has at such rows, the first ones
+/// first, as many as there is room for, and how many they are.
+pub fn first_rows(
+    alloc: Global,
+    index: &mut Handle,
+    fields: &[&[u8]],
+    name: &[u8],
+    least: bool,
+    rows: &mut [FlatRow],
+    count: &mut usize,
+) -> Result<(), Refusal>
+    ensures ending { IsTopping (opened_in index.old.held.value) (map (λ f. f.now) fields.now)
+        name.now (end_of least) rows.new count.new result }
+    ensures kept { index.new.held.value ≡ index.old.held.value }
+    ensures left { OnErr result (count.new ≡ count.old) }
+    ensures unfilled { OnErr result (rows.new ≡ rows.old) }
+    ensures rest { OnOk result (drop count.new rows.new ≡ drop count.new rows.old) }
+{
+    let Some(state) = take(index, alloc) else {
+        return Err(Refusal::Closed);
+    };
+    let ending = match state.opened() {
+        Some(opened) => reply_top(alloc, opened, fields, name, end_of(least), rows, count),
         None => Err(Refusal::Closed),
     };
     put(index, state);

@@ -2,13 +2,14 @@
 
 ghost use Rattle.std.specs.Prelude.{◌≡◌, ◌≤◌, drop, length, map, take, OnErr, OnOk};
 ghost use Rattle.std.specs.List.{AllZip};
-ghost use Rattle.bsi_ffi.specs.Groups.{IsFlatGroup, IsGrouped};
+ghost use Rattle.bsi_ffi.specs.Groups.{IsFlat, IsFlatGroup, IsGrouped};
 
 use crate::answers::{FlatAnswer, Place, write};
 use crate::opened::Opened;
 use crate::refusal::Refusal;
 use bsi_groups::{Group, GroupError, group_by};
 use bsi_records::read_question;
+use bsi_table::Answer;
 use csv::ByteRecord;
 use std::alloc::Global;
 
@@ -87,10 +88,7 @@ fn write_groups(made: &[Group], groups: &mut [FlatGroup])
 fn flat_of(group: &Group) -> FlatGroup
     ensures { IsFlatGroup group.now result }
 {
-    let mut answer = UNWRITTEN;
-    let mut no_places: [Place; 0] = [];
-    // Where rows have no place, their count is written.
-    let _ = write(&group.answer, &mut answer, &mut no_places);
+    let answer = flat_answer(&group.answer);
     match group.entry {
         Some(entry) => FlatGroup {
             present: true,
@@ -103,4 +101,15 @@ fn flat_of(group: &Group) -> FlatGroup
             answer,
         },
     }
+}
+
+/// Returns an answer over a group as C has it.
+pub(crate) fn flat_answer(reply: &Answer) -> FlatAnswer
+    ensures { IsFlat reply.now result }
+{
+    let mut answer = UNWRITTEN;
+    let mut no_places: [Place; 0] = [];
+    // Where rows have no place, their count is written.
+    let _ = write(reply, &mut answer, &mut no_places);
+    answer
 }

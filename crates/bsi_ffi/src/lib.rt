@@ -11,17 +11,25 @@ mod fitting;
 mod groups;
 mod held;
 mod keeping;
+mod numbers;
 mod opened;
+mod pairs;
 mod reading;
 mod refusal;
 mod selection;
 mod state;
+mod tops;
 
 pub use answers::{COUNT, FlatAnswer, Place, ROWS, SUM, VALUE};
-pub use calls::{append, ask, close, count, describe, group, open, open_kept, save, select, share};
+pub use calls::{
+    append, ask, close, count, describe, different, first_rows, group, group_pairs, open,
+    open_kept, ranked, save, select, share,
+};
 pub use columns::GivenColumn;
 pub use groups::FlatGroup;
 pub use held::{Handle, Opaque, OwnedPointer};
 pub use opened::Opened;
+pub use pairs::{FlatEntry, FlatPair};
 pub use refusal::{Refusal, status_of};
 pub use state::State;
+pub use tops::FlatRow;

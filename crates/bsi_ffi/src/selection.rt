@@ -40,7 +40,7 @@ pub(crate) fn write_mask(
 }
 
 /// Reads the predicate that the fields spell, as that of a count.
-fn read_predicate(
+pub(crate) fn read_predicate(
     alloc: Global,
     schema: &Schema,
     fields: &[&[u8]],

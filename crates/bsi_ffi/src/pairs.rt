@@ -1,0 +1,121 @@
+//! Groups of rows by two columns, as C has them.
+
+ghost use Rattle.std.specs.Prelude.{◌≡◌, ◌≤◌, drop, length, map, take, OnErr, OnOk};
+ghost use Rattle.std.specs.List.{AllZip};
+ghost use Rattle.bsi_ffi.specs.Pairs.{IsFlatPair, IsGroupedByTwo, IsWrittenEntry};
+
+use crate::answers::FlatAnswer;
+use crate::groups::flat_answer;
+use crate::opened::Opened;
+use crate::refusal::Refusal;
+use bsi_groups::{GroupError, PairGroup, group_by_two};
+use bsi_records::read_question;
+use csv::ByteRecord;
+use std::alloc::Global;
+
+/// A row's entry in a column, or the number of a rank.
+#[repr(C)]
+#[derive(Clone, Copy, Debug, PartialEq, Eq)]
+pub struct FlatEntry {
+    /// Whether there is a number.
+    pub present: bool,
+    /// The number.
+    pub number: i64,
+}
+
+/// A group of rows: those that have the same two entries in two columns.
+#[repr(C)]
+#[derive(Clone, Copy, Debug, PartialEq, Eq)]
+pub struct FlatPair {
+    /// The entry in each of the columns.
+    pub entries: [FlatEntry; 2],
+    /// The answer over these rows. Rows are counted alone.
+    pub answer: FlatAnswer,
+}
+
+/// Puts the rows that the query of the fields selects in groups by their entries in the columns of these names, and
+/// writes the query's answer over each.
+pub(crate) fn reply_pairs(
+    alloc: Global,
+    opened: &Opened,
+    fields: &[&[u8]],
+    first: &[u8],
+    second: &[u8],
+    pairs: &mut [FlatPair],
+    count: &mut usize,
+) -> Result<(), Refusal>
+    ensures grouped { IsGroupedByTwo opened.now (map (λ f. f.now) fields.now) first.now second.now
+        pairs.new count.new result }
+    ensures left { OnErr result (count.new ≡ count.old) }
+    ensures unfilled { OnErr result (pairs.new ≡ pairs.old) }
+    ensures rest { OnOk result (drop count.new pairs.new ≡ drop count.new pairs.old) }
+{
+    let index = opened.index();
+    let fields = ByteRecord::from_fields(alloc, fields)?;
+    let Some(query) = read_question(alloc, index.schema(), &fields)? else {
+        return Err(Refusal::BadQuery);
+    };
+    let Some(one) = index.schema().find(first) else {
+        return Err(Refusal::BadQuery);
+    };
+    let Some(other) = index.schema().find(second) else {
+        return Err(Refusal::BadQuery);
+    };
+    match group_by_two(alloc, index, &query, [one, other], pairs.len()) {
+        Ok(made) => {
+            write_pairs(&made, pairs);
+            *count = made.len();
+            Ok(())
+        }
+        Err(GroupError::TooMany) => Err(Refusal::NoRoom),
+        Err(GroupError::NoMemory) => Err(Refusal::NoMemory),
+        // By the proof this never is, since the columns of a query that was read are there, and so are those of names.
+        Err(GroupError::BadColumn(_)) => Err(Refusal::BadQuery),
+    }
+}
+
+/// Writes groups, for which there is room.
+fn write_pairs(made: &[PairGroup], pairs: &mut [FlatPair])
+    requires { length made.now ≤ length pairs.old }
+    ensures made { AllZip IsFlatPair made.now (take (length made.now) pairs.new) }
+    ensures long { length pairs.new ≡ length pairs.old }
+    ensures rest { drop (length made.now) pairs.new ≡ drop (length made.now) pairs.old }
+{
+    'pairs: for (at, group) in made.iter().enumerate() {
+        pairs[at] = flat_pair(group);
+    }
+}
+
+/// Returns a group as C has it.
+fn flat_pair(group: &PairGroup) -> FlatPair
+    ensures { IsFlatPair group.now result }
+{
+    FlatPair {
+        entries: flat_entries(group.entries),
+        answer: flat_answer(&group.answer),
+    }
+}
+
+/// Returns two entries as C has them.
+fn flat_entries(entries: [Option<i64>; 2]) -> [FlatEntry; 2]
+    ensures { AllZip IsWrittenEntry entries result }
+{
+    let [first, second] = entries;
+    [flat_entry(first), flat_entry(second)]
+}
+
+/// Returns an entry as C has it.
+pub(crate) fn flat_entry(entry: Option<i64>) -> FlatEntry
+    ensures { IsWrittenEntry entry result }
+{
+    match entry {
+        Some(number) => FlatEntry {
+            present: true,
+            number,
+        },
+        None => FlatEntry {
+            present: false,
+            number: 0,
+        },
+    }
+}
