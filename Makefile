@@ -3,6 +3,7 @@
 PREFIX ?= /usr/local
 PYTHON ?= /usr/bin/python3
 PROGRAM = crates/bsi/out/bsi
+SONAME := libbsi.so.$(shell sed -E 's/^(0\.[0-9]+|[0-9]+)\..*/\1/' VERSION)
 NAME := bsi-$(shell cat VERSION)-$(shell uname -s | tr A-Z a-z)-$(shell uname -m)
 BIN = $(DESTDIR)$(PREFIX)/bin
 MAN = $(DESTDIR)$(PREFIX)/share/man/man1
@@ -39,13 +40,13 @@ install: build lib
 	install -m 644 completions/_bsi "$(ZSH)/_bsi"
 	install -m 644 include/bsi.h "$(INCLUDE)/bsi.h"
 	install -m 644 out/lib/libbsi.a "$(LIB)/libbsi.a"
-	install -m 755 out/lib/libbsi.so.0 "$(LIB)/libbsi.so.0"
-	ln -sf libbsi.so.0 "$(LIB)/libbsi.so"
+	install -m 755 out/lib/libbsi.so "$(LIB)/$(SONAME)"
+	ln -sf $(SONAME) "$(LIB)/libbsi.so"
 	sed 's|@VERSION@|$(shell cat VERSION)|' include/bsi.pc.in >"$(LIB)/pkgconfig/bsi.pc"
 
 uninstall:
 	rm -f "$(BIN)/bsi" "$(MAN)/bsi.1" "$(BASH)/bsi" "$(ZSH)/_bsi" "$(INCLUDE)/bsi.h" "$(LIB)/pkgconfig/bsi.pc"
-	rm -f "$(LIB)/libbsi.a" "$(LIB)/libbsi.so.0" "$(LIB)/libbsi.so"
+	rm -f "$(LIB)/libbsi.a" "$(LIB)/$(SONAME)" "$(LIB)/libbsi.so"
 
 # For machines without the kit: unpacked anywhere, or copied over a prefix. In its pages, what lies in the repository alone has no link.
 dist: build lib wheel

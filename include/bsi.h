@@ -29,12 +29,15 @@ extern "C" {
 /* Returns that of the library. */
 uint32_t bsi_version(void);
 
-/* A handle. One whose bytes are all zero is closed. Only bsi's calls write it, and it is not copied while it is open.
- * bsi_close frees what it holds. */
+/* A handle. One whose bytes are all zero is closed, as BSI_INDEX makes it. Only bsi's calls write it, and it is not copied
+ * while it is open. bsi_close frees what it holds. Its fields are bsi's own. */
 typedef struct {
     void *at;
     bool full;
+    uint64_t reserved[2]; /* so that its size stays */
 } bsi_index;
+
+#define BSI_INDEX {0}
 
 /* The bytes of a field of a query, without an end mark. */
 typedef struct {
@@ -204,28 +207,7 @@ uint32_t bsi_share(bsi_index *index, bsi_index *other);
 uint32_t bsi_close(bsi_index *index);
 
 /* Returns in words how a call ended. */
-static inline const char *bsi_status_text(uint32_t status) {
-    static const char *const texts[] = {"done",
-                                        "the handle is closed",
-                                        "the handle is open",
-                                        "no memory",
-                                        "bad record in the schema",
-                                        "no column in the schema",
-                                        "no such feeder",
-                                        "columns of another number or length",
-                                        "a row does not fit",
-                                        "the index is full",
-                                        "a shared index takes no rows",
-                                        "no query",
-                                        "no room",
-                                        "too many records in the schema",
-                                        "too many bytes of notes",
-                                        "not a kept index",
-                                        "a kept index of another version",
-                                        "a kept index that is cut short",
-                                        "a kept index that is damaged"};
-    return status < sizeof texts / sizeof *texts ? texts[status] : "no status of bsi";
-}
+const char *bsi_status_text(uint32_t status);
 
 #ifdef __cplusplus
 }

@@ -28,7 +28,7 @@ Entries = Tuple[np.ndarray, Optional[np.ndarray]]
 
 
 class _Index(Structure):
-    _fields_ = [("at", c_void_p), ("full", c_bool)]
+    _fields_ = [("at", c_void_p), ("full", c_bool), ("reserved", c_uint64 * 2)]
 
 
 class _Column(Structure):

@@ -208,7 +208,7 @@ static void of_what_is_written(void) {
 /* Programs that were built with this header rely on these. */
 static void of_the_interface(void) {
     check(bsi_version() == BSI_VERSION, "the library is of the header's version");
-    check(sizeof(bsi_index) == 16 && sizeof(bsi_text) == 16 && sizeof(bsi_column) == 32 && sizeof(bsi_answer) == 40
+    check(sizeof(bsi_index) == 32 && sizeof(bsi_text) == 16 && sizeof(bsi_column) == 32 && sizeof(bsi_answer) == 40
               && sizeof(bsi_place) == 16 && sizeof(bsi_group) == 56 && sizeof(bsi_entry) == 16 && sizeof(bsi_pair) == 72
               && sizeof(bsi_row) == 16,
           "the structs have the sizes of the release");
