@@ -1,14 +1,16 @@
 -- The numbers of a found set, block by block, and how many different ones there are.
-use Rattle.std.proofs.Common.{◌≡◌, ℕ, zero, suc, ◌+◌, ◌*◌, ◌<◌, ◌≤◌, Bool, true, false, ℤ, List, [], ◌∷◌, ◌++◌, Option, Some, None, cond, length, get_or, take, refl, ap, ap₂, sym, ◌∙◌, arith}
-use Rattle.std.specs.Prelude.{◌==◌, ◌&&◌, pos, Contains, bit_and, if◌then◌else◌}
+use Rattle.std.proofs.Common.{◌≡◌, ℕ, zero, suc, ◌+◌, ◌*◌, ◌<◌, ◌≤◌, Bool, true, false, ℤ, List, [], ◌∷◌, ◌++◌, Option, Some, None, cond, length, filter, get_or, map, take, refl, ap, ap₂, sym, ◌∙◌, arith}
+use Rattle.std.specs.Prelude.{◌==◌, ◌&&◌, ◌||◌, not, pos, Contains, bit_and, if◌then◌else◌}
 use Rattle.std.specs.Int.{bit_at}
 use Rattle.std.specs.List.{dedup, filter_map}
 use Rattle.std.specs.List.Retain.{DiffersFromLast, IsFiltered}
 use Rattle.std.specs.List.Sorted.{IsPermutation, IsSorted}
 use Rattle.std.specs.Ordering.{int_cmp, int_eq}
-use Rattle.std.specs.Set.{distinct_count, is_member}
+use Rattle.std.specs.Set.{distinct_count, is_member, unique_keys}
+use Rattle.std.specs.Simd.Lanes.{zip2}
 use Rattle.std.specs.Bool.{Decides, one_answer}
 use Rattle.std.proofs.lemmas.Bool.Decides.{Decides-int_eq}
+use Rattle.std.proofs.lemmas.Int.{ints}
 use Rattle.std.proofs.lemmas.Cmp.{int_cmp_total, int_eq_equiv}
 use Rattle.std.proofs.lemmas.List.{append_assoc, append-nil}
 use Rattle.std.proofs.lemmas.List.Filters.{dedup_is}
@@ -17,9 +19,12 @@ use Rattle.std.proofs.lemmas.List.Sorted.{Contains-permutation, IsPermutation-sy
 use Rattle.std.proofs.lemmas.Map.Keys.{IsDistinct-from_sorted}
 use Rattle.std.proofs.lemmas.Map.Made.{is_member-Decides, length-from_keys}
 use Rattle.std.proofs.lemmas.Nat.Bits.{bit_at-zero}
+use Rattle.bsi_bits.specs.BitList.{without}
 use Rattle.bsi_bits.specs.Packed.{bit_of}
 use Rattle.bsi_orders.specs.Orders.{values_at}
+use Rattle.bsi_groups.specs.Entries.{is_entry}
 use Rattle.bsi_groups.specs.Replies.{block_numbers}
+use Rattle.bsi_groups.proofs.Order.{entry_is}
 use Rattle.bsi_shift.specs.Blocks.{block_entry}
 use Rattle.bsi_shift.proofs.Relating.{and_bit, word_bit}
 
@@ -140,3 +145,109 @@ module _ (found : List Bool) (entries : List (Option ℤ)) (same : length entrie
           ∙ next_number found entries (64 * at + n) same
           ∙ ap₂ ◌++◌ (upto n (omega arith)) (ap (λ b. row_number b (get_or entries (64 * at + n) None)) (clear n (omega arith)))
           ∙ append-nil (numbers_upto (64 * at))
+
+-- a number is one of some from which others than it were taken
+kept_member : (n x : ℤ) (numbers : List ℤ) → int_eq x n ≡ false → is_member int_eq (filter (λ y. not (int_eq y n)) numbers) x ≡ is_member int_eq numbers x
+kept_member n x [] other = refl
+kept_member n x (y ∷ numbers) other = by (int_eq y n) refl (kept_member n x numbers other)
+  where
+    by : (b : Bool) → int_eq y n ≡ b → is_member int_eq (filter (λ y. not (int_eq y n)) numbers) x ≡ is_member int_eq numbers x
+        → is_member int_eq (cond (not b) (y ∷ filter (λ y. not (int_eq y n)) numbers) (filter (λ y. not (int_eq y n)) numbers)) x ≡ (int_eq x y || is_member int_eq numbers x)
+    by true same rest = rest ∙ ap (λ b. b || is_member int_eq numbers x) (sym (ap (int_eq x) ((Decides-int_eq y n).0 same) ∙ other))
+    by false same rest = ap (λ b. int_eq x y || b) rest
+
+-- one number is taken out
+taken_count : (n : ℤ) (numbers : List ℤ) → distinct_count int_eq numbers ≡ cond (is_member int_eq numbers n) 1 0 + distinct_count int_eq (filter (λ y. not (int_eq y n)) numbers)
+taken_count n [] = refl
+taken_count n (x ∷ numbers) = by (int_eq x n) refl (taken_count n numbers)
+  where
+    others : List ℤ
+    others = filter (λ y. not (int_eq y n)) numbers
+
+    same_way : (b : Bool) → int_eq x n ≡ b → int_eq n x ≡ b
+    same_way b is = int_eq_equiv.symm n x ∙ is
+
+    count : Bool → ℕ
+    count b = length (cond b (unique_keys int_eq numbers) (x ∷ unique_keys int_eq numbers))
+
+    by : (b : Bool) → int_eq x n ≡ b → distinct_count int_eq numbers ≡ cond (is_member int_eq numbers n) 1 0 + distinct_count int_eq others
+        → distinct_count int_eq (x ∷ numbers) ≡ cond (is_member int_eq (x ∷ numbers) n) 1 0 + distinct_count int_eq (cond (not b) (x ∷ others) others)
+    by true is rest = go (is_member int_eq numbers n) refl
+      where
+        here : is_member int_eq numbers x ≡ is_member int_eq numbers n
+        here = ap (is_member int_eq numbers) ((Decides-int_eq x n).0 is)
+
+        right : cond (int_eq n x || is_member int_eq numbers n) 1 0 + distinct_count int_eq others ≡ 1 + distinct_count int_eq others
+        right = ap (λ b. cond (b || is_member int_eq numbers n) 1 0 + distinct_count int_eq others) (same_way true is)
+
+        go : (m : Bool) → is_member int_eq numbers n ≡ m → count (is_member int_eq numbers x) ≡ cond (int_eq n x || is_member int_eq numbers n) 1 0 + distinct_count int_eq others
+        go true m =
+            let left : count (is_member int_eq numbers x) ≡ distinct_count int_eq numbers = ap count (here ∙ m) in
+            let all : distinct_count int_eq numbers ≡ 1 + distinct_count int_eq others = rest ∙ ap (λ b. cond b 1 0 + distinct_count int_eq others) m in
+            left ∙ all ∙ sym right
+        go false m =
+            let left : count (is_member int_eq numbers x) ≡ suc (distinct_count int_eq numbers) = ap count (here ∙ m) in
+            let all : distinct_count int_eq numbers ≡ 0 + distinct_count int_eq others = rest ∙ ap (λ b. cond b 1 0 + distinct_count int_eq others) m in
+            left ∙ omega (arith, all) ∙ sym right
+    by false is rest = go (is_member int_eq numbers x) refl
+      where
+        right : cond (int_eq n x || is_member int_eq numbers n) 1 0 + length (cond (is_member int_eq others x) (unique_keys int_eq others) (x ∷ unique_keys int_eq others))
+            ≡ cond (is_member int_eq numbers n) 1 0 + length (cond (is_member int_eq numbers x) (unique_keys int_eq others) (x ∷ unique_keys int_eq others))
+        right =
+            ap (λ b. cond (b || is_member int_eq numbers n) 1 0 + length (cond (is_member int_eq others x) (unique_keys int_eq others) (x ∷ unique_keys int_eq others))) (same_way false is)
+            ∙ ap (λ b. cond (is_member int_eq numbers n) 1 0 + length (cond b (unique_keys int_eq others) (x ∷ unique_keys int_eq others))) (kept_member n x numbers is)
+
+        go : (j : Bool) → is_member int_eq numbers x ≡ j → count (is_member int_eq numbers x) ≡ cond (int_eq n x || is_member int_eq numbers n) 1 0 + length (cond (is_member int_eq others x) (unique_keys int_eq others) (x ∷ unique_keys int_eq others))
+        go true j = ap count j ∙ rest ∙ sym (right ∙ ap (λ b. cond (is_member int_eq numbers n) 1 0 + length (cond b (unique_keys int_eq others) (x ∷ unique_keys int_eq others))) j)
+        go false j =
+            let next : suc (distinct_count int_eq numbers) ≡ cond (is_member int_eq numbers n) 1 0 + suc (distinct_count int_eq others) = omega (arith, rest) in
+            ap count j ∙ next ∙ sym (right ∙ ap (λ b. cond (is_member int_eq numbers n) 1 0 + length (cond b (unique_keys int_eq others) (x ∷ unique_keys int_eq others))) j)
+
+-- the two tests of a number are one
+same_entry : (n x : ℤ) → is_entry (Some n) (Some x) ≡ int_eq x n
+same_entry n x =
+    one_answer {P = x ≡ n} (is_entry (Some n) (Some x)) (int_eq x n)
+    (λ is. some_same (entry_is (Some n) (Some x) is), λ same. ap (λ y. is_entry (Some n) (Some y)) same ∙ own n) (Decides-int_eq x n)
+  where
+    some_same : {x n : ℤ} → Some x ≡ Some n → x ≡ n
+    some_same e = cc
+
+    own : (n : ℤ) → is_entry (Some n) (Some n) ≡ true
+    own n = grind (arith, ints)
+
+-- the numbers that are left once the rows of one are taken out of a found set
+values_left : (n : ℤ) (entries : List (Option ℤ)) (rest : List Bool)
+    → values_at (zip2 without rest (zip2 ◌&&◌ (map (is_entry (Some n)) entries) rest)) entries ≡ filter (λ y. not (int_eq y n)) (values_at rest entries)
+values_left n [] [] = refl
+values_left n [] (r ∷ rest) = refl
+values_left n (e ∷ entries) [] = refl
+values_left n (e ∷ entries) (false ∷ rest) = by (is_entry (Some n) e) (values_left n entries rest)
+  where
+    left : List Bool
+    left = zip2 without rest (zip2 ◌&&◌ (map (is_entry (Some n)) entries) rest)
+
+    by : (b : Bool) → values_at left entries ≡ filter (λ y. not (int_eq y n)) (values_at rest entries)
+        → values_at (without false (b && false) ∷ left) (e ∷ entries) ≡ filter (λ y. not (int_eq y n)) (values_at rest entries)
+    by true rest_is = rest_is
+    by false rest_is = rest_is
+values_left n (None ∷ entries) (true ∷ rest) = values_left n entries rest
+values_left n (Some x ∷ entries) (true ∷ rest) = by (int_eq x n) refl (values_left n entries rest)
+  where
+    left : List Bool
+    left = zip2 without rest (zip2 ◌&&◌ (map (is_entry (Some n)) entries) rest)
+
+    by : (b : Bool) → int_eq x n ≡ b → values_at left entries ≡ filter (λ y. not (int_eq y n)) (values_at rest entries)
+        → values_at (without true (is_entry (Some n) (Some x) && true) ∷ left) (Some x ∷ entries) ≡ cond (not (int_eq x n)) (x ∷ filter (λ y. not (int_eq y n)) (values_at rest entries)) (filter (λ y. not (int_eq y n)) (values_at rest entries))
+    by true is rest_is =
+        ap (λ b. values_at (without true (b && true) ∷ left) (Some x ∷ entries)) (same_entry n x ∙ is) ∙ rest_is
+        ∙ sym (ap (λ b. cond (not b) (x ∷ filter (λ y. not (int_eq y n)) (values_at rest entries)) (filter (λ y. not (int_eq y n)) (values_at rest entries))) is)
+    by false is rest_is =
+        ap (λ b. values_at (without true (b && true) ∷ left) (Some x ∷ entries)) (same_entry n x ∙ is) ∙ ap (λ ns. x ∷ ns) rest_is
+        ∙ sym (ap (λ b. cond (not b) (x ∷ filter (λ y. not (int_eq y n)) (values_at rest entries)) (filter (λ y. not (int_eq y n)) (values_at rest entries))) is)
+
+pub one_less : (n : ℤ) (entries : List (Option ℤ)) (rest : List Bool) → Contains (values_at rest entries) n
+    → 1 + distinct_count int_eq (values_at (zip2 without rest (zip2 ◌&&◌ (map (is_entry (Some n)) entries) rest)) entries) ≡ distinct_count int_eq (values_at rest entries)
+one_less n entries rest has =
+    let member = (is_member-Decides Decides-int_eq (values_at rest entries) n).1 has in
+    ap (λ ns. 1 + distinct_count int_eq ns) (values_left n entries rest)
+    ∙ sym (taken_count n (values_at rest entries) ∙ ap (λ b. cond b 1 0 + distinct_count int_eq (filter (λ y. not (int_eq y n)) (values_at rest entries))) member)

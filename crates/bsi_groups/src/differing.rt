@@ -1,6 +1,6 @@
 //! How many different numbers a column has.
 
-ghost use Rattle.std.specs.Prelude.{◌≡◌, ◌++◌, length, IfOk, OnOk};
+ghost use Rattle.std.specs.Prelude.{◌≡◌, ◌++◌, ◌<◌, ◌^◌, length, IfOk, OnOk};
 ghost use Rattle.std.specs.Ordering.{int_eq};
 ghost use Rattle.std.specs.Set.{distinct_count};
 ghost use Rattle.bsi_bits.specs.BitList.{max_block};
@@ -9,20 +9,50 @@ ghost use Rattle.bsi_shift.specs.Shifted.{shifted_entries};
 ghost use Rattle.bsi_groups.specs.Replies.{block_numbers, selected_numbers, IsReplyOn};
 
 use crate::selecting::select_for;
+use crate::taking::take_rows;
 use bsi_bits::{Bits, MAX_BLOCK};
 use bsi_shift::Shifted;
 use bsi_table::{AskError, Index, NoMemory, Pred};
 use std::alloc::Global;
 
-/// Returns how many different numbers column `c` has at the rows that a predicate selects. A null is no number. It copies
-/// the numbers, eight bytes each, and sorts them. The first column that is not there is told: `c`, else one of the
-/// predicate's.
+/// How many numbers are taken out of a found set one by one. Each takes about as long as a comparison.
+const MAX_TAKEN: u64 = 32;
+
+/// Returns how many different numbers column `c` has at the rows that a predicate selects. A null is no number. Where there
+/// are more than 32, it copies the others, eight bytes each, and sorts them. The first column that is not there is told:
+/// `c`, else one of the predicate's.
 pub fn distinct(alloc: Global, index: &Index, c: u32, pred: &Pred) -> Result<u64, AskError>
     ensures { IsReplyOn index.now.schema c pred.now (λ count. count
         ≡ distinct_count int_eq (selected_numbers c pred.now index.now.rows)) result }
 {
     let found = select_for(index, c, pred)?;
-    let mut numbers = numbers_at(alloc, index.column(c), &found)?;
+    Ok(count_different(alloc, index.column(c), found)?)
+}
+
+/// Returns how many different numbers a column has at the rows of a found set.
+fn count_different(alloc: Global, column: &Shifted, found: Bits) -> Result<u64, NoMemory>
+    requires { length (shifted_entries column.now) ≡ length found.bits }
+    ensures { IfOk result (λ count. count
+        ≡ distinct_count int_eq (values_at found.bits (shifted_entries column.now))) }
+{
+    let mut rest = found;
+    'numbers: for taken in 0..MAX_TAKEN {
+        let Some(number) = column.least(&rest)? else {
+            return Ok(taken);
+        };
+        take_rows(column, Some(number), &mut rest)?;
+    }
+    Ok(MAX_TAKEN + count_sorted(alloc, column, &rest)?)
+}
+
+/// Returns the same by a list of the numbers.
+fn count_sorted(alloc: Global, column: &Shifted, found: &Bits) -> Result<u64, NoMemory>
+    requires { length (shifted_entries column.now) ≡ length found.now.bits }
+    ensures count { IfOk result (λ count. count
+        ≡ distinct_count int_eq (values_at found.now.bits (shifted_entries column.now))) }
+    ensures few { IfOk result (λ count. count < 2 ^ 63) }
+{
+    let mut numbers = numbers_at(alloc, column, found)?;
     numbers.sort_unstable();
     numbers.dedup();
     Ok(numbers.len() as u64)
