@@ -17,6 +17,7 @@ import os
 import stat
 import sys
 from datetime import datetime
+from decimal import Decimal
 from typing import Any, Dict, Iterator, List, Optional
 
 import numpy as np
@@ -34,7 +35,7 @@ from .reading import read_csv
 from .version import __version__
 
 MAX_SHOWN = 20
-FOR_CSV = ("null", "nulls", "delimiter", "decimal", "dates", "encoding", "skiprows", "skip_bad")
+FOR_CSV = ("null", "nulls", "delimiter", "decimal", "thousands", "dates", "encoding", "skiprows", "skip_bad")
 KINDS = {"text": lambda _: Texts, "whole": lambda _: Whole(), "flags": lambda _: Flags()}
 KINDS["decimals"] = lambda places: Decimals(int(places) if places.isdecimal() else places or 2)
 KINDS["times"] = lambda unit: Times(unit or "s")
@@ -63,7 +64,8 @@ def _arguments(words: Optional[List[str]]) -> Any:
     )
     parser.add_argument("--nulls", metavar="FIELD,..", default="", help="several such fields")
     parser.add_argument("--delimiter", metavar="SIGN", help="what stands between fields: a comma where it is not given")
-    parser.add_argument("--decimal", metavar="SIGN", default=".", help="the decimal sign: a point or a comma")
+    parser.add_argument("--decimal", metavar="SIGN", help="the decimal sign: a comma, or a point where it is not given")
+    parser.add_argument("--thousands", metavar="SIGN", help="what stands between groups of three digits")
     parser.add_argument("--dates", metavar="FORM", help="how dates are written, as %%d.%%m.%%Y")
     parser.add_argument("--round", metavar="PLACES", type=int, help="rounds decimals of more places")
     parser.add_argument("--encoding", metavar="NAME", help="as cp1252; UTF-8 where it is not given")
@@ -96,8 +98,8 @@ def _wishes(given: Any) -> Dict[str, Any]:
 
 def _csv(files: List[str], columns: Optional[List[str]], given: Any, progress: bool) -> Any:
     """Makes the index of CSV files, and tells which rows were left out."""
-    named = ("delimiter", "decimal", "dates", "encoding", "skiprows", "parts")
-    how = {**_wishes(given), **{name: getattr(given, name) for name in named}}
+    named = ("delimiter", "thousands", "dates", "encoding", "skiprows", "parts")
+    how = {**_wishes(given), **{name: getattr(given, name) for name in named}, "decimal": given.decimal or "."}
     nulls = ["", *given.null, *filter(None, given.nulls.split(","))]
     bad = "skip" if given.skip_bad else "refuse"
     table = read_csv(files, columns, nulls=nulls, bad=bad, progress=progress, **how)
@@ -109,7 +111,7 @@ def _csv(files: List[str], columns: Optional[List[str]], given: Any, progress: b
 def _open(files: List[str], given: Any) -> Any:
     """Opens the index that one file keeps, or several as parts."""
     named = (*FOR_CSV, "columns", "drop", "kinds", "text", "round")
-    alone = [name for name in named if getattr(given, name) not in (None, "", 0, ".", [])]
+    alone = [name for name in named if getattr(given, name) not in (None, "", 0, [])]
     if alone or given.parts != 1:
         option = (alone or ["parts"])[0].replace("_", "-")
         raise ValueError(f"--{option} is for files that are read, and not for kept indexes")
@@ -126,7 +128,7 @@ def _read(files: List[str], given: Any) -> Any:
         return _csv(files, columns, given, progress)
     import pandas
 
-    alone = [name for name in FOR_CSV if getattr(given, name) not in (None, "", 0, ".", [])]
+    alone = [name for name in FOR_CSV if getattr(given, name) not in (None, "", 0, [])]
     if alone:
         raise ValueError(f"--{alone[0].replace('_', '-')} is for CSV files alone")
     # (nullable types, since a whole number beside a null would be a float otherwise)
@@ -144,7 +146,7 @@ def _shown(answer: Any) -> str:
     if isinstance(answer, datetime):
         return str(answer).removesuffix(" 00:00:00")
     if not isinstance(answer, np.ndarray):
-        return str(answer)
+        return f"{answer:f}" if isinstance(answer, Decimal) else str(answer)
     more = [f".. {len(answer) - MAX_SHOWN:,} more"] if len(answer) > MAX_SHOWN else []
     return " ".join([*map(str, answer[:MAX_SHOWN].tolist()), *more]) or "none"
 

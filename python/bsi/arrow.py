@@ -38,12 +38,22 @@ TIMES = {
     "tsu:": ("i8", "us"),
     "tsn:": ("i8", "ns"),
 }
-# Values, which of them are valid, the time zone of times, and the order of the texts of an ordered dictionary.
-Read = Tuple[np.ndarray, np.ndarray, Any, Optional[Tuple[str, ...]]]
 # The schema of a stream, and its arrays.
 Chunks = Tuple["_Taken", List["_Taken"]]
 ORDERED, INLINE = 1, 12
 OFFSET = re.compile(r"([+-])([01]\d|2[0-3]):([0-5]\d)", re.ASCII)
+
+
+class Read(NamedTuple):
+    """Values, which of them are valid, the time zone of times, and the order of the texts of an ordered dictionary;
+    whether they are texts, and the scale of decimals."""
+
+    values: np.ndarray
+    valid: np.ndarray
+    zone: Any = None
+    order: Optional[Tuple[str, ...]] = None
+    are_texts: bool = False
+    scale: Optional[int] = None
 
 
 class _Schema(Structure):
@@ -156,8 +166,8 @@ class Field(NamedTuple):
 
     def _read(self, field: _Schema, batch: _Array) -> Read:
         column = batch.children[self.place].contents
-        values, valid, zone, order = _read(field, column, batch.offset, batch.length)
-        return values, valid & _validity(batch), zone, order
+        found = _read(field, column, batch.offset, batch.length)
+        return found._replace(valid=found.valid & _validity(batch))
 
 
 def struct_of(data: Any) -> List[Tuple[str, Field]]:
@@ -213,25 +223,25 @@ def _read(schema: _Schema, array: _Array, skipped: int = 0, length: Optional[int
         raise BadColumns("the Arrow array has a length below 0")
     layout, start = _text(schema.format), array.offset + skipped
     if layout == "n":
-        return np.zeros(length, np.int64), np.zeros(length, bool), None, None
+        return Read(np.zeros(length, np.int64), np.zeros(length, bool))
     valid = _validity(array, skipped, length)
     if schema.dictionary:
         return _from_dictionary(schema, array, layout, start, valid)
     if layout in NUMBERS:
-        return _fixed(array, NUMBERS[layout], start, length), valid, None, None
+        return Read(_fixed(array, NUMBERS[layout], start, length), valid)
     if layout == "b":
-        return _bits(array, 1, start, length), valid, None, None
+        return Read(_bits(array, 1, start, length), valid)
     for prefix, (stored, unit) in TIMES.items():
         if layout == prefix or prefix.endswith(":") and layout.startswith(prefix):
             times = _fixed(array, stored, start, length).astype(np.int64).view(f"M8[{unit}]")
-            return times, valid, _zone(layout[len(prefix) :]), None
-    if layout in ("u", "U"):
-        return _texts(array, "i4" if layout == "u" else "i8", start, valid), valid, None, None
-    if layout == "vu":
-        return _viewed(array, start, valid), valid, None, None
+            return Read(times, valid, zone_named(layout[len(prefix) :]))
+    if layout in ("u", "U", "vu"):
+        sizes = {"u": "i4", "U": "i8"}
+        texts = _texts(array, sizes[layout], start, valid) if layout in sizes else _viewed(array, start, valid)
+        return Read(texts, valid, are_texts=True)
     if decimal := re.fullmatch(r"d:\d+,(-?\d+)(?:,(32|64|128))?", layout):
-        size = int(decimal.group(2) or 128) // 8
-        return _decimals(array, int(decimal.group(1)), size, start, valid), valid, None, None
+        size, scale = int(decimal.group(2) or 128) // 8, int(decimal.group(1))
+        return Read(_decimals(array, scale, size, start, valid), valid, scale=scale)
     raise BadColumns(f"an Arrow array of format {layout!r} is none of numbers, times, booleans or texts")
 
 
@@ -254,15 +264,16 @@ def _from_dictionary(schema: _Schema, array: _Array, layout: str, start: int, va
     if layout not in NUMBERS:
         raise BadColumns(f"the Arrow array has a dictionary, and format {layout!r}")
     places = np.where(valid, _fixed(array, NUMBERS[layout], start, len(valid)), 0).astype(np.int64)
-    values, is_valid, zone, _ = _read(schema.dictionary.contents, array.dictionary.contents)
+    found = _read(schema.dictionary.contents, array.dictionary.contents)
+    values, is_valid = found.values, found.valid
     if not len(values):
-        return np.zeros(len(valid), np.int64), np.zeros(len(valid), bool), zone, None
+        return found._replace(values=np.zeros(len(valid), values.dtype), valid=np.zeros(len(valid), bool))
     if ((places < 0) | (places >= len(values))).any():
         raise BadColumns("the Arrow array names places that its dictionary has not")
     is_ordered = schema.flags & ORDERED and values.dtype == object and is_valid.all()
     # (a text that stands twice has the first of its places)
     order = tuple(dict.fromkeys(values.tolist())) if is_ordered else None
-    return values[places], valid & is_valid[places], zone, order
+    return found._replace(values=values[places], valid=valid & is_valid[places], order=order)
 
 
 def _texts(array: _Array, stored: str, start: int, valid: np.ndarray) -> np.ndarray:
@@ -306,7 +317,8 @@ def _decimals(array: _Array, scale: int, size: int, start: int, valid: np.ndarra
     return decimals
 
 
-def _zone(name: str) -> Any:
+def zone_named(name: str) -> Any:
+    """Returns the time zone of a name, and None for an empty one."""
     if name in ("", "UTC"):
         return timezone.utc if name else None
     if offset := OFFSET.fullmatch(name):

@@ -12,9 +12,9 @@ import numpy as np
 
 from .errors import BadColumns, BadRow, BadSchema, Error, several
 from .forms import LEAST, MOST, Form, narrowest
-from .kinds import Kind, Misfit, Texts, Whole, first_misfit
+from .kinds import Kind, Misfit, Texts, Whole, first_misfit, shown
 from .narrowing import MAX_TEXTS, encode, joined, narrow, recode, too_many_texts
-from .values import Values, columns_of, values_of
+from .values import NO_TEXTS, Values, columns_of, values_of
 
 # The numbers of each column, and which of them are valid.
 Entered = List[Tuple[np.ndarray, np.ndarray]]
@@ -110,6 +110,16 @@ def refuse_no_kind(name: str, kind: Any) -> None:
         raise BadSchema(f"the kind of column {name!r} is one, as Decimals('0.01') is, and not {kind!r}")
 
 
+def _texts_of(name: str, dtype: Any) -> Texts:
+    """Returns the texts of a category's dtype of pandas, or raises BadSchema where it has none."""
+    texts = () if dtype.categories is None else tuple(dtype.categories)
+    if not texts or not all(isinstance(text, str) for text in texts):
+        has = f"the categories {shown(list(texts))}" if texts else "no categories"
+        reason = f"its dtype has {has}, and a list of texts is wanted"
+        raise BadSchema(f"column {name!r}: {reason}; kinds= with Texts takes those that are there")
+    return Texts(texts, ordered=bool(dtype.ordered))
+
+
 def by_column(what: str, wanted: str, given: Any, names: List[str], kind: type) -> Dict[str, Any]:
     """Returns what is given for all columns, or by column. Refuses what is of another type than is wanted, or is given
     for no column."""
@@ -149,8 +159,8 @@ class Wishes:
                 listed = ", ".join(map(repr, names))
                 raise BadColumns(f"a kind or form is given for {name!r}, and the columns are {listed}")
         for name, kind in self.kinds.items():
-            if hasattr(kind, "categories"):  # (the dtype of a category of pandas)
-                self.kinds[name] = Texts(tuple(kind.categories), ordered=bool(kind.ordered))
+            if hasattr(kind, "categories"):
+                self.kinds[name] = _texts_of(name, kind)
         for name, form in self.forms.items():
             if not isinstance(form, Form):
                 shape = "slices(..), range(..) or equality(..)"
@@ -177,7 +187,7 @@ class Wishes:
         """Returns the form that is given for the column, or the smallest for its numbers."""
         given = self.kinds.get(name)
         # (a column of texts has one at least)
-        kind = kind or (given if isinstance(given, Kind) else Texts(("",)) if given is Texts else Whole())
+        kind = kind or (given if isinstance(given, Kind) else NO_TEXTS if given is Texts else Whole())
         if name in self.forms:
             return self.forms[name].of(kind)
         if high - low >= SPAN:
@@ -195,7 +205,8 @@ def too_far(kind: Kind, low: int, high: int) -> str:
 def kind_of(name: str, blocks: Iterable[Block], most: Optional[int] = MAX_TEXTS) -> Optional[Kind]:
     """Returns the kind that keeps what all blocks keep, with at most so many texts."""
     kind: Optional[Kind] = None
-    for block in blocks:
+    blocks = list(blocks)
+    for block in (block for block in blocks if not _has_no_text(block)):
         before = kind
         try:
             kind = joined(before, block.kind)
@@ -204,7 +215,12 @@ def kind_of(name: str, blocks: Iterable[Block], most: Optional[int] = MAX_TEXTS)
             raise BadRow(name, block.row + row, block.value(row), str(why)) from None
         if isinstance(kind, Texts) and kind not in (before, block.kind) and most and len(kind.values) > most:
             raise _too_many_texts(name, dict.fromkeys(getattr(before, "values", ())), block)
-    return kind
+    return kind or next((block.kind for block in blocks if block.kind is not None), None)
+
+
+def _has_no_text(block: Block) -> bool:
+    """Returns whether a block says that its column has texts, and has none."""
+    return block.kind == NO_TEXTS and not block.valid.any()
 
 
 def _too_many_texts(name: str, found: Dict[str, None], block: Block) -> Error:
@@ -236,6 +252,8 @@ def recoded(name: str, block: Block, kind: Optional[Kind]) -> Block:
     """Returns a block under a kind that keeps what it keeps."""
     if block.kind is None or block.kind == kind:
         return block
+    if _has_no_text(block):
+        return block._replace(kind=kind)
     try:
         numbers = recode(block.numbers.astype(np.int64, copy=False), block.valid, block.kind, kind)
         return block._replace(kind=kind, numbers=slim(numbers))

@@ -19,8 +19,8 @@ import dask
 import numpy as np
 from distributed import Client, get_client, wait
 
-from .choosing import Block, Wishes, ends_of, joined_blocks, kind_of, refuse_misfit, wanted_of
-from .errors import BadRow, BadSchema, Error, IndexFull, LostWorker
+from .choosing import Block, Wishes, ends_of, joined_blocks, kind_of, of_each, refuse_misfit, wanted_of
+from .errors import BadRow, BadSchema, Error, IndexFull, LostWorker, several
 from .forms import LEAST, Form
 from .gathered import Gathered
 from .index import Index
@@ -28,42 +28,47 @@ from .kept import Path, opened_file
 from .kinds import Kind, Misfit, Whole
 from .narrowing import encode
 from .table import MAX_ROWS, Table
-from .values import columns_of, values_of
+from .values import Values, columns_of, values_of
 
 BOUNDS, SECONDS = 63, 0.5
 ALL_NUMBERS = Form("slices", (64,), LEAST)
-# Of each column of a partition its first number and the two ends, as a block of three; and how many rows the partition
-# has.
-Survey = Tuple[Dict[str, Block], int]
+# Of each column of a partition its first number and the two ends, as a block of three, or what it refuses; and how many
+# rows the partition has.
+Survey = Tuple[Union[Dict[str, Block], Error], int]
 
 
-def _survey(frame: Any, wanted: List[str], kinds: Any, forms: Any) -> Union[Survey, Error]:
+def _survey(frame: Any, wanted: List[str], kinds: Any, forms: Any) -> Survey:
     """Looks at a partition, on its worker. A refusal is returned, so that the first one of all partitions can be
     told."""
     try:
-        wishes, ends, given = Wishes(wanted, kinds, forms), {}, columns_of(frame)
-        for name in wanted:
-            block = wishes.block(name, values_of(name, given[name]))
-            first = int(np.argmax(block.valid)) if len(frame) else 0
-            three = np.array([*block.numbers[first : first + 1], *ends_of(block.numbers, block.valid)])
-            ends[name] = Block(block.kind, three, np.full(len(three), block.valid.any()), first)
-        return ends, len(frame)
+        wishes, given = Wishes(wanted, kinds, forms), columns_of(frame)
+        return of_each(wanted, lambda name: _ends(wishes.block(name, values_of(name, given[name])))), len(frame)
+    except Error as why:
+        return why, len(frame)
+
+
+def _ends(block: Block) -> Block:
+    """Returns the first number of a block and the two ends."""
+    first = int(np.argmax(block.valid)) if len(block.valid) else 0
+    three = np.array([*block.numbers[first : first + 1], *ends_of(block.numbers, block.valid)])
+    return Block(block.kind, three, np.full(len(three), block.valid.any()), first)
+
+
+def _misfit(frame: Any, forms: Mapping[str, Form]) -> Optional[Error]:
+    """Returns of each column the first value of a partition that it does not take, on the partition's worker."""
+    given = columns_of(frame)
+    try:
+        of_each(forms, lambda name: _refuse_misfit(name, forms[name], values_of(name, given[name])))
+        return None
     except Error as why:
         return why
 
 
-def _misfit(frame: Any, forms: Mapping[str, Form]) -> Optional[Error]:
-    """Returns the first value of a partition that its column does not take, on the partition's worker."""
-    given = columns_of(frame)
-    for name, form in forms.items():
-        try:
-            values = values_of(name, given[name])
-            refuse_misfit(name, form, encode(form.kind, values), values.valid)
-        except Misfit as why:
-            return BadRow(name, why.row, why.value, why.reason)
-        except Error as why:
-            return why
-    return None
+def _refuse_misfit(name: str, form: Form, values: Values) -> None:
+    try:
+        refuse_misfit(name, form, encode(form.kind, values), values.valid)
+    except Misfit as why:
+        raise BadRow(name, why.row, why.value, why.reason) from None
 
 
 class Part:
@@ -175,16 +180,16 @@ def from_frame(
     partitions = client.compute(frame.to_delayed())
     asked = {"wanted": wanted, "kinds": wishes.kinds, "forms": wishes.forms}
     surveys = client.gather(client.map(_survey, partitions, pure=False, **asked))
-    rows = [0 if isinstance(survey, Error) else survey[1] for survey in surveys]
-    _refuse(surveys, rows)
-    ends = {name: _placed([ends[name] for ends, _ in surveys], rows) for name in wanted}
+    found, rows = zip(*surveys)
+    _refuse(found, rows)
+    ends = {name: _placed([one[name] for one in found], rows) for name in wanted}
     if doubtful := _doubtful(ends, wishes):
         _refuse(client.gather(client.map(_misfit, partitions, forms=doubtful, pure=False)), rows)
-    found = {name: _form(name, blocks, wishes) for name, blocks in ends.items()}
+    chosen = of_each(ends, lambda name: _form(name, ends[name], wishes))
     if limit is not None and sum(rows) > limit:
         raise IndexFull(f"row {limit:,} is past the limit of {limit:,} rows; no index was made", limit)
     places = _places(client, partitions)
-    return Workers(found, MAX_ROWS if limit is None else limit, _store(client, found, partitions, places, rows))
+    return Workers(chosen, MAX_ROWS if limit is None else limit, _store(client, chosen, partitions, places, rows))
 
 
 def open_parts(paths: Iterable[Path], client: Optional[Client] = None) -> Workers:
@@ -208,17 +213,23 @@ def open_parts(paths: Iterable[Path], client: Optional[Client] = None) -> Worker
     return Workers(forms[0], MAX_ROWS, store)
 
 
-def _refuse(answers: List[Any], rows: List[int]) -> None:
-    """Raises the first refusal of the partitions, with the number that its row has among all."""
+def _refuse(answers: Sequence[Any], rows: Sequence[int]) -> None:
+    """Raises the refusals of the partitions, of each column the first one, with the number that its row has among
+    all."""
+    found: Dict[str, Error] = {}
     for place, answer in enumerate(answers):
-        if isinstance(answer, BadRow):
-            row, where = sum(rows[:place]) + answer.row, f" (partition {place})"
-            raise BadRow(answer.column, row, answer.value, answer.reason, where)
-        if isinstance(answer, Error):
-            raise answer
+        for why in (answer, *answer.others) if isinstance(answer, Error) else ():
+            if isinstance(why, BadRow):
+                row, where = sum(rows[:place]) + why.row, f" (partition {place})"
+                found.setdefault(why.column, BadRow(why.column, row, why.value, why.reason, where))
+            else:
+                why.others = ()
+                found.setdefault(str(why), why)
+    if found:
+        raise several(list(found.values()))
 
 
-def _store(client: Client, forms: Any, partitions: List[Any], places: List[str], rows: List[int]) -> _Actors:
+def _store(client: Client, forms: Any, partitions: List[Any], places: List[str], rows: Sequence[int]) -> _Actors:
     """Makes an actor on each worker, over the partitions that have their place there."""
     workers = sorted(set(places))
     shares = [[one for one, place in zip(partitions, places) if place == worker] for worker in workers]
@@ -242,7 +253,7 @@ def _wait(client: Client, futures: List[Any], workers: List[str]) -> None:
                 raise LostWorker(f"the worker {', '.join(sorted(gone))} is gone; make the index again") from None
 
 
-def _placed(ends: List[Block], rows: List[int]) -> List[Block]:
+def _placed(ends: List[Block], rows: Sequence[int]) -> List[Block]:
     """Returns the blocks that have a number, each with its row among those of all partitions."""
     starts = [sum(rows[:place]) for place in range(len(rows))]
     there = [block._replace(row=start + block.row) for start, block in zip(starts, ends) if block.valid.any()]
@@ -252,7 +263,7 @@ def _placed(ends: List[Block], rows: List[int]) -> List[Block]:
 def _doubtful(ends: Mapping[str, List[Block]], wishes: Wishes) -> Dict[str, Form]:
     """Returns the columns that may not take each value of a partition: those whose form is given, and those that keep
     it as another kind than the partition chose. Of these the form is one that takes all numbers."""
-    kinds = {name: kind_of(name, blocks) or Whole() for name, blocks in ends.items()}
+    kinds = of_each(ends, lambda name: kind_of(name, ends[name]) or Whole())
     return {
         name: wishes.forms.get(name, ALL_NUMBERS).of(kind)
         for name, kind in kinds.items()

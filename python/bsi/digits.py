@@ -86,6 +86,26 @@ def numbers_of(fields: Fields, point: int) -> Numbers:
     return Numbers(numbers, places, read, bool((behind >= 0).any()), led)
 
 
+def ungrouped(fields: Fields, sign: int) -> Tuple[Fields, np.ndarray]:
+    """Returns fields without a sign between groups of three digits, and which of them have it nowhere else."""
+    data, starts, ends = fields[:3]
+    places = np.flatnonzero(data == sign)
+    before, upto = np.searchsorted(places, starts), np.searchsorted(places, ends)
+    fits, some = np.ones(len(starts), bool), np.flatnonzero(upto > before)
+    if not len(some):
+        return fields, fits
+    are_digits = (data ^ ZERO) < 10
+    runs = np.concatenate([[0], np.cumsum(are_digits)])
+    is_group = np.concatenate([[0], np.cumsum(runs[places + 4] - runs[places + 1] == 3)])
+    start, first, last = starts[some], places[before[some]], places[upto[some] - 1]
+    start, count = start + (data[start] == MINUS), upto[some] - before[some]
+    lead = first - start
+    is_led = (lead > 0) & (lead < 4) & (runs[first] - runs[start] == lead) & (data[start] != ZERO)
+    are_even = (last - first == 4 * (count - 1)) & (is_group[upto[some]] - is_group[before[some]] == count)
+    fits[some] = is_led & are_even & (last + 4 <= ends[some]) & ((last + 4 == ends[some]) | ~are_digits[last + 4])
+    return Fields(np.delete(data, places), starts - before, ends - upto, fields.are_loose), fits
+
+
 def _pointed(
     data: np.ndarray, starts: np.ndarray, ends: np.ndarray, behind: np.ndarray, point: int
 ) -> Tuple[np.ndarray, np.ndarray]:

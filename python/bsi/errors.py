@@ -4,6 +4,9 @@ from __future__ import annotations
 
 from typing import Any, Dict, List, Optional, Tuple, Type
 
+# How many refusals are kept of rows that are left out.
+KEPT = 1000
+
 
 class Error(Exception):
     """A refused call. `status` is its number in bsi.h, where the library has one. Where several columns do not fit, it
@@ -178,6 +181,23 @@ def several(refusals: List[Error]) -> Error:
     first, *others = refusals
     first.others = tuple(others)
     return first
+
+
+class Skipped(List[Error]):
+    """The refusals of the first rows that were left out; `count` says how many rows they are."""
+
+    count = 0
+
+    def add(self, why: Error) -> None:
+        """Counts one more."""
+        self.count += 1
+        if len(self) < KEPT:
+            self.append(why)
+
+    def __repr__(self) -> str:
+        more = [f".. and {self.count - len(self):,} more"] if self.count > len(self) else []
+        head = "1 row was left out" if self.count == 1 else f"{self.count:,} rows were left out"
+        return "\n".join([head, *map(str, self), *more])
 
 
 _KINDS: Tuple[Type[Error], ...] = (

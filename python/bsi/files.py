@@ -38,17 +38,22 @@ def size_of(path: Path) -> int:
 @contextmanager
 def opened(path: Path, encoding: Optional[str]) -> Iterator["Source"]:
     """Opens a file, which is closed at the end where it was opened here."""
-    if encoding is not None:
-        try:
-            codecs.lookup(encoding)
-        except (LookupError, TypeError):
-            raise BadColumns(f"there is no encoding {encoding!r}; one is 'cp1252'") from None
+    _refuse_no_encoding(encoding)
     with ExitStack() as stack:
         if hasattr(path, "read"):
             yield Source(name_of(path), path, None, encoding)
             return
         raw = stack.enter_context(open(path, "rb", buffering=0))  # type: ignore[arg-type]
         yield Source(name_of(path), _unpacked(stack, raw, os.fspath(path)), raw, encoding)  # type: ignore[arg-type]
+
+
+def _refuse_no_encoding(encoding: Optional[str]) -> None:
+    try:
+        found = None if encoding is None else codecs.lookup(encoding)
+    except (LookupError, TypeError, ValueError):
+        raise BadColumns(f"there is no encoding {encoding!r}; one is 'cp1252'") from None
+    if not getattr(found, "_is_text_encoding", True):
+        raise BadColumns(f"{encoding!r} encodes no text; an encoding is 'cp1252'")
 
 
 def _unpacked(stack: ExitStack, raw: IO[bytes], name: str) -> IO[bytes]:

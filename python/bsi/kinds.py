@@ -14,11 +14,11 @@ import operator
 import re
 from bisect import bisect_left, bisect_right
 from dataclasses import dataclass, field, replace
-from datetime import date, datetime, timedelta, timezone
+from datetime import date, datetime, timedelta, timezone, tzinfo
 from decimal import Context, Decimal
 from fractions import Fraction
 from itertools import repeat
-from typing import Any, Callable, Dict, Iterable, List, Tuple
+from typing import Any, Callable, Dict, Iterable, List, Optional, Tuple, Type
 
 import numpy as np
 
@@ -45,11 +45,15 @@ class Misfit(ValueError):
         self.row, self.value, self.reason = row, value, reason
 
 
-def first_misfit(bad: np.ndarray, values: np.ndarray, reason: str) -> None:
+class TooFine(Misfit):
+    """The first float of more decimal places than a kind has."""
+
+
+def first_misfit(bad: np.ndarray, values: np.ndarray, reason: str, kind: Type[Misfit] = Misfit) -> None:
     """Raises the first value that is marked as bad, if one is."""
     if bad.any():
         row = int(bad.argmax())
-        raise Misfit(row, values[row], f"{shown(values[row])} {reason}")
+        raise kind(row, values[row], f"{shown(values[row])} {reason}")
 
 
 def shown(value: Any) -> str:
@@ -279,7 +283,9 @@ class Decimals(Kind):
             back = (scaled / 10.0**self.places).astype(values.dtype)
         first_misfit(valid & ~np.isfinite(values), values, "is no finite number")
         fits = (np.abs(scaled) <= most) & (back == np.where(valid, values, 0))
-        first_misfit(~fits, values, f"can't be kept exactly with {self.places} decimal places; round= rounds it")
+        way = f"a column of Decimals({self.places}, rounded=True) rounds it"
+        reason = f"can't be kept exactly with {self.places} decimal places; {way}"
+        first_misfit(~fits, values, reason, TooFine)
         return scaled.astype(np.int64)
 
     def __str__(self) -> str:
@@ -305,8 +311,8 @@ def _decimal(number: int, places: int) -> Decimal:
 @dataclass(frozen=True)
 class Times(Kind):
     """Points of time, as a count of days "D", seconds "s", "ms", "us" or "ns" since 1970-01-01, in UTC where there is a
-    zone. Answers are datetime, and numpy.datetime64 in UTC for nanoseconds and years past 9999. Constants are dates,
-    times, or texts such as 2026-01-31T12:00.
+    zone: a tzinfo, or a name as "Europe/Paris". Answers are datetime, and numpy.datetime64 in UTC for nanoseconds and
+    years past 9999. Constants are dates, times, or texts such as 2026-01-31T12:00.
     """
 
     unit: str = "D"
@@ -316,6 +322,7 @@ class Times(Kind):
     def __post_init__(self):
         if self.unit not in UNITS:
             raise ValueError(f"{shown(self.unit)} is no unit of time; those are {', '.join(UNITS)}")
+        object.__setattr__(self, "zone", _zone_of(self.zone))
 
     def cut(self, constant: Any) -> Cut:
         nanoseconds, is_aware = nanoseconds_of(constant)
@@ -356,6 +363,22 @@ class Times(Kind):
         )
 
 
+def _zone_of(zone: Any) -> Any:
+    """Returns a time zone that is given as such or by its name, or raises TypeError or ValueError."""
+    if zone is None or isinstance(zone, tzinfo):
+        return zone
+    if not isinstance(zone, str):
+        raise TypeError(f"a time zone is a tzinfo or a name, as 'Europe/Paris', and not {shown(zone)}")
+    if zone == "UTC":
+        return timezone.utc
+    from zoneinfo import ZoneInfo
+
+    try:
+        return ZoneInfo(zone)
+    except (LookupError, ValueError, OSError):
+        raise ValueError(f"the time zone {shown(zone)} is not known here; one is 'Europe/Paris'") from None
+
+
 EPOCH, MICROSECOND = datetime(1970, 1, 1), timedelta(microseconds=1)
 
 
@@ -371,9 +394,14 @@ def nanoseconds_of_text(text: str) -> Tuple[int, bool]:
         seconds = int(np.datetime64(f"{day}T{clock}", "s").astype(np.int64))
     except ValueError:
         raise ValueError(f"{shown(text)} is no date or time: the calendar or the clock has no such") from None
-    hours, minutes = (0, 0) if zone in (None, "Z", "UTC") else (int(zone[1:3]), int(zone[3:].strip(":") or 0))
-    ahead = (hours * 60 + minutes) * (-60 if zone and zone[0] == "-" else 60)
-    return (seconds - ahead) * NANOSECONDS["s"] + int(fraction.ljust(9, "0")), zone is not None
+    return (seconds - seconds_ahead(zone)) * NANOSECONDS["s"] + int(fraction.ljust(9, "0")), zone is not None
+
+
+def seconds_ahead(zone: Optional[str]) -> int:
+    """Returns how many seconds a time zone is ahead of UTC, spelt as 2026-01-31T12:00+01:00 has it."""
+    if not zone or zone in ("Z", "UTC"):
+        return 0
+    return (int(zone[1:3]) * 60 + int(zone[3:].strip(":") or 0)) * (-60 if zone[0] == "-" else 60)
 
 
 def nanoseconds_of(moment: Any) -> Tuple[int, bool]:

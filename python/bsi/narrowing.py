@@ -12,7 +12,7 @@ from typing import Any, Dict, List, Optional, Tuple
 import numpy as np
 
 from .dates import is_date
-from .kinds import NANOSECONDS, UNITS, Decimals, Flags, Kind, Misfit, Texts, Times, Whole
+from .kinds import NANOSECONDS, UNITS, Decimals, Flags, Kind, Misfit, Texts, Times, TooFine, Whole
 from .kinds import first_misfit, nanoseconds_of, shown
 from .values import Values
 
@@ -46,14 +46,17 @@ def narrow(given: Values, texts: Optional[int] = MAX_TEXTS, round: Optional[int]
         "f": [Whole(), *(Decimals(places) for places in range(1, most + 1)), *last],
         "M": [Times(unit, given.zone) for unit in UNITS],
     }
-    return first_that_keeps(kinds[values.dtype.kind], values, valid)
+    try:
+        return first_that_keeps(kinds[values.dtype.kind], values, valid)
+    except TooFine as why:
+        raise Misfit(why.row, why.value, too_fine(why.value)) from None
 
 
 def _kind_of_dtype(given: Values) -> Optional[Kind]:
     """Returns the kind that the dtype of nulls alone tells, if it tells one: another array of it may follow."""
     if given.order:
         return Texts(given.order, ordered=True)
-    return {"M": Times("D", given.zone), "b": Flags()}.get(given.values.dtype.kind)
+    return given.kind or {"M": Times("D", given.zone), "b": Flags()}.get(given.values.dtype.kind)
 
 
 def first_that_keeps(kinds: list, values: np.ndarray, valid: np.ndarray) -> Narrowed:

@@ -16,7 +16,7 @@ from typing import Tuple, Type, Union
 import numpy as np
 
 from .choosing import Block, Chosen, Wishes, by_column, misfits, refuse_no_kind, settled, slim, wanted_of
-from .errors import BadColumns, BadRow, Error, several
+from .errors import BadColumns, BadRow, Error, Skipped, several
 from .fields import Fields, Lines, Records, read_each, split
 from .files import Path, Run, Runs, Source, name_of, opened, size_of
 from .forms import Form
@@ -25,12 +25,11 @@ from .kinds import FAR, Kind, Texts, Whole
 from .narrowing import too_many_texts
 from .parts import Parts, refuse_no_parts
 from .progress import Progress, told
-from .spelling import Bad, Meaning, Options, Reader, TextReader, misread, reader_for
+from .spelling import THOUSANDS, Bad, Meaning, Options, Reader, TextReader, misread, reader_for
 
-# How many bytes say what columns hold, how many are read at once of four columns, up to how many columns these are more
-# for more columns, and how many refusals are kept of rows that are left out.
-WIDE = 32
-FIRST, RUN, KEPT = 1 << 16, 1 << 19, 1000
+# How many bytes say what columns hold, how many are read at once of four columns, and up to how many columns these are
+# more for more columns.
+FIRST, RUN, WIDE = 1 << 16, 1 << 19, 32
 
 
 def read_csv(
@@ -42,6 +41,7 @@ def read_csv(
     forms: Optional[Mapping[str, Form]] = None,
     nulls: Collection[str] = ("",),
     decimal: str = ".",
+    thousands: Optional[str] = None,
     dates: Union[str, Mapping[str, str], None] = None,
     round: Union[int, Mapping[str, int], None] = None,
     bad: str = "refuse",
@@ -58,15 +58,16 @@ def read_csv(
     says what it chose.
 
     `columns` are those wanted, or all but `drop`; `kinds` and `forms` what is not to be chosen (`Texts` keeps a column
-    of codes as text); `nulls` the fields that stand for nothing; `dates` how strptime reads dates, also by column;
-    `round` the places to which decimals of more are rounded. With `bad="skip"` rows that can't be kept are left out,
-    and stand in `skipped`; else they are a BadRow. `spare` widens columns by so many bits. With several `parts` rows
-    are read on as many threads, and split over as many indexes.
+    of codes as text); `nulls` the fields that stand for nothing; `decimal` the decimal sign, and `thousands` what
+    stands between groups of three digits (" " for blanks of any width); `dates` how strptime reads dates, also by
+    column; `round` the places to which decimals of more are rounded. With `bad="skip"` rows that can't be kept are left
+    out, and stand in `skipped`; else they are a BadRow. `spare` widens columns by so many bits. With several `parts`
+    rows are read on as many threads, and split over as many indexes.
     """
     if bad not in ("refuse", "skip"):
         raise ValueError(f"bad is 'refuse' or 'skip', and not {bad!r}")
     refuse_no_parts(parts)
-    asked = _Asked(columns, drop, kinds, forms, spare, _options(nulls, decimal), dates, round)
+    asked = _Asked(columns, drop, kinds, forms, spare, _options(nulls, decimal, thousands), dates, round)
     layout = _layout(delimiter, quotechar, skiprows, encoding)
     with ExitStack() as stack:
         threads = stack.enter_context(ThreadPoolExecutor(parts)) if parts > 1 else None
@@ -78,14 +79,17 @@ def read_csv(
     return index._filled(chosen, None)
 
 
-def _options(nulls: Collection[str], decimal: str) -> Options:
+def _options(nulls: Collection[str], decimal: str, thousands: Optional[str]) -> Options:
     """Returns what is said of all fields."""
     given = nulls if isinstance(nulls, str) or not isinstance(nulls, Iterable) else tuple(nulls)
     if not isinstance(given, tuple) or any(not isinstance(one, str) for one in given):
         raise TypeError(f"nulls is a list of texts, and not {nulls!r}")
     if decimal not in (".", ","):
         raise ValueError(f"decimal is '.' or ',', and not {decimal!r}")
-    return Options(None, given, decimal)
+    if thousands is not None and (thousands not in THOUSANDS or thousands == decimal):
+        signs = ", ".join(repr(sign) for sign in THOUSANDS if sign != decimal)
+        raise ValueError(f"thousands is one of {signs} beside decimal={decimal!r}, and not {thousands!r}")
+    return Options(None, given, decimal, thousands=thousands)
 
 
 class _Asked(NamedTuple):
@@ -151,23 +155,6 @@ def _listed(paths: Any) -> List[Path]:
 
 def _is_file(path: Any) -> bool:
     return isinstance(path, str) or hasattr(path, "__fspath__") or hasattr(path, "read")
-
-
-class Skipped(List[Error]):
-    """The refusals of the first rows that were left out; `count` says how many rows they are."""
-
-    count = 0
-
-    def add(self, why: Error) -> None:
-        """Counts one more."""
-        self.count += 1
-        if len(self) < KEPT:
-            self.append(why)
-
-    def __repr__(self) -> str:
-        more = [f".. and {self.count - len(self):,} more"] if self.count > len(self) else []
-        head = "1 row was left out" if self.count == 1 else f"{self.count:,} rows were left out"
-        return "\n".join([head, *map(str, self), *more])
 
 
 class _Rows(NamedTuple):

@@ -6,6 +6,7 @@ then found at the end, over all of the column. A field that it can't read is tol
 
 from __future__ import annotations
 
+import re
 from collections import Counter
 from datetime import timezone
 from decimal import Decimal
@@ -14,7 +15,7 @@ from typing import Any, Callable, Dict, List, NamedTuple, Optional, Sequence, Tu
 import numpy as np
 
 from .dates import is_date, is_numeric, nanoseconds_by, nanoseconds_of_date, numeric_of
-from .digits import DIGITS, POWERS, moments_of, numbers_of
+from .digits import DIGITS, POWERS, Numbers, moments_of, numbers_of, ungrouped
 from .distinct import Distinct
 from .fields import Fields
 from .kinds import NANOSECONDS, NUMBER, UNITS, Decimals, Flags, Kind, Texts, Times, Whole, shown
@@ -23,6 +24,12 @@ from .narrowing import MAX_TEXTS
 # What files write for nothing. Such a field is a null where `nulls` has it.
 NOTHING = {"na", "n/a", "#n/a", "<na>", "nan", "-nan", "null", "none", "nil", "-", "--", ".", "?", "missing", "(null)"}
 MOST, LEAST = (1 << 63) - 1, -(1 << 63)
+# What stands between groups of three digits; " " stands for blanks of any width.
+THOUSANDS, GAPS = (",", ".", " ", "'"), " \u00a0\u2009\u202f"
+GROUPED = re.compile(rf"[-+]?[1-9]\d{{0,2}}([,.'{GAPS}])\d{{3}}(?:\1\d{{3}})*(?:(?!\1)([,.])\d*)?", re.ASCII)
+# What stands before a number or behind it and is no part of it; and what looks like groups of digits and is an address.
+MARK = re.compile(rf"(?<![^-+])[$€£¥₹₽%‰][{GAPS}]?|[{GAPS}]?[$€£¥₹₽%‰]$")
+ADDRESS = re.compile(r"(?:(?:1?\d?\d|2[0-4]\d|25[0-5])(?:\.|$)){4}", re.ASCII)
 Moment = Tuple[int, bool]
 Bad = Dict[int, str]
 
@@ -35,6 +42,7 @@ class Options(NamedTuple):
     decimal: str = "."
     dates: Optional[str] = None
     round: Optional[int] = None
+    thousands: Optional[str] = None
 
 
 class Read(NamedTuple):
@@ -66,12 +74,40 @@ def told(text: str, reason: str, nulls: Sequence[str]) -> str:
 
 def decimal_in(text: str, options: Options) -> Decimal:
     """Returns the number that a field spells, or raises ValueError."""
-    spelt = text if options.decimal == "." else text.replace(".", "x").replace(options.decimal, ".")
-    if not NUMBER.fullmatch(spelt):
-        other = {".": ",", ",": "."}.get(options.decimal)
-        is_other = other and text.count(other) == 1 and NUMBER.fullmatch(text.replace(other, "."))
-        raise ValueError(f"{shown(text)} is no number" + (f"; decimal={other!r} reads it as one" if is_other else ""))
-    return Decimal(spelt)
+    number = _number(text, options.decimal, options.thousands)
+    if number is None:
+        raise ValueError(f"{shown(text)} is no number{_hint(text, options)}")
+    return number
+
+
+def _number(text: str, decimal: str, thousands: Optional[str]) -> Optional[Decimal]:
+    """Returns the number that a text spells with these signs, if it spells one."""
+    found = GROUPED.fullmatch(text) if thousands else None
+    if found and _sign_of(found) == thousands:
+        text = text.replace(found[1], "")
+    spelt = text if decimal == "." else text.replace(".", "x").replace(decimal, ".")
+    spelt = spelt[1:] if spelt[:1] == "+" and spelt[1:2] != "-" else spelt
+    return Decimal(spelt) if NUMBER.fullmatch(spelt) else None
+
+
+def _sign_of(grouped: Any) -> str:
+    """Returns what stands between the groups of digits of a number."""
+    return " " if grouped[1] in GAPS else grouped[1]
+
+
+def _hint(text: str, options: Options) -> str:
+    """Returns how a text could be read that looks like a number."""
+    if mark := MARK.search(text):
+        return f"; take the {mark[0].strip()!r} out, or kinds= with Texts keeps it" if _is_like_number(text) else ""
+    other = {".": ",", ",": "."}[options.decimal]
+    if found := GROUPED.fullmatch(text):
+        sign = _sign_of(found)
+        point = found[2] or (other if sign == options.decimal else options.decimal)
+        decimal = "" if point == options.decimal else f"decimal={point!r}, "
+        reads = "read" if decimal else "reads"
+        return f"; {decimal}thousands={sign!r} {reads} it as {_number(text, point, sign):f}"
+    is_other = options.thousands != other and _number(text, other, None) is not None
+    return f"; decimal={other!r} reads it as one" if is_other else ""
 
 
 class NumberReader:
@@ -82,7 +118,7 @@ class NumberReader:
         self._given = options.kind if isinstance(options.kind, (Whole, Decimals)) else None
 
     def read(self, fields: Fields) -> Read:
-        found = numbers_of(fields, ord(self._options.decimal))
+        found = self._found(fields)
         is_read = found.read if self._given or not found.led.any() else found.read & ~found.led
         is_all = is_read.all()
         exact, bad = ({}, {}) if is_all else self._one_by_one(fields, np.flatnonzero(~is_read))
@@ -97,6 +133,15 @@ class NumberReader:
             except (ValueError, ArithmeticError) as why:
                 bad[row] = f"{shown(str(number))} is past 63 bits" if isinstance(why, OverflowError) else str(why)
         return Read(kind, numbers, bad)
+
+    def _found(self, fields: Fields) -> Numbers:
+        """Returns the numbers of the fields that are spelt as nearly all are."""
+        point, sign = ord(self._options.decimal), self._options.thousands
+        if not sign:
+            return numbers_of(fields, point)
+        plain, fits = ungrouped(fields, ord(sign))
+        found = numbers_of(plain, point)
+        return found._replace(read=found.read & fits)
 
     def _places(self, places: int) -> int:
         return min(places, DIGITS if self._options.round is None else self._options.round)
@@ -145,10 +190,11 @@ class NumberReader:
 def exact_number(text: str, options: Options) -> Decimal:
     """Returns the number that a field spells, where a column takes it."""
     number = decimal_in(text, options)
-    digits = text.lstrip("-")
-    if options.kind is None and digits[:1] == "0" and digits[1:2].isdigit():
-        zeros = "number without the 0 before it, which a code may need; give the column's kind, as Texts or Whole()"
-        raise ValueError(f"{shown(text)} is no {zeros}")
+    digits = text.lstrip("-+")
+    needless = "+" if text[:1] == "+" else "0" if digits[:1] == "0" and digits[1:2].isdigit() else ""
+    if options.kind is None and needless:
+        code = f"number without the {needless} before it, which a code may need"
+        raise ValueError(f"{shown(text)} is no {code}; give the column's kind, as Texts or Whole()")
     if options.kind is None and options.round is None and number.as_tuple().exponent < -DIGITS:  # type: ignore
         raise ValueError(f"{shown(text)} has more than {DIGITS} decimal places")
     if options.kind is None and not LEAST <= number <= MOST:
@@ -190,8 +236,13 @@ class TimeReader:
         except ValueError as why:
             return told(text, str(why), self._options.nulls)
         if is_aware != self._is_aware:
-            return f"{shown(text)} has {'a' if is_aware else 'no'} time zone, as none before it"
+            return other_zone(text, is_aware)
         return nanoseconds, is_aware
+
+
+def other_zone(text: str, is_aware: bool) -> str:
+    """Returns what is wrong with a time that alone has a time zone, or alone has none."""
+    return f"{shown(text)} has {'a' if is_aware else 'no'} time zone, as none before it"
 
 
 def _text(fields: Fields, row: int) -> str:
@@ -281,15 +332,19 @@ def dates_meant(texts: List[str], options: Options) -> Meaning:
     one = numeric_of(texts).nanoseconds if options.dates is None else lambda text: nanoseconds_by(options.dates, text)
     seconds, nanoseconds = np.zeros(len(texts), np.int64), np.zeros(len(texts), np.int64)
     bad: Bad = {}
-    aware = set()
+    are_aware: Optional[bool] = None
     for place, text in enumerate(texts):
         try:
             moment, is_aware = one(text)
-            seconds[place], nanoseconds[place] = divmod(moment, NANOSECONDS["s"])
-            aware.add(is_aware)
         except ValueError as why:
             bad[place] = told(text, str(why), options.nulls)
-    read = counted(seconds, nanoseconds, options.kind, aware == {True}, bad, texts.__getitem__)
+            continue
+        are_aware = is_aware if are_aware is None else are_aware
+        if is_aware == are_aware:
+            seconds[place], nanoseconds[place] = divmod(moment, NANOSECONDS["s"])
+        else:
+            bad[place] = other_zone(text, is_aware)
+    read = counted(seconds, nanoseconds, options.kind, bool(are_aware), bad, texts.__getitem__)
     assert read.kind is not None
     return Meaning(read.kind, read.numbers, bad)
 
@@ -317,9 +372,14 @@ def _look(text: str, options: Options) -> str:
             return "form"
         except ValueError:
             pass
-    if NUMBER.fullmatch(text) or NUMBER.fullmatch(text.replace(",", ".")):
-        return "number"
-    return "date" if is_date(text) else "text"
+    return "number" if _is_like_number(text) else "date" if is_date(text) else "text"
+
+
+def _is_like_number(text: str) -> bool:
+    """Returns whether a text looks like a number, in whatever way it is written."""
+    bare = MARK.sub("", text, count=1).removeprefix("+")
+    is_grouped = GROUPED.fullmatch(bare) and not ADDRESS.fullmatch(bare)
+    return bool(is_grouped or NUMBER.fullmatch(bare.replace(",", ".")))
 
 
 Reader = Union[NumberReader, TimeReader, TextReader]

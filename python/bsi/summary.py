@@ -2,8 +2,13 @@
 
 from __future__ import annotations
 
+from decimal import Decimal
 from html import escape
 from typing import Any, Dict, List, Mapping
+
+
+# The figures in the order of pandas.
+ORDER = ("count", "unique", "top", "freq", "mean", "min", "25%", "50%", "75%", "max")
 
 
 class Summary(Mapping[str, Dict[str, Any]]):
@@ -22,9 +27,13 @@ class Summary(Mapping[str, Dict[str, Any]]):
         return len(self._figures)
 
     def _rows(self) -> List[List[str]]:
-        names = list(dict.fromkeys(name for column in self._figures.values() for name in column))
-        shown = [[name, *(_shown(column.get(name)) for column in self._figures.values())] for name in names]
+        columns = self._figures.values()
+        shown = [[name, *(_shown(column.get(name)) for column in columns)] for name in self._names()]
         return [["", *self._figures], *shown]
+
+    def _names(self) -> List[str]:
+        """Returns the names of the figures that a column has."""
+        return [name for name in ORDER if any(name in column for column in self._figures.values())]
 
     def __repr__(self) -> str:
         rows = self._rows()
@@ -42,7 +51,7 @@ class Summary(Mapping[str, Dict[str, Any]]):
         """Returns the figures as a frame of pandas, a column of objects for each column."""
         import pandas
 
-        return pandas.DataFrame(self._figures, dtype=object)
+        return pandas.DataFrame(self._figures, self._names(), dtype=object)
 
 
 def html_of(rows: List[List[str]]) -> str:
@@ -58,4 +67,6 @@ def _shown(value: Any) -> str:
         return ""
     if isinstance(value, float):
         return f"{value:.6g}"
+    if isinstance(value, Decimal):
+        return f"{value:f}"
     return f"{value:,}" if type(value) is int else str(value).removesuffix(" 00:00:00")

@@ -21,7 +21,7 @@ from typing import AbstractSet, Any, Dict, Iterable, Iterator, List, Mapping, Op
 import numpy as np
 
 from .choosing import Chosen, of_each, refuse_misfit, refuse_no_kind
-from .errors import BadColumns, BadQuery, BadRow, BadSchema, Error, IndexFull, NoMemory
+from .errors import BadColumns, BadQuery, BadRow, BadSchema, Error, IndexFull, NoMemory, Skipped
 from .forms import Form
 from .groups import GroupBy, Groups, key_of, too_many
 from .kinds import Flags, Misfit, Texts, Times, shown
@@ -92,6 +92,8 @@ class Table:
 
     def __init__(self, columns: Mapping[str, Form], limit: int, store: Any):
         self._forms, self._limit, self._store = dict(columns), limit, store
+        # (rows that read_csv left out)
+        self.skipped = Skipped()
         self._within = {name: within.encode() for name, within in names_within(list(columns)).items()}
 
     # ---- What it is ----
@@ -154,13 +156,10 @@ class Table:
     def _encoded(self, data: Any, grown: Dict[str, Form]) -> List[Tuple[np.ndarray, np.ndarray]]:
         """Returns the numbers of each column, and which of them are valid, and notes the columns that get texts."""
         given = columns_of(data)
-        for what, names in (
-            ("missing", self._forms.keys() - given.keys()),
-            ("unknown", given.keys() - self._forms.keys()),
-        ):
-            if names:
-                raise BadColumns(f"{what} columns: {_listed(sorted(names))}; the index has {_listed(self._forms)}")
-
+        odd = {"missing": self._forms.keys() - given.keys(), "unknown": given.keys() - self._forms.keys()}
+        told = [f"{what} columns: {_listed(sorted(names))}" for what, names in odd.items() if names]
+        if told:
+            raise BadColumns(f"{'; '.join(told)}; the index has {_listed(self._forms)}")
         encoded = list(of_each(self._forms, lambda name: self._entered(name, given[name], grown)).values())
         if len({len(numbers) for numbers, _ in encoded}) > 1:
             lengths = [f"{name!r} {len(numbers):,}" for name, (numbers, _) in zip(self._forms, encoded)]
@@ -443,17 +442,28 @@ class Table:
         interpolation: str = "lower",
     ) -> Summary:
         """Returns the count, the mean, the ends and the quartiles of columns in these rows, with the names that pandas
-        gives them. The quartiles are those of `quantile`, and those of texts and booleans always the lower ones."""
+        gives them, and of texts and booleans how many different ones there are, the most frequent one and how frequent
+        it is. The quartiles are those of `quantile`, and those of texts and booleans always the lower ones."""
         return Summary({name: self._figures(name, where, interpolation) for name in self._names(columns)})
 
     def _figures(self, name: str, where: Predicate, interpolation: str) -> Dict[str, Any]:
         figures: Dict[str, Any] = {"count": self.count(name, where)}
+        has_between = not isinstance(self._forms[name].kind, (Flags, Texts))
+        if not has_between:
+            figures.update(self._frequent(name, where))
         with contextlib.suppress(BadQuery):  # (texts have none)
             figures["mean"] = self.mean(name, where)
-        has_between = not isinstance(self._forms[name].kind, (Flags, Texts))
         middle = self.quantile(name, (0.25, 0.5, 0.75), where, interpolation if has_between else "lower")
         low, high = self.least(name, where), self.greatest(name, where)
         return {**figures, "min": low, **dict(zip(("25%", "50%", "75%"), middle)), "max": high}
+
+    def _frequent(self, name: str, where: Predicate) -> Dict[str, Any]:
+        """Returns how many different values there are, and the most frequent one with how often it is there: of equally
+        frequent ones the least."""
+        figures: Dict[str, Any] = {"unique": self.distinct(name, where)}
+        with contextlib.suppress(BadQuery):  # (of very many texts the counts are not to be had)
+            figures["top"], figures["freq"] = next(iter(self.value_counts(name, where).items()), (None, None))
+        return figures
 
     def sum(self, column: Name, where: Predicate = all_rows) -> Any:
         """Returns the sum of the column's values in the rows that the predicate selects, 0 where there are none."""

@@ -16,19 +16,23 @@ import numpy as np
 
 from . import arrow
 from .errors import BadColumns
+from .kinds import Decimals, Flags, Kind, Texts, Times
 
+# (a column of texts has one at least)
+NO_TEXTS = Texts(("",))
 NEVER_NULL = {int, bool, str, date}
 NUMPY_TYPES: Dict[type, Any] = {int: np.int64, bool: np.bool_, float: np.float64}
 
 
 class Values(NamedTuple):
     """An array of the dtypes b, i, u, f, M or object, which of its places are valid, the time zone of its times, and
-    the order of its texts, where it has these."""
+    the order of its texts, where it has these; and the kind that it has without values, where its dtype tells one."""
 
     values: np.ndarray
     valid: np.ndarray
     zone: Any = None
     order: Optional[Tuple[str, ...]] = None
+    kind: Optional[Kind] = None
 
 
 def columns_of(data: Any) -> Dict[str, Any]:
@@ -104,17 +108,18 @@ def _of_array(array: np.ndarray, hidden: Optional[np.ndarray] = None) -> Values:
         objects = array.tolist()
         if hidden is not None:
             objects = [None if is_hidden else value for value, is_hidden in zip(objects, hidden.tolist())]
-        return _of_objects(objects)
+        return _of_objects(objects)._replace(kind=NO_TEXTS if kind == "U" else None)
     raise BadColumns(f"an array of {array.dtype} is none of numbers, times, booleans or texts")
 
 
 def _of_arrow(chunks: List[arrow.Read]) -> Values:
     """Returns the values of chunks that follow each other. Texts keep an order that all chunks have."""
     values, valid = (np.concatenate([chunk[place] for chunk in chunks]) for place in (0, 1))
-    orders = {order for _, _, _, order in chunks}
+    orders, first = {chunk.order for chunk in chunks}, chunks[0]
     found = _of_array(values, ~valid)
+    kind = NO_TEXTS if first.are_texts else None if first.scale is None else decimals_of(first.scale)
     order = orders.pop() if len(orders) == 1 else None
-    return found._replace(valid=found.valid & valid, zone=chunks[0][2], order=order)
+    return found._replace(valid=found.valid & valid, zone=first.zone, order=order, kind=kind)
 
 
 def _of_pandas(pandas: Any, series: Any) -> Values:
@@ -124,7 +129,8 @@ def _of_pandas(pandas: Any, series: Any) -> Values:
         texts = np.array([*dtype.categories, None], object)
         found = _of_objects(texts[series.cat.codes.to_numpy()].tolist())
         is_order = dtype.ordered and all(isinstance(text, str) for text in dtype.categories)
-        return found._replace(order=tuple(dtype.categories) if is_order else None)
+        kind = _kind_of(dtype.categories.dtype) or _kind_of_first(dtype.categories)
+        return found._replace(order=tuple(dtype.categories) if is_order else None, kind=kind)
     if isinstance(dtype, pandas.DatetimeTZDtype):
         return _of_array(series.dt.tz_convert("UTC").dt.tz_localize(None).to_numpy())._replace(zone=dtype.tz)
     if isinstance(dtype, np.dtype):
@@ -137,7 +143,31 @@ def _of_pandas(pandas: Any, series: Any) -> Values:
         raise BadColumns(f"a series of {dtype} is none of numbers, times, booleans or texts")
     if isinstance(dtype, pandas.SparseDtype):
         return _of_array(np.asarray(series))
-    return _of_objects(series.to_numpy(object).tolist())
+    return _of_objects(series.to_numpy(object).tolist())._replace(kind=_kind_of(dtype))
+
+
+def _kind_of(dtype: Any) -> Optional[Kind]:
+    """Returns the kind of values that a dtype of NumPy or pandas tells, if it tells one."""
+    if getattr(dtype, "type", None) is str:
+        return NO_TEXTS
+    of_arrow = getattr(dtype, "pyarrow_dtype", None)
+    if (scale := getattr(of_arrow, "scale", None)) is not None:
+        return decimals_of(scale)
+    zone = getattr(dtype, "tz", None) or arrow.zone_named(getattr(of_arrow, "tz", None) or "")
+    return {"M": Times("D", zone), "b": Flags()}.get(getattr(dtype, "kind", ""))
+
+
+def decimals_of(scale: int) -> Decimals:
+    """Returns the decimals of a scale, as far as there are such."""
+    return Decimals(min(max(scale, 0), 18))
+
+
+def _kind_of_first(values: Any) -> Optional[Kind]:
+    """Returns the kind that the first of some objects is of, where that is a text or a date."""
+    first = next(iter(values), None)
+    if isinstance(first, date):
+        return Times("D", getattr(first, "tzinfo", None))
+    return NO_TEXTS if isinstance(first, str) else None
 
 
 def is_null(value: Any) -> bool:

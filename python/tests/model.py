@@ -1,14 +1,19 @@
 """What the tests judge by: random tables with random questions, and their answers by NumPy over plain arrays."""
 
 import datetime
+from dataclasses import replace
 from decimal import Decimal
+from zoneinfo import ZoneInfo
 
 import numpy as np
 
 import bsi
 
 WORDS = np.array(["ape", "bee", "cat", "dog", "eel", "fox"])
-EPOCH = datetime.datetime(1970, 1, 1)
+# As many texts as a form takes numbers, in order.
+TEXTS = tuple(f"w{number:04}" for number in range(1024))
+EPOCH, UTC = datetime.datetime(1970, 1, 1), datetime.datetime(1970, 1, 1, tzinfo=datetime.timezone.utc)
+EAST = datetime.timezone(datetime.timedelta(hours=5, minutes=30))
 COMPARE = {
     "<": np.less,
     "<=": np.less_equal,
@@ -29,15 +34,38 @@ def random_form(rng):
     return (bsi.equality if shape == 1 else bsi.range)(*bases, offset=offset)
 
 
+def zoned(zone):
+    """Returns the time of a number of seconds, in a zone."""
+    return lambda number: (UTC + datetime.timedelta(seconds=number)).astimezone(zone)
+
+
+def text(number):
+    """Returns the text of a number. Those past both ends of the texts come before the first and behind the last."""
+    return TEXTS[number] if 0 <= number < len(TEXTS) else "" if number < 0 else "~"
+
+
+HALF = datetime.timedelta(milliseconds=500)
+NUMBERS = [(bsi.Whole(), int, lambda value: Decimal(value) + Decimal("0.001"))]
+NUMBERS += [(bsi.Decimals(2), lambda number: Decimal(number).scaleb(-2), lambda value: value + Decimal("0.001"))]
+TIMES = [
+    (bsi.Times("D"), lambda number: EPOCH + datetime.timedelta(days=number), lambda value: value + HALF),
+    (bsi.Times("s"), lambda number: EPOCH + datetime.timedelta(seconds=number), lambda value: value + HALF),
+    (bsi.Times("s", datetime.timezone.utc), zoned(datetime.timezone.utc), lambda value: value + HALF),
+    (bsi.Times("s", "Europe/Berlin"), zoned(ZoneInfo("Europe/Berlin")), lambda value: value + HALF),
+    (bsi.Times("s", EAST), zoned(EAST), lambda value: value + HALF),
+]
+LISTED = [
+    (bsi.Texts(TEXTS), text, lambda value: value + "!"),
+    (bsi.Texts(TEXTS, ordered=True), text, None),
+    (bsi.Flags(), bool, None),
+]
+KINDS = [NUMBERS[0]] * 4 + [NUMBERS[1]] * 2 + TIMES + LISTED
+
+
 def random_kind(rng):
-    """Returns a kind, a function from the column's numbers to its values, and one from a value near them to a number
-    that may lie between."""
-    return [
-        (bsi.Whole(), int),
-        (bsi.Decimals(2), lambda number: Decimal(number).scaleb(-2)),
-        (bsi.Times("D"), lambda number: EPOCH + datetime.timedelta(days=number)),
-        (bsi.Times("s"), lambda number: EPOCH + datetime.timedelta(seconds=number)),
-    ][int(rng.choice([0, 0, 0, 1, 2, 3]))]
+    """Returns a kind, a function from the column's numbers to its values, and one from a value to one just above it
+    that no number stands for, or None where there is no such."""
+    return KINDS[rng.integers(len(KINDS))]
 
 
 class Table:
@@ -45,11 +73,13 @@ class Table:
 
     def __init__(self, rng):
         self.rng, self.rows = rng, int(rng.choice([0, 1, 2, 5, 63, 64, 65, 100, 129]))
-        self.columns = {}
+        self.columns, self.above = {}, {}
         for name in ["a", "B c", "null", "d"][: rng.integers(1, 5)]:
-            kind, value = random_kind(rng)
+            kind, value, self.above[name] = random_kind(rng)
             form = random_form(rng).of(kind)
-            numbers = rng.integers(form.offset, form.most + 1, self.rows)
+            form = replace(form, offset=0) if isinstance(kind, (bsi.Texts, bsi.Flags)) else form
+            most = min(form.most, 1) if kind == bsi.Flags() else form.most
+            numbers = rng.integers(form.offset, most + 1, self.rows)
             there = rng.random(self.rows) < rng.choice([1.0, 0.8, 0.3, 0.0], p=[0.4, 0.3, 0.2, 0.1])
             self.columns[name] = (form, numbers, there, value)
 
@@ -73,22 +103,20 @@ class Table:
 
     def comparison(self):
         """Returns a comparison and the rows that it selects. Constants lie among the numbers, between two of them and
-        past both ends."""
+        past both ends, where the kind has such."""
         name = str(self.rng.choice(list(self.columns)))
         form, numbers, there, value = self.columns[name]
-        column = bsi.col[name]
+        column, above = bsi.col[name], self.above[name]
         if self.rng.random() < 0.15:
             return column.isnull(), ~there
         if self.rng.random() < 0.2:
             return self.related(name)
         sign, number = str(self.rng.choice(list(COMPARE))), int(self.rng.integers(form.offset - 3, form.most + 4))
         number = int(self.rng.choice([-(10**5), 2 * 10**6])) if self.rng.random() < 0.05 else number
-        half = self.rng.random() < 0.2
-        constant = value(number)
-        if half and isinstance(constant, datetime.datetime):
-            constant += datetime.timedelta(milliseconds=500)
-        elif half:
-            constant = Decimal(constant) + Decimal("0.001")
+        if above is None:  # (booleans, and texts whose order is given, have no other constants)
+            number = min(max(number, 0), 1 if form.kind == bsi.Flags() else len(TEXTS) - 1)
+        half = above is not None and self.rng.random() < 0.2
+        constant = above(value(number)) if half else value(number)
         return column._compared(sign, constant), COMPARE[sign](numbers, number + 0.5 if half else number) & there
 
     def predicate(self, depth=3):
@@ -103,11 +131,11 @@ class Table:
         return (left & right, rows & others) if shape < 0.75 else (left | right, rows | others)
 
     def answers(self, name, rows):
-        """Returns the sum (None for times), least, greatest and lower median of a column in these rows."""
-        _, numbers, there, value = self.columns[name]
+        """Returns the sum (None for times and texts), least, greatest and lower median of a column in these rows."""
+        form, numbers, there, value = self.columns[name]
         found = np.sort(numbers[rows & there])
-        is_time = isinstance(value(0), datetime.datetime)
+        total = {bsi.Flags: int, bsi.Times: lambda _: None, bsi.Texts: lambda _: None}.get(type(form.kind), value)
         if not len(found):
-            return None if is_time else value(0), None, None, None
+            return total(0), None, None, None
         ends = [value(int(number)) for number in (found[0], found[-1], found[(len(found) - 1) // 2])]
-        return (None if is_time else value(int(found.sum())), *ends)
+        return (total(int(found.sum())), *ends)

@@ -58,6 +58,17 @@ def test_a_refusal_names_the_row_of_all(client):
         bsi.dask.from_frame(frames.from_pandas(table(1_000), npartitions=10), limit=999)
     with pytest.raises(bsi.BadRow, match=r"column 'a', row 0 \(partition 0\): .* is not from 0 to 3"):
         bsi.dask.from_frame(frames.from_pandas(table(1_000), npartitions=10), forms={"a": bsi.slices(2)})
+    frame.loc[555, "who"], frame.loc[333, "a"] = 5, -1
+    forms = {"a": bsi.slices(20)}
+    with pytest.raises(bsi.BadRow) as refused:
+        bsi.dask.from_frame(frames.from_pandas(frame, npartitions=10, sort=False), forms=forms)
+    told = [line.partition(":")[0] for line in str(refused.value).splitlines()]
+    assert told == ["column 'who', row 555 (partition 5)", "column 'price', row 777 (partition 7)"]
+    forms["b"] = bsi.slices(1)
+    with pytest.raises(bsi.BadRow) as refused:
+        bsi.dask.from_frame(frames.from_pandas(frame[["a", "b"]].fillna(7), npartitions=10, sort=False), forms=forms)
+    told = [line.partition(":")[0] for line in str(refused.value).splitlines()]
+    assert told == ["column 'b', row 0 (partition 0)", "column 'a', row 333 (partition 3)"]
     # Two partitions have what another one's kind leaves no room for.
     frame = pandas.DataFrame({"x": list(range(100))}, dtype=object)
     frame.loc[37, "x"], frame.loc[38, "x"], frame.loc[95, "x"] = 2**61, 2**62, Decimal("0.25")

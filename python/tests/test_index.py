@@ -2,6 +2,7 @@
 
 import copy
 import datetime
+import zoneinfo
 import pickle
 from decimal import Decimal
 from fractions import Fraction
@@ -74,6 +75,7 @@ def test_rows_that_do_not_fit_change_nothing():
     [
         ({"price": [1], "temp": [1]}, "missing columns: 'day'"),
         ({"price": [1], "temp": [1], "day": [1], "more": [1]}, "unknown columns: 'more'"),
+        ({"price": [1], "tmp": [1], "day": [1]}, "missing columns: 'temp'; unknown columns: 'tmp'; the index has"),
         ({"price": [1], "temp": [1, 2], "day": [1]}, "'temp' 2"),
         ({"price": [1], "temp": [1], "day": np.zeros((1, 1))}, "one dimension"),
         ({}, "missing columns: 'day', 'price', 'temp'; the index has 'price', 'temp', 'day'"),
@@ -558,6 +560,13 @@ def test_an_order_by_the_dtype_of_a_category():
     index = bsi.Index.from_frame({"x": ["high", "low"]}, kinds={"x": dtype})
     assert index.greatest("x") == "high" and index.count(col.x >= "mid") == 1
     assert index.append({"x": pandas.Series(["mid"], dtype=dtype)}) == 1
+    for categories, why in (
+        (None, "column 'x': its dtype has no categories, and a list of texts is wanted"),
+        ([], "column 'x': its dtype has no categories"),
+        ([1, 2], r"column 'x': its dtype has the categories \[1, 2\], and a list of texts is wanted"),
+    ):
+        with pytest.raises(bsi.BadSchema, match=why):
+            bsi.Index.from_frame({"x": ["high"]}, kinds={"x": pandas.CategoricalDtype(categories)})
 
 
 def test_a_summary():
@@ -597,6 +606,66 @@ def test_a_summary_beside_pandas():
     index = bsi.Index.from_frame({"t": ["b", "a"], "f": [True, False]})
     assert index.describe(interpolation="linear")["t"]["50%"] == "a"
     assert index.describe(interpolation="linear")["f"]["50%"] is False
+
+
+def test_the_most_frequent():
+    data = {"t": ["b", "a", None, "b"], "f": [True, None, False, False], "n": [1, 2, 3, 3]}
+    index = bsi.Index.from_frame(data)
+    for table in (index, bsi.Parts.from_frame(2, data), bsi.Index.from_frame(data, spare=3)):
+        found = table.describe()
+        assert [found["t"][word] for word in ("unique", "top", "freq")] == [2, "b", 2]
+        assert [found["f"][word] for word in ("unique", "top", "freq")] == [2, False, 2]
+        assert list(found["t"])[:5] == ["count", "unique", "top", "freq", "min"] and "top" not in found["n"]
+        assert table.describe("t", col.n > 9)["t"]["top"] is None and table.describe("t", col.n < 3)["t"]["top"] == "a"
+    words = ["count", "unique", "top", "freq", "mean", "min", "25%", "50%", "75%", "max"]
+    assert [line.split()[0] for line in repr(index.describe(["n", "t"])).splitlines()[1:]] == words
+    many = bsi.Index.from_frame({"t": [f"w{number:04}" for number in range(5000)]}, kinds={"t": bsi.Texts})
+    assert many.describe()["t"]["unique"] == 5000 and "top" not in many.describe()["t"]
+    pandas = pytest.importorskip("pandas")
+    frame = pandas.DataFrame({"t": data["t"], "f": pandas.Series(data["f"], dtype=object)})
+    wanted, given = frame.describe(), index.describe(["t", "f"]).to_pandas()
+    assert (given.loc[list(wanted.index)] == wanted).all().all() and list(index.describe().to_pandas().index) == words
+
+
+def test_zero_is_shown_without_a_power():
+    index = bsi.Index.from_frame({"x": [Decimal("0.0000001"), Decimal("0E-7")]})
+    assert [line.split()[1] for line in repr(index.describe()).splitlines()[3:5]] == ["0.0000000", "0.0000000"]
+    assert "<td>0.0000000</td>" in index.describe()._repr_html_()
+
+
+def test_no_row_was_left_out_where_none_could_be():
+    with bsi.Index.from_frame({"x": [1]}) as index, bsi.Parts(2, index.forms) as parts:
+        for table in (index, parts, index.share()):
+            assert table.skipped == [] and table.skipped.count == 0
+
+
+def test_a_float_that_an_append_can_not_keep():
+    exact, rounded = bsi.Decimals(2), bsi.Decimals(2, rounded=True)
+    index = bsi.Index({"x": bsi.slices(20, kind=exact), "y": bsi.slices(20, kind=rounded)})
+    with pytest.raises(bsi.BadRow) as refused:
+        index.append({"x": np.array([1 / 3]), "y": np.array([1 / 3])})
+    hint = "a column of Decimals(2, rounded=True) rounds it"
+    told = f"column 'x', row 0: 0.3333333333333333 can't be kept exactly with 2 decimal places; {hint}"
+    assert str(refused.value) == told
+    index = bsi.Index({"y": index.forms["y"]})
+    assert index.append({"y": np.array([1 / 3])}) == 1 and index.least("y") == Decimal("0.33")
+
+
+def test_a_time_zone_by_its_name(tmp_path):
+    paris = zoneinfo.ZoneInfo("Europe/Paris")
+    assert bsi.Times("s", "Europe/Paris") == bsi.Times("s", paris)
+    assert bsi.Times("s", "UTC") == bsi.Times("s", datetime.timezone.utc)
+    index = bsi.Index({"t": bsi.slices(40, kind=bsi.Times("s", "Europe/Paris"))})
+    noon = datetime.datetime(2026, 1, 31, 12, tzinfo=paris)
+    index.append({"t": [noon, "2026-01-31T12:30:00Z"]})
+    assert index.least("t") == noon and index.least("t").tzinfo == paris and index.count(col.t > noon) == 1
+    index.save(tmp_path / "zone.bsi")
+    assert bsi.open(tmp_path / "zone.bsi").forms == index.forms
+    for zone, why in (("Nowhere/Here", "'Nowhere/Here' is not known here"), ("../etc", "is not known here")):
+        with pytest.raises(ValueError, match=why):
+            bsi.Times("s", zone)
+    with pytest.raises(TypeError, match="a time zone is a tzinfo or a name, as 'Europe/Paris', and not 5"):
+        bsi.Times("s", 5)
 
 
 def test_means_of_times():

@@ -205,6 +205,9 @@ def test_the_command_takes_what_read_csv_takes(tmp_path):
         ("Day=times:h", "--kinds Day=times:h: 'h' is no unit of time"),
     ):
         assert why in run(str(path), "--kinds", kinds, "count").stderr
+    path.write_text("n;x\n1.234,50;0,0000000\n2.000;0,0000001\n")
+    words = ["--delimiter", ";", "--decimal", ",", "--thousands", "."]
+    assert run(str(path), *words, "sum n", "least x").stdout.splitlines()[-2:] == ["3234.50", "0.0000000"]
     assert run("--version").stdout == f"bsi {bsi.__version__}\n" and bsi.__version__[0].isdigit()
 
 
@@ -272,5 +275,6 @@ def test_the_command_reads_parquet_where_pandas_can(monkeypatch, capsys):
     assert main(["x.parquet", "--null", "n/a", "count"]) == 1
     assert capsys.readouterr().err == "bsi: --null is for CSV files alone\n"
     assert main(["x.parquet", "--skip-bad", "count"]) == 1 and "--skip-bad is for" in capsys.readouterr().err
+    assert main(["x.parquet", "--thousands", ".", "count"]) == 1 and "--thousands is for" in capsys.readouterr().err
     assert main(["x.parquet", "--drop", "n", "--kinds", "t=text", "greatest t"]) == 0
     assert capsys.readouterr().out.splitlines()[2:] == ["b"]

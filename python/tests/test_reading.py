@@ -7,6 +7,7 @@ import io
 import lzma
 import os
 import pickle
+import re
 import zipfile
 from decimal import Decimal
 
@@ -237,12 +238,33 @@ def read(write, text, **more):
         (["-", "true", "false"], 0, "'-' is no true or false; nulls="),
         (["NaN", "NaN"], 0, "'NaN' stands for no text; nulls="),
         (["9,50", "10,25"], 0, "'9,50' is no number; decimal=',' reads it as one"),
+        (["1,234", "2,000"], 0, "'1,234' is no number; thousands=',' reads it as 1234"),
+        (["1,234,567.5", "9.5"], 0, "'1,234,567.5' is no number; thousands=',' reads it as 1234567.5"),
+        (["1.234,50", "9,50"], 0, "'1.234,50' is no number; decimal=',', thousands='.' read it as 1234.50"),
+        (["1.234.567", "890"], 0, "'1.234.567' is no number; decimal=',', thousands='.' read it as 1234567"),
+        (["1 234", "2 000"], 0, "'1 234' is no number; thousands=' ' reads it as 1234"),
+        (["1\u202f234,5", "7"], 0, r"is no number; decimal=',', thousands=' ' read it as 1234.5"),
+        (["1'234.50", "9.50"], 0, r"is no number; thousands=\"'\" reads it as 1234.50"),
+        (["+5", "+10"], 0, r"'\+5' is no number without the \+ before it, which a code may need; give"),
+        (["5%", "10%"], 0, "'5%' is no number; take the '%' out, or kinds= with Texts keeps it"),
+        (["5 %", "10 %"], 0, "take the '%' out"),
+        (["$5", "-$1,000.50"], 0, r"'\$5' is no number; take the '\$' out"),
+        (["€5", "€-7,25"], 0, "take the '€' out"),
+        (["12 €", "3"], 0, "take the '€' out"),
         (["1", "2", "three"], 2, "'three' is no number"),
         (["2012/01/01", "2012/01/02", "soon"], 2, "'soon' is no date or time"),
         (["01/02/2026", "03/04/2026"], 0, "day and month of '01/02/2026' could be exchanged: give dates="),
         (["Jan 2026", "Feb 2026"], 0, "'Jan 2026' has no day: give dates="),
         (["11/2026", "12/2026"], 0, "'11/2026' has no day: give dates="),
         (["1/2/26", "1/3/26"], 0, "has a year of two digits: give dates="),
+        (["31-Jan-04", "1-Feb-04"], 0, "'31-Jan-04' has a year of two digits: give dates=, as '%d-%b-%y'"),
+        (["31 Jan 04", "1 Feb 04"], 0, "has a year of two digits: give dates="),
+        (["Jan 31, '04", "Feb 1, '04"], 0, "has a year of two digits: give dates="),
+        (["2004-01", "2004-02"], 0, "'2004-01' has no day: give dates=, as '%Y-%m'"),
+        (["2026-01-31T12:00:00.1234567891", "2026-01-31T12:00:00.5"], 0, "is finer than nanoseconds"),
+        (["2026-01-31 12:00 EST", "2026-01-31 12:00 PST"], 0, "has the zone 'EST', which is not known"),
+        (["Sat, 31 Jan 2026", "Mon, 1 Feb 2026"], 1, "is no date or time: that day is a Sunday"),
+        (["1/31/2026 12:00", "1/31/2026 12:00 UTC"], 1, "has a time zone, as none before it"),
         (["2026/02/30", "2026/02/01"], 0, "is no date or time: the calendar"),
         (["31.01.2026", "05.13.2026", "30.01.2026"], 1, "the calendar or the clock has no such"),
         (["a", "b", "c", *["1"] * 30], 0, "'a' is no number"),
@@ -299,6 +321,77 @@ def test_a_column_is_chosen_by_many_of_its_fields(write, fields, row, why):
             datetime.datetime(2026, 1, 31, 0, 5),
             datetime.datetime(2026, 1, 31, 15, 45),
         ),
+        (
+            ["2026-01-31 3:45 PM", "2026/01/31 12:05 am", "2026-01-31T9:05"],
+            {},
+            datetime.datetime(2026, 1, 31, 0, 5),
+            datetime.datetime(2026, 1, 31, 15, 45),
+        ),
+        (
+            ["1/31/2026 15:45:10.5", "1/31/2026 15:45:10"],
+            {},
+            datetime.datetime(2026, 1, 31, 15, 45, 10),
+            datetime.datetime(2026, 1, 31, 15, 45, 10, 500_000),
+        ),
+        (
+            ["Jan  1 2000 12:00AM", "Jan 31 2000  1:30PM"],
+            {},
+            datetime.datetime(2000, 1, 1),
+            datetime.datetime(2000, 1, 31, 13, 30),
+        ),
+        (
+            ["20000101T120000", "20000101T1159", "20000101T120000.25"],
+            {},
+            datetime.datetime(2000, 1, 1, 11, 59),
+            datetime.datetime(2000, 1, 1, 12, 0, 0, 250_000),
+        ),
+        (
+            ["Sat, 31 Jan 2026 12:00:00 GMT", "Sun, 01 Feb 2026 12:00:00 +0100"],
+            {},
+            datetime.datetime(2026, 1, 31, 12, tzinfo=datetime.timezone.utc),
+            datetime.datetime(2026, 2, 1, 11, tzinfo=datetime.timezone.utc),
+        ),
+        (
+            ["Monday, January 31, 2000", "Tue Feb  1 09:00:00 2000"],
+            {},
+            datetime.datetime(2000, 1, 31),
+            datetime.datetime(2000, 2, 1, 9),
+        ),
+        (
+            ["31.01.2026 12:00Z", "01.02.2026 12:00 +01:00"],
+            {},
+            datetime.datetime(2026, 1, 31, 12, tzinfo=datetime.timezone.utc),
+            datetime.datetime(2026, 2, 1, 11, tzinfo=datetime.timezone.utc),
+        ),
+        (
+            ["2026-01-31T12:00:00.1234560000", "2026-01-31 12:00:00,000"],
+            {},
+            datetime.datetime(2026, 1, 31, 12),
+            datetime.datetime(2026, 1, 31, 12, 0, 0, 123_456),
+        ),
+        (
+            ["2004-01", "2004-12"],
+            {"dates": "%Y-%m"},
+            datetime.datetime(2004, 1, 1),
+            datetime.datetime(2004, 12, 1),
+        ),
+        (["1.234,50", "2.000,00", "9,50"], {"decimal": ",", "thousands": "."}, Decimal("9.50"), Decimal(2000)),
+        (["1,234", "-2,000,000", "7"], {"thousands": ","}, -2_000_000, 1234),
+        (["1,234.5", "-2,000.25"], {"thousands": ",", "parts": 2}, Decimal("-2000.25"), Decimal("1234.50")),
+        (
+            ["1 234,5", "1\u00a0234,75", "2\u2009000"],
+            {"decimal": ",", "thousands": " "},
+            Decimal("1234.5"),
+            Decimal(2000),
+        ),
+        (["1'234", "999"], {"thousands": "'"}, 999, 1234),
+        (["1,234", "0.125"], {"thousands": ",", "round": 1}, Decimal("0.1"), Decimal("1234.0")),
+        (["+5", "-3"], {"kinds": {"x": bsi.Whole()}}, -3, 5),
+        (["+5.5", "+1,000"], {"kinds": {"x": bsi.Decimals(1)}, "thousands": ","}, Decimal("5.5"), Decimal(1000)),
+        (["$5", "$10"], {"kinds": {"x": bsi.Texts}}, "$10", "$5"),
+        (["192.168.100.101", "192.168.100.200"], {}, "192.168.100.101", "192.168.100.200"),
+        (["1.2.3", "1.10.0"], {}, "1.10.0", "1.2.3"),
+        (["+49 170 1234567", "555 1234"], {}, "+49 170 1234567", "555 1234"),
         (["true", "false", "unknown", "yes", "no"], {}, "false", "yes"),
         (["A", "B", "7"], {}, "7", "B"),
         (["NA", "Meyer"], {}, "Meyer", "NA"),
@@ -312,6 +405,47 @@ def test_a_column_is_chosen_by_many_of_its_fields(write, fields, row, why):
 def test_what_files_write(write, fields, more, least, greatest):
     index = read(write, "x|n\n" + "".join(f"{field}|1\n" for field in fields), delimiter="|", **more)
     assert (index.least("x"), index.greatest("x"), len(index)) == (least, greatest, len(fields))
+
+
+def test_groups_of_three_digits(write):
+    """A number that is written with groups is not taken for another one, and a text of other groups is no number."""
+    for fields, more in (
+        (["1,23"], {"thousands": ","}),
+        (["7", "12,345,67"], {"thousands": ","}),
+        (["0,123"], {"thousands": ","}),
+        (["1,234.5"], {"decimal": ",", "thousands": "."}),
+        (["1.234,5", "1.2345,5"], {"decimal": ",", "thousands": "."}),
+        (["1 234", "1  234"], {"thousands": " "}),
+    ):
+        with pytest.raises(bsi.BadRow, match=rf"row {len(fields) - 1} .*{fields[-1]}.* is no number"):
+            read(write, "x|n\n" + "".join(f"{field}|1\n" for field in fields), delimiter="|", **more)
+    for field, number in (("1.234", "1234"), ("1.234,50", "1234.50"), ("-2.000.000", "-2000000")):
+        with pytest.raises(bsi.BadRow, match=f"'{field}' is no number; thousands='.' reads it as {number}$"):
+            read(write, f"x;n\n{field};1\n9,50;2\n", delimiter=";", decimal=",")
+    for more in ({"thousands": "."}, {"thousands": ",", "decimal": ","}, {"thousands": ""}, {"thousands": 5}):
+        with pytest.raises(ValueError, match="thousands is one of .* and not"):
+            read(write, "x\n1\n", **more)
+
+
+@pytest.mark.parametrize("sign, decimal", [(",", "."), (".", ","), (" ", ","), ("'", ".")])
+def test_random_groups_of_digits_beside_a_pattern(write, monkeypatch, sign, decimal):
+    rng, at = np.random.default_rng(3), re.escape(sign)
+    point, grouped = re.escape(decimal), rf"[1-9]\d{{0,2}}(?:{at}\d{{3}})+"
+    number = re.compile(rf"-?(?:(?:\d+|{grouped})(?:{point}\d*)?|{point}\d+)", re.ASCII)
+    for _ in range(30):
+        in_runs_of(monkeypatch, int(rng.choice([30, 1 << 16])))
+        whole = [f"{number:,}".replace(",", sign) for number in rng.integers(-(10**9), 10**9, 20).tolist()]
+        odd = ["".join(rng.choice([*"0123455", sign, sign, decimal, "-"], rng.integers(1, 12))) for _ in range(20)]
+        fields = [str(field) + (f"{decimal}25" if rng.random() < 0.3 else "") for field in rng.permutation(whole + odd)]
+        fields = [field for field in fields if field.strip() == field]
+        wanted = [number.fullmatch(field) is not None for field in fields]
+        text = "x|n\n" + "".join(f"{field}|{row}\n" for row, field in enumerate(fields))
+        how = {"kinds": {"x": bsi.Decimals(2, rounded=True)}, "thousands": sign, "decimal": decimal, "bad": "skip"}
+        index = read(write, text, delimiter="|", **how)
+        kept = [(row, field) for row, (field, is_number) in enumerate(zip(fields, wanted)) if is_number]
+        plain = [Decimal(field.replace(sign, "").replace(decimal, ".")) for _, field in kept]
+        found = index.take(range(len(index)))
+        assert found["n"] == [row for row, _ in kept] and found["x"] == [round(value, 2) for value in plain]
 
 
 def test_all_columns_that_do_not_fit_are_told(write):
@@ -370,8 +504,11 @@ def test_files_of_any_encoding(write):
         index = bsi.read_csv(write(text.encode(encoding)), encoding=given)
         assert index.columns == ["größe", "n"] and index.rows(col["größe"] == "übel").tolist() == [0]
     assert bsi.read_csv(io.StringIO(text)).sum("n") == bsi.read_csv(io.BytesIO(text.encode())).sum("n") == 3
-    for encoding in ("utf-99", 5):
+    for encoding in ("utf-99", 5, "a\0b"):
         with pytest.raises(bsi.BadColumns, match="there is no encoding"):
+            bsi.read_csv(write(text), encoding=encoding)
+    for encoding in ("rot13", "base64", "zlib", "hex", "bz2", "quopri", "uu"):
+        with pytest.raises(bsi.BadColumns, match=f"'{encoding}' encodes no text"):
             bsi.read_csv(write(text), encoding=encoding)
 
 

@@ -325,6 +325,56 @@ def test_a_column_in_chunks():
     assert index.forms["x"].kind == bsi.Texts(("a", "b", "c")) and index.rows(bsi.col.x == "b").tolist() == [1, 2]
 
 
+# Values of which none is there, and the kind that their dtype tells.
+NOTHING = {
+    "a series of texts": (pandas.Series([None, None], dtype="string"), bsi.Texts([""])),
+    "an empty series of texts": (pandas.Series([], dtype="string"), bsi.Texts([""])),
+    "an empty array of texts": (np.array([], "U3"), bsi.Texts([""])),
+    "a category of texts": (pandas.Categorical([None], ["a", "b"]), bsi.Texts([""])),
+    "an ordered category": (pandas.Categorical([None], ["b", "a"], ordered=True), bsi.Texts(["b", "a"], ordered=True)),
+    "a category of days": (pandas.Categorical([None], pandas.to_datetime(["2026-01-31"])), bsi.Times("D")),
+    "a category of dates": (pandas.Categorical([None], [DAY]), bsi.Times("D")),
+    "a category in a zone": (
+        pandas.Categorical([None], pandas.to_datetime(["2026-01-31"]).tz_localize("Europe/Paris")),
+        bsi.Times("D", "Europe/Paris"),
+    ),
+    "a category of booleans": (pandas.Categorical([None], [True, False]), bsi.Flags()),
+    "a category of numbers": (pandas.Categorical([None], [1, 2]), bsi.Whole()),
+    "a category of nothing": (pandas.Categorical([None]), bsi.Whole()),
+    "arrow texts": (texts("", "", validity=bits(0, 0)), bsi.Texts([""])),
+    "no arrow texts": (texts(), bsi.Texts([""])),
+    "arrow views": (views("", validity=bits(0)), bsi.Texts([""])),
+    "an arrow stream of texts": (Stream(texts()), bsi.Texts([""])),
+    "an arrow dictionary": (Arrow("c", 0, [None, np.zeros(1, np.int8)], dictionary=texts()), bsi.Texts([""])),
+    "arrow decimals": (Arrow("d:10,2", 1, [bits(0), np.zeros(2, "i8")]), bsi.Decimals(2)),
+    "no arrow decimals": (Arrow("d:38,30", 0, [None, None]), bsi.Decimals(18)),
+    "arrow hundreds": (Arrow("d:5,-2,64", 0, [None, None]), bsi.Decimals(0)),
+    "objects": (np.array([None], object), bsi.Whole()),
+}
+
+
+@pytest.mark.parametrize("name", NOTHING)
+def test_nothing_has_the_kind_of_its_dtype(name):
+    given, kind = NOTHING[name]
+    index = bsi.Index.from_frame({"x": given})
+    found = index.forms["x"].kind
+    # (pandas 1 has zones of pytz)
+    found = bsi.Times(found.unit, str(found.zone)) if getattr(found, "zone", None) else found
+    assert found == kind and index.count("x") == 0 and index.least("x") is None
+    if isinstance(kind, bsi.Texts):
+        assert index.count(bsi.col.x == kind.values[0]) == 0
+
+
+def test_texts_of_a_frame_follow_one_without():
+    none, some = pandas.DataFrame({"x": pandas.Series([None], dtype="string")}), pandas.DataFrame({"x": ["b", "a"]})
+    for frames in ([none, some], [some, none], [none, some, none, none]):
+        found = bsi.choosing.chosen_of(frames)
+        index = bsi.Index(found.forms)._filled(found, None)
+        assert index.forms["x"].kind == bsi.Texts(("a", "b")) and index.count("x") == 2
+    found = bsi.choosing.chosen_of([none, none])
+    assert found.forms["x"].kind == bsi.Texts([""]) and bsi.choosing.chosen_of([none, {"x": [1]}]).rows() == 2
+
+
 @pytest.mark.parametrize("name", ["pyarrow", "polars"])
 def test_tables_of_pyarrow_and_polars(name):
     module = pytest.importorskip(name)
@@ -338,6 +388,7 @@ REFUSED = {
     "2^63": ([1, 2**63], 1, "past 63 bits|past 64 bits"),
     "a large uint64": (np.array([1, 2**63], np.uint64), 1, "past 63 bits"),
     "a third": (np.array([0.5, 1 / 3, 0.1]), 1, "exactly with 6 decimal places; round= rounds it"),
+    "a third as a decimal": (np.array([1 / 3], np.float64), 0, "0.3333333333333333 can't be kept exactly"),
     "a third in a list": ([1, 1 / 3], 1, "0.3333333333333333 can't be kept exactly with 6 decimal places"),
     "a third of few digits": (np.array([1, 1 / 3], np.float32), 1, "0.33333334 can't be kept exactly"),
     "a long double of 17 digits": (np.array([1, 1234567890123456.5], np.longdouble), 1, "exactly with"),

@@ -19,8 +19,7 @@ returns-in-Ok-clause-top c =
     let top =
     subst (λ (t : Table). AreTop c.args.end (length c.args.rows.now) (map (λ row. holds pred (row_entries row)) t.rows) (column_of t.rows place) listed)
     c.index.ensures c.in-Ok.ensures.1 in
-    let count : c.len.result ≡ length listed = c.len.ensures ∙ c.in-Ok.listed.ok.0 in
-    (
+    let count : c.len.result ≡ length listed = c.len.ensures ∙ c.in-Ok.listed.ok.0 in (
       pred,
       place,
       listed,
