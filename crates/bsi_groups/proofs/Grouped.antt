@@ -31,7 +31,7 @@ module _ (total : Total) (found : List Bool) (by : ℕ) (rows : List FedRow) whe
 
   module _ (groups : List Group) (rest : List Bool) (made : AreMade total found by rows groups rest) where
     -- the entries that are left
-    left : items_where_true rest (column_of rows by) ≡ filter (comes_after (keys_of groups)) (entries_at found by rows)
+    pub left : items_where_true rest (column_of rows by) ≡ filter (comes_after (keys_of groups)) (entries_at found by rows)
     left =
         ap (λ bits. items_where_true bits (column_of rows by)) made.rest_is
         ∙ entries_passing (comes_after (keys_of groups)) (column_of rows by) found

@@ -1,11 +1,14 @@
 pub mod DistinctNumbers
 pub mod FirstEntries
 pub mod Grouped
+pub mod GroupsJoined
 pub mod Order
 pub mod PairOrder
 pub mod PairRows
 pub mod PairsMade
 pub mod Remaining
+pub mod Tallied
+pub mod TalliedGroups
 pub mod TopsFirst
 pub mod TopsPlaces
 pub mod TopsSorted

@@ -2,4 +2,5 @@ pub mod Entries
 pub mod Groups
 pub mod Pairs
 pub mod Replies
+pub mod Tallies
 pub mod Tops

@@ -1,10 +1,11 @@
 //! Groups of rows, and the total of a query over each.
 
-ghost use Rattle.std.specs.Prelude.{◌≡◌, ◌<◌, ◌≤◌, None, length, IfErr, IfOk, OnOk};
+ghost use Rattle.std.specs.Prelude.{◌≡◌, ◌<◌, ◌≤◌, ◌++◌, None, length, IfErr, IfOk, OnOk};
 ghost use Rattle.bsi_rows.specs.Answers.{columns_of_total, missing_of};
 ghost use Rattle.bsi_groups.specs.Groups.{missing_grouped, selected_by, AreGroups, IsGroupRefusal, IsRefusedOver};
 
 use crate::taking::{first_entry, take_rows};
+use crate::tallying::{taken_first, tallied_groups};
 use bsi_bits::Bits;
 use bsi_table::{Answer, Index, Query, Total};
 use std::alloc::{AllocError, Global};
@@ -42,7 +43,10 @@ impl From<AllocError> for GroupError {
 
 /// Puts the rows that a query selects in groups by their entry in column `by`, and answers the query's total for each.
 /// The groups come in order of their numbers, the one of the null rows last. There may be `most` of them. For each it
-/// passes over the column about twice, makes a bit for each row, and does what the total does.
+/// passes over the column about twice, makes a bit for each row, and does what the total does. Where the total is a
+/// count, a sum, or the least or greatest number, and an entry of the column may be few numbers, at most 65,536 and at
+/// most eight for each row, it does so for the first 32 groups alone. Those behind them it makes in one pass, with 64
+/// bytes for each of these numbers.
 pub fn group_by(
     alloc: Global,
     index: &Index,
@@ -90,9 +94,10 @@ pub(crate) fn group_found(
     ensures refused { IfErr result (IsRefusedOver found.bits by index.now.rows most) }
 {
     let column = index.column(by);
+    let first = taken_first(column, total, most);
     let mut rest = found;
     let mut groups = Vec::new(alloc);
-    'groups: for _ in 0..most {
+    'groups: for _ in 0..first {
         let Some(entry) = first_entry(column, &rest)? else {
             return Ok(groups);
         };
@@ -101,8 +106,24 @@ pub(crate) fn group_found(
         groups.reserve(1)?;
         groups.push_reserved(Group { entry, answer });
     }
-    match first_entry(column, &rest)? {
-        None => Ok(groups),
-        Some(_) => Err(GroupError::TooMany),
+    let Some(_) = first_entry(column, &rest)? else {
+        return Ok(groups);
+    };
+    if first == most {
+        return Err(GroupError::TooMany);
     }
+    let others = tallied_groups(alloc, index, total, by, &rest, most - first)?;
+    add_groups(others, &mut groups)?;
+    Ok(groups)
+}
+
+/// Adds further groups.
+fn add_groups(others: Vec<Group>, groups: &mut Vec<Group>) -> Result<(), AllocError>
+    ensures { IfOk result (λ _. groups.new.items ≡ groups.old.items ++ others.items) }
+{
+    groups.reserve(others.len())?;
+    'groups: for group in others {
+        groups.push_reserved(group);
+    }
+    Ok(())
 }

@@ -7,6 +7,8 @@ mod pairs;
 mod ranking;
 mod selecting;
 mod taking;
+mod tally;
+mod tallying;
 mod tops;
 
 pub use differing::distinct;

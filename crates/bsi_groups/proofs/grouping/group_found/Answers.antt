@@ -1,5 +1,6 @@
-use Rattle.std.proofs.Common.{◌≡◌, ◌+◌, [], ◌∷◌, ◌++◌, length, map, ap, sym, subst, ◌∙◌, arith, length-append}
+use Rattle.std.proofs.Common.{◌≡◌, ◌+◌, ◌-◌, ℕ, Bool, List, [], ◌∷◌, ◌++◌, length, map, ap, sym, subst, ◌∙◌, arith, length-append}
 use Rattle.std.specs.Prelude.{◌&&◌}
+use Rattle.bsi_rows.specs.Rows.{FedRow}
 use Rattle.std.specs.List.{items_where_true}
 use Rattle.std.proofs.lemmas.List.{length-map}
 use Rattle.std.specs.Simd.Lanes.{zip2}
@@ -7,10 +8,20 @@ use Rattle.std.proofs.lemmas.Simd.{length-zip2}
 use Rattle.bsi_bits.specs.BitList.{without}
 use Rattle.bsi_shift.specs.Shifted.{shifted_entries}
 use Rattle.bsi_groups.specs.Entries.{is_entry, IsFirst, IsFirstOf}
-use Rattle.bsi_groups.specs.Groups.{entries_at, AreMore}
+use Rattle.bsi_groups.specs.Groups.{entries_at, AreGroups, AreMore, IsRefusedOver}
 use Rattle.bsi_groups.specs.declared.grouping.Group.{Group}
+use Rattle.bsi_groups.specs.declared.grouping.GroupError.{GroupError}
+use Rattle.bsi_groups.specs.declared.grouping.GroupError.TheVariants.{BadColumn, TooMany, NoMemory}
 use Rattle.bsi_groups.proofs.Grouped.{all_made, more, none_made, one_made, AreMade}
+use Rattle.bsi_groups.proofs.GroupsJoined.{joined, more_on, passed_on}
 use Rattle.bsi_groups.proofs.grouping.group_found.Goals as goal
+
+-- what is left has too many further groups, or memory was refused
+refused_on : (found rest : List Bool) (by : ℕ) (rows : List FedRow) (few most : ℕ) → (AreMore few (entries_at rest by rows) → AreMore most (entries_at found by rows))
+    → (why : GroupError) → IsRefusedOver rest by rows few why → IsRefusedOver found by rows most why
+refused_on found rest by rows few most then_so (BadColumn c) never = never
+refused_on found rest by rows few most then_so TooMany many = then_so many
+refused_on found rest by rows few most then_so NoMemory told = tt
 
 pub groups-init : goal.groups-init
 groups-init c =
@@ -59,20 +70,38 @@ groups-preserved c =
       same = ap length c.in_ok-rows.ensures.left ∙ length-zip2 without rest c.in_ok-rows.rows.bits (c.groups.invariant.same ∙ sym taken_long) ∙ c.groups.invariant.same;
     }
 
-pub returns-in-None-clause-groups : goal.returns-in-None-clause-groups
-returns-in-None-clause-groups c =
+pub returns-in_default-2-clause-groups : goal.returns-in_default-2-clause-groups
+returns-in_default-2-clause-groups c =
     let rest = c.groups.rest.bits in
-    let none = subst (IsFirstOf (items_where_true rest (shifted_entries c.column-column.result.now))) c.in-None.is c.in_ok-first_entry.ensures in
+    let none = subst (IsFirstOf (items_where_true rest (shifted_entries c.column-column.result.now))) c.in_default-2.is c.in_ok-first_entry.ensures in
     all_made c.args.total c.args.found.bits c.args.by c.args.index.now.rows c.groups.groups.items rest c.groups.invariant.made
     (subst (λ entries. items_where_true rest entries ≡ []) c.column-column.ensures.entries none)
 
-pub returns-clause-refused : goal.returns-clause-refused
-returns-clause-refused c =
+pub returns-then-first-most-clause-refused : goal.returns-then-first-most-clause-refused
+returns-then-first-most-clause-refused c =
     let rows = c.args.index.now.rows in
     let rest = c.groups.rest.bits in
     let entries = shifted_entries c.column-column.result.now in
     let first =
     subst (λ entries. IsFirst (items_where_true rest entries) c.in-Some-2.field-0) c.column-column.ensures.entries
     (subst (IsFirstOf (items_where_true rest entries)) c.in-Some-2.is c.in_ok-first_entry.ensures) in
-    subst (λ most. AreMore most (entries_at c.args.found.bits c.args.by rows)) (c.groups.invariant.count ∙ omega (arith, c.groups-test.false, c.groups.auto.counter-end))
+    subst (λ most. AreMore most (entries_at c.args.found.bits c.args.by rows)) (c.groups.invariant.count ∙ omega (arith, c.groups-test.false, c.groups.auto.counter-end, c.if-first-most.true))
     (more c.args.total c.args.found.bits c.args.by rows c.groups.groups.items rest c.groups.invariant.made c.in-Some-2.field-0 first)
+
+pub returns-in_err-others-clause-refused : goal.returns-in_err-others-clause-refused
+returns-in_err-others-clause-refused c =
+    let rows = c.args.index.now.rows in
+    let found = c.args.found.bits in
+    let groups = c.groups.groups.items in
+    let left = c.args.most - c.taken_first-first.result in
+    let all : length groups + left ≡ c.args.most = omega (arith, c.groups.invariant.count, c.groups-test.false, c.groups.auto.counter-end, c.taken_first-first.ensures.few) in
+    passed_on c.from_residual-in_err-others.result c.in_err-others.field-0.0 (IsRefusedOver found c.args.by rows c.args.most) c.from_residual-in_err-others.ensures
+    (refused_on found c.groups.rest.bits c.args.by rows left c.args.most
+    (λ more. subst (λ most. AreMore most (entries_at found c.args.by rows)) all (more_on c.args.total found c.args.by rows groups c.groups.rest.bits c.groups.invariant.made left more))
+    c.in_err-others.field-0.0 c.in_err-others.ensures.refused)
+
+pub returns-clause-groups : goal.returns-clause-groups
+returns-clause-groups c =
+    let rows = c.args.index.now.rows in
+    subst (AreGroups c.args.total c.args.found.bits c.args.by rows) (sym c.in_ok-add_groups.ensures)
+    (joined c.args.total c.args.found.bits c.args.by rows c.groups.groups.items c.groups.rest.bits c.groups.invariant.made c.in_ok-others.others.items c.in_ok-others.ensures.groups)

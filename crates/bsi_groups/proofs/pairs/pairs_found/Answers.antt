@@ -1,6 +1,5 @@
-use Rattle.std.proofs.Common.{◌≡◌, ◌+◌, ◌-◌, [], ◌∷◌, ℕ, ℤ, Bool, List, Option, Result, Ok, Err, length, map, ap, sym, subst, ◌∙◌, arith, length-append}
-use Rattle.std.specs.Prelude.{◌&&◌, IfErr}
-use Rattle.std.specs.Result.{IsErr, IsErrAnd}
+use Rattle.std.proofs.Common.{◌≡◌, ◌+◌, ◌-◌, [], ◌∷◌, ℕ, ℤ, Bool, List, Option, length, map, ap, sym, subst, ◌∙◌, arith, length-append}
+use Rattle.std.specs.Prelude.{◌&&◌}
 use Rattle.bsi_rows.specs.Rows.{FedRow}
 use Rattle.std.specs.List.{items_where_true}
 use Rattle.std.specs.Simd.Lanes.{zip2}
@@ -13,14 +12,10 @@ use Rattle.bsi_groups.specs.Groups.{rows_with, AreGroups, AreMore, IsRefusedOver
 use Rattle.bsi_groups.specs.Pairs.{all_entries_at, paired_with, AreMorePairs, IsPairRefusedOver}
 use Rattle.bsi_groups.specs.declared.grouping.GroupError.{GroupError}
 use Rattle.bsi_groups.specs.declared.grouping.GroupError.TheVariants.{BadColumn, TooMany, NoMemory}
+use Rattle.bsi_groups.proofs.GroupsJoined.{passed_on}
 use Rattle.bsi_groups.proofs.PairsMade.{all_pairs_made, more_pairs, no_pairs_made, one_pair_more, pairs_made, some_groups, taken_are, ArePairsMade}
 use Rattle.bsi_groups.proofs.PairRows.{seconds}
 use Rattle.bsi_groups.proofs.pairs.pairs_found.Goals as goal
-
--- a refusal that is passed on
-passed_on : {T : Type 0} (r : Result T GroupError) (e : GroupError) (P : GroupError → Type 0) → IsErr r × IsErrAnd r (λ given. given ≡ e) → P e → IfErr r P
-passed_on (Ok x) e P is p = tt
-passed_on (Err x) e P is p = subst P (sym is.1) p
 
 -- the rows of a first entry have too many further pairs, or memory was refused
 refused_over : (found : List Bool) (first second : ℕ) (rows : List FedRow) (e : Option ℤ) (few most : ℕ)
