@@ -1,5 +1,5 @@
 -- The rows of a found set, and their entries in two columns.
-use Rattle.std.proofs.Common.{◌≡◌, ℕ, Bool, true, false, true≢false, List, [], ◌∷◌, Option, ℤ, All, Contains, map, filter, cond, refl, ap, sym, subst, ◌∙◌}
+use Rattle.std.proofs.Common.{◌≡◌, ℕ, Bool, true, false, List, [], ◌∷◌, Option, ℤ, All, Contains, map, filter, refl, ap, sym, subst, ◌∙◌}
 use Rattle.std.specs.Prelude.{◌&&◌}
 use Rattle.std.specs.List.{items_where_true}
 use Rattle.std.specs.Simd.Lanes.{zip2}
@@ -11,6 +11,7 @@ use Rattle.bsi_groups.specs.Entries.{is_entry}
 use Rattle.bsi_groups.specs.Groups.{entries_at, rows_with}
 use Rattle.bsi_groups.specs.Pairs.{all_entries_at, entries_in}
 use Rattle.bsi_groups.proofs.Order.{entry_is, is_itself}
+use Rattle.bsi_groups.proofs.Remaining.{entries_passing, unfiltered}
 
 -- what a map makes of the items of a found set
 found_map : {X Y : Type 0} (f : X → Y) (found : List Bool) (xs : List X) → items_where_true found (map f xs) ≡ map f (items_where_true found xs)
@@ -19,25 +20,6 @@ found_map f [] (x ∷ xs) = refl
 found_map f (b ∷ found) [] = refl
 found_map f (true ∷ found) (x ∷ xs) = ap (λ ys. f x ∷ ys) (found_map f found xs)
 found_map f (false ∷ found) (x ∷ xs) = found_map f found xs
-
--- those of them that pass a test
-found_passing : {X : Type 0} (test : X → Bool) (found : List Bool) (xs : List X)
-    → items_where_true (zip2 ◌&&◌ (map test xs) found) xs ≡ filter test (items_where_true found xs)
-found_passing test [] [] = refl
-found_passing test (b ∷ found) [] = refl
-found_passing test [] (x ∷ xs) = refl
-found_passing test (true ∷ found) (x ∷ xs) = by (test x) (found_passing test found xs)
-  where
-    by : (b : Bool) → items_where_true (zip2 ◌&&◌ (map test xs) found) xs ≡ filter test (items_where_true found xs)
-        → items_where_true ((b && true) ∷ zip2 ◌&&◌ (map test xs) found) (x ∷ xs) ≡ cond b (x ∷ filter test (items_where_true found xs)) (filter test (items_where_true found xs))
-    by true rest = ap (λ xs. x ∷ xs) rest
-    by false rest = rest
-found_passing test (false ∷ found) (x ∷ xs) = by (test x) (found_passing test found xs)
-  where
-    by : (b : Bool) → items_where_true (zip2 ◌&&◌ (map test xs) found) xs ≡ filter test (items_where_true found xs)
-        → items_where_true ((b && false) ∷ zip2 ◌&&◌ (map test xs) found) (x ∷ xs) ≡ filter test (items_where_true found xs)
-    by true rest = rest
-    by false rest = rest
 
 module _ {X : Type 0} where
   -- what holds of each that a map makes
@@ -50,16 +32,6 @@ module _ {X : Type 0} where
   both P Q R then_so [] all others = All-nil R
   both P Q R then_so (x ∷ xs) all others =
       All-cons R x xs (then_so x (All-head P x xs all) (All-head Q x xs others)) (both P Q R then_so xs (All-tail P x xs all) (All-tail Q x xs others))
-
-  -- what holds of all that pass a test
-  pub unpassed : (P : X → Type 0) (test : X → Bool) (xs : List X) → All P (filter test xs) → All (λ x. test x ≡ true → P x) xs
-  unpassed P test [] all = All-nil (λ x. test x ≡ true → P x)
-  unpassed P test (x ∷ xs) all = by (test x) refl all (unpassed P test xs)
-    where
-      by : (b : Bool) → test x ≡ b → All P (cond b (x ∷ filter test xs) (filter test xs)) → (All P (filter test xs) → All (λ x. test x ≡ true → P x) xs)
-          → All (λ x. test x ≡ true → P x) (x ∷ xs)
-      by true is all rest = All-cons (λ x. test x ≡ true → P x) x xs (λ _. All-head P x (filter test xs) all) (rest (All-tail P x (filter test xs) all))
-      by false is all rest = All-cons (λ x. test x ≡ true → P x) x xs (λ passes. absurd (true≢false (sym passes ∙ is))) (rest all)
 
 -- a row's entry in a column
 abbrev pub entry_in : ℕ → FedRow → Option ℤ
@@ -89,7 +61,7 @@ module _ (found : List Bool) (first second : ℕ) (rows : List FedRow) where
     seconds_are =
         found_map (entry_in second) (rows_with found first rows e) rows
         ∙ ap (λ bits. map (entry_in second) (items_where_true (zip2 ◌&&◌ bits found) rows)) (map-map (is_entry e) (entry_in first) rows)
-        ∙ ap (map (entry_in second)) (found_passing has found rows)
+        ∙ ap (map (entry_in second)) (entries_passing has rows found)
 
     -- what holds of them holds of each such row's
     pub of_seconds : (P : Option ℤ → Type 0) → All P seconds → All (λ row. entry_in first row ≡ e → P (entry_in second row)) found_rows
@@ -97,7 +69,7 @@ module _ (found : List Bool) (first second : ℕ) (rows : List FedRow) where
     of_seconds P all =
         All-weaker (λ row. has row ≡ true → P (entry_in second row)) (λ row. entry_in first row ≡ e → P (entry_in second row))
         (λ row holds is. holds (ap (is_entry e) is ∙ is_itself e)) found_rows
-        (unpassed (λ row. P (entry_in second row)) has found_rows (unmapped P (entry_in second) (filter has found_rows) (subst (All P) seconds_are all)))
+        (unfiltered (λ row. P (entry_in second row)) has found_rows (unmapped P (entry_in second) (filter has found_rows) (subst (All P) seconds_are all)))
 
     -- a found row has both
     pub pair_there : All (λ y. Contains (all_entries_at found (first ∷ second ∷ []) rows) (e ∷ y ∷ [])) seconds

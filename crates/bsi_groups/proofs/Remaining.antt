@@ -12,7 +12,7 @@ use Rattle.bsi_groups.specs.Entries.{comes_before, is_entry, IsFirst}
 use Rattle.bsi_groups.proofs.Order.{after_more, behind, comes_after, entry_is, not_before_itself}
 
 -- the rows of a found set whose entry passes a test
-abbrev pub passing : (Option ℤ → Bool) → List (Option ℤ) → List Bool → List Bool
+abbrev pub passing : {X : Type 0} → (X → Bool) → List X → List Bool → List Bool
 passing test entries found = zip2 ◌&&◌ (map test entries) found
 
 -- no entry is taken yet
@@ -23,7 +23,7 @@ none_taken (x ∷ entries) [] same = absurd (omega arith)
 none_taken (x ∷ entries) (f ∷ found) same = ap (λ fs. f ∷ fs) (none_taken entries found (omega arith))
 
 -- the entries of such rows
-pub entries_passing : (test : Option ℤ → Bool) (entries : List (Option ℤ)) (found : List Bool)
+pub entries_passing : {X : Type 0} (test : X → Bool) (entries : List X) (found : List Bool)
     → items_where_true (passing test entries found) entries ≡ filter test (items_where_true found entries)
 entries_passing test [] [] = refl
 entries_passing test [] (f ∷ found) = refl
@@ -42,7 +42,7 @@ entries_passing test (x ∷ entries) (false ∷ found) = by (test x) (entries_pa
     by false rest = rest
 
 -- what holds of all that pass a test
-pub unfiltered : (P : Option ℤ → Type 0) (test : Option ℤ → Bool) (xs : List (Option ℤ)) → All P (filter test xs) → All (λ x. test x ≡ true → P x) xs
+pub unfiltered : {X : Type 0} (P : X → Type 0) (test : X → Bool) (xs : List X) → All P (filter test xs) → All (λ x. test x ≡ true → P x) xs
 unfiltered P test [] all = All-nil (λ x. test x ≡ true → P x)
 unfiltered P test (x ∷ xs) all = by (test x) refl all (unfiltered P test xs)
   where

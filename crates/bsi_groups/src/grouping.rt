@@ -112,18 +112,7 @@ pub(crate) fn group_found(
     if first == most {
         return Err(GroupError::TooMany);
     }
-    let others = tallied_groups(alloc, index, total, by, &rest, most - first)?;
-    add_groups(others, &mut groups)?;
+    let mut others = tallied_groups(alloc, index, total, by, &rest, most - first)?;
+    groups.append(&mut others)?;
     Ok(groups)
-}
-
-/// Adds further groups.
-fn add_groups(others: Vec<Group>, groups: &mut Vec<Group>) -> Result<(), AllocError>
-    ensures { IfOk result (λ _. groups.new.items ≡ groups.old.items ++ others.items) }
-{
-    groups.reserve(others.len())?;
-    'groups: for group in others {
-        groups.push_reserved(group);
-    }
-    Ok(())
 }

@@ -1,16 +1,13 @@
-use Rattle.std.proofs.Common.{◌≡◌, ℕ, false, arith, ◌++◌, ◌∷◌, [], pos, get_or, w64, rules, ap, sym, ◌∙◌}
+use Rattle.std.proofs.Common.{◌++◌, ◌∷◌, [], pos, get_or, w64, rules, ap, sym, ◌∙◌}
 use Rattle.std.specs.Prelude.{◌==◌}
-use Rattle.std.proofs.lemmas.Bool.Decides.{nat_tests}
 use Rattle.std.proofs.lemmas.Int.{to_z-of_z}
 use Rattle.std.proofs.lemmas.List.{append-nil, append_assoc}
 use Rattle.std.proofs.lemmas.Nat.Bits.{shr_and_one}
 use Rattle.bsi_groups.specs.Replies.{block_numbers}
 use Rattle.bsi_groups.proofs.DistinctNumbers.{no_numbers, with_number, without_number}
+use Rattle.bsi_groups.proofs.Tallied.{not_one}
 use Rattle.bsi_groups.proofs.differing.push_block.Goals.{then-rows-r-eq1+in_ok-push, else-rows-r-eq1}
 use Rattle.bsi_groups.proofs.differing.push_block.Goals as goal
-
-no_bit : {n : ℕ} → (n ≡ 1 → ⊥) → (n == 1) ≡ false
-no_bit other = grind (arith, nat_tests)
 
 pub rows-init : goal.rows-init
 rows-init c = sym (ap (λ ns. c.args.numbers.now.items ++ ns) (no_numbers c.args.rows c.args.block.now) ∙ append-nil c.args.numbers.now.items)
@@ -26,5 +23,5 @@ rows-preserved c =
           ∙ ap (λ ns. c.args.numbers.now.items ++ ns) (sym (with_number c.args.rows c.args.block.now r (sym (ap (λ b. b == 1) (shr_and_one c.args.rows r)) ∙ ap (λ b. b == 1) w.if-rows-r-eq1.true)))
       | else-rows-r-eq1 w ↦
           ap (λ v. v.items) w.numbers-is ∙ c.rows.invariant
-          ∙ ap (λ ns. c.args.numbers.now.items ++ ns) (sym (without_number c.args.rows c.args.block.now r (sym (ap (λ b. b == 1) (shr_and_one c.args.rows r)) ∙ no_bit w.if-rows-r-eq1.false)))
+          ∙ ap (λ ns. c.args.numbers.now.items ++ ns) (sym (without_number c.args.rows c.args.block.now r (sym (ap (λ b. b == 1) (shr_and_one c.args.rows r)) ∙ not_one w.if-rows-r-eq1.false)))
     ]

@@ -103,5 +103,5 @@ returns-in_err-others-clause-refused c =
 pub returns-clause-groups : goal.returns-clause-groups
 returns-clause-groups c =
     let rows = c.args.index.now.rows in
-    subst (AreGroups c.args.total c.args.found.bits c.args.by rows) (sym c.in_ok-add_groups.ensures)
+    subst (AreGroups c.args.total c.args.found.bits c.args.by rows) (sym c.in_ok-append.ensures.items)
     (joined c.args.total c.args.found.bits c.args.by rows c.groups.groups.items c.groups.rest.bits c.groups.invariant.made c.in_ok-others.others.items c.in_ok-others.ensures.groups)
