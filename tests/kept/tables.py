@@ -1,5 +1,6 @@
 """Random tables: a schema, row files and questions, and the plain lists of the rows that each segment of their kept index has."""
 
+import copy
 import itertools
 import random
 from math import prod
@@ -25,16 +26,78 @@ def column_record(chance, name):
     return f"column,{name},{form},{' '.join(map(str, sizes))}{offset}\n"
 
 
-def answer(machine, record):
-    """Returns the line that answers a question of a kept index: a query's, or a rank's."""
-    if record[0] != b"rank":
-        return files_model.answer(machine, record)
-    place = machine.position(record[1]) if len(record) > 3 and record[2].isdigit() else None
-    places = None if place is None else script_model.selected(machine, record[3:])
-    if places is None:
+def numbers_at(machine, name, fields):
+    """Returns the rows that a predicate selects, and the place of a column of them, or None."""
+    place = machine.position(name)
+    places = None if place is None else script_model.selected(machine, fields)
+    return None if places is None else (place, [machine.indexed[at] for at in places])
+
+
+def rank(machine, name, rank, *fields):
+    """Returns the line of a rank."""
+    asked = numbers_at(machine, name, fields) if rank.isdigit() else None
+    if asked is None:
         return files_model.BAD
-    numbers = sorted(row[place] for _, row in map(machine.indexed.__getitem__, places) if row[place] is not None)
-    return b"".join(b"value %d" % number for number in numbers[int(record[2]) :][:1]) or b"none"
+    place, rows = asked
+    numbers = sorted(row[place] for _, row in rows if row[place] is not None)
+    return b"".join(b"value %d" % number for number in numbers[int(rank) :][:1]) or b"none"
+
+
+def distinct(machine, name, *fields):
+    """Returns the line that tells how many different numbers there are."""
+    asked = numbers_at(machine, name, fields)
+    if asked is None:
+        return files_model.BAD
+    place, rows = asked
+    return b"count %d" % len({row[place] for _, row in rows} - {None})
+
+
+def first_rows(sign):
+    """Returns what makes the line of the first rows, where these have the greatest sign times number. It needs rows of one feeder."""
+
+    def line(machine, name, most, *fields):
+        asked = numbers_at(machine, name, fields) if most.isdigit() else None
+        if asked is None:
+            return files_model.BAD
+        place, rows = asked
+        kept = {id(row) for row in rows}
+        numbered = [(number, row[1][place]) for number, row in enumerate(machine.indexed) if id(row) in kept and row[1][place] is not None]
+        numbered.sort(key=lambda row: -sign * row[1])
+        return b"".join([b"top", *(b" 0:%d=%d" % row for row in numbered[: int(most)])])
+
+    return line
+
+
+def groups(machine, name, *query):
+    """Returns the line of a query over each group."""
+    by = machine.position(name)
+    if by is None or query[:1] == (b"list",) or answer(machine, list(query)) == files_model.BAD:
+        return files_model.BAD
+    # (a copy of the machine for each group, whose rows are those that have its entry)
+    part = copy.copy(machine)
+    told = []
+    selected = numbers_at(machine, name, query[PREDICATE_AT.get(query[0], 2) :])[1]
+    entries = {row[by] for _, row in selected}
+    for entry in sorted(entries - {None}) + [None] * (None in entries):
+        part.indexed = [row for row in machine.indexed if row[1][by] == entry]
+        told.append(b" %s=%s" % (b"null" if entry is None else b"%d" % entry, answer(part, list(query)).split()[-1]))
+    return b"".join([b"groups", *told])
+
+
+REPORTS = {b"rank": rank, b"distinct": distinct, b"top": first_rows(1), b"bottom": first_rows(-1), b"by": groups}
+# Where the predicate begins in a query, if not behind a column.
+PREDICATE_AT = {b"count": 1, b"rank": 3}
+
+
+def answer(machine, record):
+    """Returns the line that answers a question of a kept index."""
+    report = REPORTS.get(record[0])
+    if not report:
+        return files_model.answer(machine, record)
+    try:
+        return report(machine, *record[1:])
+    except TypeError:  # a field is missing
+        return files_model.BAD
 
 
 class Table:

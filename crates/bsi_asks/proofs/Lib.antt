@@ -1,10 +1,13 @@
 pub mod Asking
 mod Certain
+mod Listed
 pub mod Mixing
 pub mod Ordered
 pub mod Passing
 mod Perms
 mod Places
+mod ReportTexts
+mod Reporting
 mod Rising
 mod Selecting
 pub mod Showing

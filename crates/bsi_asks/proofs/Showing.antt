@@ -8,7 +8,7 @@ use Rattle.bsi_rows.specs.declared.errors.AskError.{AskError}
 use Rattle.bsi_rows.specs.declared.errors.AskError.TheVariants as ask
 use Rattle.bsi_rows.specs.declared.query.Answer.{Answer}
 use Rattle.bsi_rows.specs.declared.query.Query.{Query}
-use Rattle.bsi_asks.specs.AskLines.{IsAskLine, IsArrangedReply}
+use Rattle.bsi_asks.specs.AskLines.{IsAskLine, IsArrangedReply, IsQueryLine}
 use Rattle.bsi_asks.specs.declared.wording.Wording.TheVariants.{Queries}
 use Rattle.bsi_asks.specs.Matching.{AreMatched}
 use Rattle.bsi_asks.specs.Mixes.{file_by_file, AreAlike, IsMixOf}
@@ -23,15 +23,19 @@ reply_too schema a b alike query (Ok answer) is = (is.0, shown_too a b alike que
 reply_too schema a b alike query (Err ask.NoMemory) is = is
 reply_too schema a b alike query (Err (ask.BadColumn c)) is = is
 
-line_too : (schema : Declared) (a b : List FedRow) → AreAlike a b → (fields : List Field) (line : List ℕ) → IsAskLine Queries schema a fields line → IsAskLine Queries schema b fields line
-line_too schema a b alike fields line (inl none) = inl none
-line_too schema a b alike fields line (inr asks) = inr (record {
+query_too : (schema : Declared) (a b : List FedRow) → AreAlike a b → (fields : List Field) (line : List ℕ) → IsQueryLine Queries schema a fields line → IsQueryLine Queries schema b fields line
+query_too schema a b alike fields line (inl none) = inl none
+query_too schema a b alike fields line (inr asks) = inr (record {
   query = asks.query;
   reply = asks.reply;
   asked = asks.asked;
   lawful = reply_too schema a b alike asks.query asks.reply asks.lawful;
   line_is = asks.line_is;
 })
+
+line_too : (schema : Declared) (a b : List FedRow) → AreAlike a b → (fields : List Field) (line : List ℕ) → IsAskLine Queries schema a fields line → IsAskLine Queries schema b fields line
+line_too schema a b alike fields line (inl report) = absurd report.asked
+line_too schema a b alike fields line (inr is) = inr (is.0, query_too schema a b alike fields line is.1)
 
 each_too : (schema : Declared) (a b : List FedRow) → AreAlike a b → (records : List (List Field)) (lines : List (List ℕ)) → AreMatched (IsAskLine Queries schema a) records lines
     → AreMatched (IsAskLine Queries schema b) records lines

@@ -14,7 +14,9 @@ use Rattle.bsi_rows.specs.declared.query.Answer.{Answer}
 use Rattle.bsi_rows.specs.declared.query.Answer.TheVariants.{Rows as rows_answer}
 use Rattle.bsi_rows.specs.declared.query.Query.{Query}
 use Rattle.bsi_rows.specs.declared.query.Total.TheVariants as total
-use Rattle.bsi_asks.specs.Wordings.{AsksFor}
+use Rattle.bsi_asks.specs.ReportLines.{IsReportLine}
+use Rattle.bsi_asks.specs.Wordings.{AsksFor, AsksReport}
+use Rattle.bsi_asks.specs.declared.reports.Report.{Report}
 use Rattle.bsi_asks.specs.declared.wording.Wording.{Wording}
 
 -- the answer to a query as its line has it: rows stand by feeder and number
@@ -31,7 +33,7 @@ IsArrangedReply schema rows query (Ok answer) =
 IsArrangedReply schema rows query (Err refused) =
     IsReply schema rows query (Err refused) × (CountsConjunction query → refused ≢ NoMemory)
 
--- a record that asks nothing has the line `bad`
+-- a record that asks no query has the line `bad`
 pub record AsksNothing (wording : Wording) (schema : Declared) (fields : List Field) (line : List ℕ) : Type 0 where
   pub none : (query : Query) → AsksFor wording schema fields query → ⊥
   pub line_is : line ≡ bad_line
@@ -45,5 +47,21 @@ pub record Asks (wording : Wording) (schema : Declared) (rows : List FedRow) (fi
   pub lawful : IsArrangedReply schema rows query reply
   pub line_is : line ≡ ask_line reply
 
+-- one that asks for a report has the line of its reply
+pub record Reports (wording : Wording) (schema : Declared) (rows : List FedRow) (fields : List Field) (line : List ℕ)
+    : Type 0 where
+  pub report : Report
+  pub asked : AsksReport wording schema fields report
+  pub line_is : IsReportLine schema rows report line
+
+-- no report is asked for
+abbrev pub NoReport : Wording → Declared → List Field → Type 0
+NoReport wording schema fields = (report : Report) → AsksReport wording schema fields report → ⊥
+
+-- the line of a record that asks for no report
+abbrev pub IsQueryLine : Wording → Declared → List FedRow → List Field → List ℕ → Type 0
+IsQueryLine wording schema rows fields line = AsksNothing wording schema fields line ⊎ Asks wording schema rows fields line
+
 abbrev pub IsAskLine : Wording → Declared → List FedRow → List Field → List ℕ → Type 0
-IsAskLine wording schema rows fields line = AsksNothing wording schema fields line ⊎ Asks wording schema rows fields line
+IsAskLine wording schema rows fields line =
+    Reports wording schema rows fields line ⊎ (NoReport wording schema fields × IsQueryLine wording schema rows fields line)

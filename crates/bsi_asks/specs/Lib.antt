@@ -3,6 +3,8 @@ pub mod FaultTexts
 pub mod Faults
 pub mod Matching
 pub mod Mixes
+pub mod ReportLines
+pub mod Reports
 pub mod RowFiles
 pub mod Runs
 pub mod Wordings

@@ -13,12 +13,13 @@ ghost use Rattle.bsi_asks.specs.Faults.{is_late};
 ghost use Rattle.bsi_rows.specs.Answers.{IsAnswer};
 ghost use Rattle.bsi_rows.specs.Rows.{FedRow};
 ghost use Rattle.bsi_rows.specs.declared.query.Query.{Query};
-ghost use Rattle.bsi_asks.specs.AskLines.{IsAskLine, IsArrangedAnswer};
+ghost use Rattle.bsi_asks.specs.AskLines.{IsArrangedAnswer, IsAskLine, IsQueryLine};
 ghost use Rattle.bsi_asks.specs.Matching.{AreMatched};
 ghost use Rattle.bsi_asks.specs.Runs.{fed_lines, AreLines};
 ghost use Rattle.bsi_asks.specs.Writing.{AreOut, WritesAll, WritesFirst};
 ghost use Rattle.bsi_rows.specs.Table.{max_feeders};
 
+use crate::report_lines::tell_report;
 use crate::{Fed, FilesFault, NoMemory, Which, Wording, file_number};
 use bsi_reading::{RecordSource, write_bytes};
 use bsi_records::{write_bad, write_fed, write_reply};
@@ -146,14 +147,31 @@ fn answer(
     ensures line { OnOk result
         (IsAskLine wording table.now.schema table.now.rows (fields_of fields.now) line.new.items) }
 {
+    if let Some(report) = wording.read_report(alloc, table.schema(), fields)? {
+        tell_report(alloc, table, &report, line)?;
+        return Ok(());
+    }
+    answer_query(alloc, table, wording, fields, line)?;
+    Ok(())
+}
+
+/// Makes `line` the line that answers a record that asks for no report.
+fn answer_query(
+    alloc: Global,
+    table: &Index,
+    wording: Wording,
+    fields: &ByteRecord,
+    line: &mut Vec<u8>,
+) -> Result<(), NoMemory>
+    ensures { OnOk result (IsQueryLine wording table.now.schema table.now.rows
+        (fields_of fields.now) line.new.items) }
+{
     line.clear();
     let Some(query) = wording.read(alloc, table.schema(), fields)? else {
-        write_bad(line)?;
-        return Ok(());
+        return write_bad(line);
     };
     let reply = table.ask(&query).map(|answer| arranged(alloc, answer));
-    write_reply(&Reply::Answered(reply), line)?;
-    Ok(())
+    write_reply(&Reply::Answered(reply), line)
 }
 
 /// Arranges the rows of an answer in order of feeder, and then of their numbers.

@@ -6,10 +6,14 @@ mod asks;
 mod faults;
 mod fed;
 pub mod laws;
+mod report_lines;
+mod reports;
 mod wording;
 
 pub use asks::{answer_all, answer_asks, tell_feds};
 pub use faults::{FaultText, FilesFault, MAX_FAULT_TEXT, Which};
 pub use fed::{Fed, file_number};
+pub use report_lines::MAX_GROUPS;
+pub use reports::{Report, read_report};
 pub use std::alloc::AllocError as NoMemory;
 pub use wording::Wording;

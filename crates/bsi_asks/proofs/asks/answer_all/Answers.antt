@@ -2,7 +2,7 @@ use Rattle.std.proofs.Common.{map, rules}
 use Rattle.std.specs.Prelude.{◌≢◌, IfErr}
 use Rattle.bsi_asks.specs.RowFiles.{fed_counts}
 use Rattle.bsi_asks.specs.Runs.{fed_lines, AreLines}
-use Rattle.bsi_asks.specs.Writing.{AreOut, WritesAll, WritesFirst}
+use Rattle.bsi_asks.specs.Writing.{AreOut, WritesFirst}
 use Rattle.bsi_asks.specs.declared.faults.FilesFault.TheVariants.{TooLong}
 use Rattle.bsi_asks.specs.declared.faults.Which.TheVariants.{AsksFile}
 use Rattle.bsi_asks.proofs.Asking.{head_part, headed_all, headed_part}

@@ -1,0 +1,39 @@
+-- The lines of reports.
+use Rattle.std.proofs.Common.{◌≡◌, ℕ, List, [], ◌++◌, None, Result, Ok, Err, length, map, ap, ◌∙◌}
+use Rattle.bsi_groups.specs.Groups.{missing_grouped, selected_by, AreGroups, IsGroupRefusal}
+use Rattle.bsi_groups.specs.declared.grouping.Group.{Group}
+use Rattle.bsi_groups.specs.declared.grouping.GroupError.{GroupError}
+use Rattle.bsi_groups.specs.Replies.{IsReplyOn}
+use Rattle.bsi_groups.specs.Tops.{AreTop}
+use Rattle.bsi_groups.specs.declared.tops.End.{End}
+use Rattle.bsi_groups.specs.declared.tops.TopRow.{TopRow}
+use Rattle.bsi_records.specs.Lines.{ask_line}
+use Rattle.bsi_rows.specs.Rows.{column_of, feeders_of, holds, row_entries, FedRow}
+use Rattle.bsi_rows.specs.declared.errors.AskError.{AskError}
+use Rattle.bsi_rows.specs.declared.query.Pred.{Pred}
+use Rattle.bsi_rows.specs.declared.query.Query.{Query}
+use Rattle.bsi_schema.specs.Columns.{Declared}
+use Rattle.bsi_asks.specs.ReportLines.{groups_line, max_groups, top_line, IsReportLine}
+use Rattle.bsi_asks.specs.declared.reports.Report.TheVariants.{Groups, Top}
+
+module _ (schema : Declared) (rows : List FedRow) (query : Query) (by : ℕ) (before line : List ℕ) (empty : before ≡ []) where
+  pub groups_told : (groups : List Group) → missing_grouped (length schema.columns) query by ≡ None → AreGroups query.total (selected_by query rows) by rows groups
+      → line ≡ before ++ groups_line (Ok groups) → IsReportLine schema rows (Groups query by) line
+  groups_told groups there are is = (Ok groups, (there, are), is ∙ ap (λ b. b ++ groups_line (Ok groups)) empty)
+
+  pub no_groups_told : (why : GroupError) → IsGroupRefusal schema rows query by max_groups why → line ≡ before ++ groups_line (Err why)
+      → IsReportLine schema rows (Groups query by) line
+  no_groups_told why refused is = (Err why, refused, is ∙ ap (λ b. b ++ groups_line (Err why)) empty)
+
+module _ (schema : Declared) (rows : List FedRow) (end : End) (c most : ℕ) (pred : Pred) (before line : List ℕ) (empty : before ≡ []) where
+  abbrev Is : Result (List TopRow) AskError → Type 0
+  Is reply =
+      IsReplyOn schema c pred (λ listed. AreTop end most (map (λ row. holds pred (row_entries row)) rows) (column_of rows c) listed) reply
+
+  pub top_told : (listed : List TopRow) (feeders : List ℕ) → Is (Ok listed) → feeders ≡ feeders_of rows → line ≡ before ++ top_line feeders (Ok listed)
+      → IsReportLine schema rows (Top end c most pred) line
+  top_told listed feeders is from told =
+      (Ok listed, is, told ∙ ap (λ b. b ++ top_line feeders (Ok listed)) empty ∙ ap (λ fs. top_line fs (Ok listed)) from)
+
+  pub no_top_told : (why : AskError) → Is (Err why) → line ≡ before ++ ask_line (Err why) → IsReportLine schema rows (Top end c most pred) line
+  no_top_told why is told = (Err why, is, told ∙ ap (λ b. b ++ ask_line (Err why)) empty)

@@ -1,0 +1,87 @@
+-- The line that answers a report.
+use Rattle.std.specs.Prelude.{◌≡◌, ◌<◌, ℕ, ℤ, All, List, [], ◌++◌, Option, Some, None, Result, Ok, Err, codes, decimal, length, map, slice_index}
+use Rattle.std.specs.Fmt.{signed_decimal}
+use Rattle.std.specs.List.{flat_map}
+use Rattle.std.specs.Ordering.{int_eq}
+use Rattle.std.specs.Set.{distinct_count}
+use Rattle.bsi_groups.specs.Groups.{missing_grouped, selected_by, AreGroups, IsGroupRefusal}
+use Rattle.bsi_groups.specs.Replies.{selected_numbers, IsReplyOn}
+use Rattle.bsi_groups.specs.Tops.{AreTop}
+use Rattle.bsi_groups.specs.declared.grouping.Group.{Group}
+use Rattle.bsi_groups.specs.declared.grouping.GroupError.{GroupError}
+use Rattle.bsi_groups.specs.declared.grouping.GroupError.TheVariants as group
+use Rattle.bsi_groups.specs.declared.tops.TopRow.{TopRow}
+use Rattle.bsi_records.specs.Lines.{ask_line, bad_line, no_memory_line}
+use Rattle.bsi_rows.specs.Numbering.{number_within}
+use Rattle.bsi_rows.specs.Rows.{column_of, feeders_of, holds, row_entries, FedRow}
+use Rattle.bsi_rows.specs.declared.errors.AskError.{AskError}
+use Rattle.bsi_rows.specs.declared.query.Answer.{Answer}
+use Rattle.bsi_rows.specs.declared.query.Answer.TheVariants.{Count, Sum, Value, Rows}
+use Rattle.bsi_rows.specs.declared.query.Query.{Query}
+use Rattle.bsi_schema.specs.Columns.{Declared}
+use Rattle.bsi_asks.specs.declared.reports.Report.{Report}
+use Rattle.bsi_asks.specs.declared.reports.Report.TheVariants.{Groups, Top, Distinct}
+
+-- the most groups that are listed
+abbrev pub max_groups : ℕ
+max_groups = 65536
+
+-- the entry that the rows of a group have
+abbrev pub entry_text : Option ℤ → List ℕ
+entry_text None = codes "null"
+entry_text (Some number) = signed_decimal number
+
+-- the number of an answer, or that it is none; no group lists rows
+abbrev pub value_text : Answer → List ℕ
+value_text (Count count) = decimal count
+value_text (Sum sum) = signed_decimal sum
+value_text (Value None) = codes "none"
+value_text (Value (Some number)) = signed_decimal number
+value_text (Rows listed) = []
+
+-- a group: its entry, and its answer
+abbrev pub group_text : Group → List ℕ
+group_text group = codes " " ++ entry_text group.entry ++ codes "=" ++ value_text group.answer
+
+abbrev pub groups_line : Result (List Group) GroupError → List ℕ
+groups_line (Ok groups) = codes "groups" ++ flat_map group_text groups ++ codes "\n"
+groups_line (Err group.TooMany) = codes "more than 65536 groups\n"
+groups_line (Err group.NoMemory) = no_memory_line
+groups_line (Err (group.BadColumn c)) = bad_line
+
+-- a row, of rows that came from these feeders: its feeder, its number among the feeder's, and its number in the column
+abbrev pub row_text : List ℕ → TopRow → List ℕ
+row_text feeders row =
+    codes " " ++ decimal (slice_index feeders row.row) ++ codes ":" ++ decimal (number_within feeders row.row) ++ codes "="
+    ++ signed_decimal row.number
+
+abbrev pub top_line : List ℕ → Result (List TopRow) AskError → List ℕ
+top_line feeders (Ok rows) = codes "top" ++ flat_map (row_text feeders) rows ++ codes "\n"
+top_line feeders (Err refused) = ask_line (Err refused)
+
+-- each row is one of the first n
+abbrev pub AreWithin : ℕ → List TopRow → Type 0
+AreWithin n rows = All (λ row. row.row < n) rows
+
+abbrev pub count_line : Result ℕ AskError → List ℕ
+count_line (Ok count) = ask_line (Ok (Count count))
+count_line (Err refused) = ask_line (Err refused)
+
+-- the reply to a query for groups: at most so many, or why there are none
+abbrev pub IsGrouped : Declared → List FedRow → Query → ℕ → Result (List Group) GroupError → Type 0
+IsGrouped schema rows query by (Ok groups) =
+    (missing_grouped (length schema.columns) query by ≡ None) × AreGroups query.total (selected_by query rows) by rows groups
+IsGrouped schema rows query by (Err why) = IsGroupRefusal schema rows query by max_groups why
+
+-- the line has the reply to this report over these rows
+abbrev pub IsReportLine : Declared → List FedRow → Report → List ℕ → Type 0
+IsReportLine schema rows (Groups query by) line =
+    (reply : Result (List Group) GroupError) × IsGrouped schema rows query by reply × (line ≡ groups_line reply)
+IsReportLine schema rows (Top end c most pred) line =
+    (reply : Result (List TopRow) AskError)
+    × IsReplyOn schema c pred (λ listed. AreTop end most (map (λ row. holds pred (row_entries row)) rows) (column_of rows c) listed) reply
+    × (line ≡ top_line (feeders_of rows) reply)
+IsReportLine schema rows (Distinct c pred) line =
+    (reply : Result ℕ AskError)
+    × IsReplyOn schema c pred (λ count. count ≡ distinct_count int_eq (selected_numbers c pred rows)) reply
+    × (line ≡ count_line reply)

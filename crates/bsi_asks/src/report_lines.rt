@@ -1,0 +1,175 @@
+//! The lines that answer reports.
+
+ghost use Rattle.std.specs.Prelude.{◌≡◌, ◌<◌, ◌++◌, OnOk, Ok, Err, count_by, length, nat_eq};
+ghost use Rattle.std.specs.List.{flat_map};
+ghost use Rattle.bsi_records.specs.Lines.{ask_line};
+ghost use Rattle.bsi_asks.specs.ReportLines.{entry_text, group_text, groups_line, row_text, top_line, value_text, AreWithin, IsReportLine};
+
+use crate::NoMemory;
+use crate::reports::Report;
+use bsi_groups::{Group, GroupError, TopRow, distinct, group_by, top};
+use bsi_records::{write_bad, write_reply};
+use bsi_rows::{AskError, Reply};
+use bsi_table::{Answer, Index};
+use itoa::{Buffer, Integer};
+use std::alloc::Global;
+
+/// The most groups that a report lists.
+pub const MAX_GROUPS: usize = 65_536;
+
+/// Makes `line` the line that answers a report over the rows of an index.
+pub(crate) fn tell_report(
+    alloc: Global,
+    table: &Index,
+    report: &Report,
+    line: &mut Vec<u8>,
+) -> Result<(), NoMemory>
+    ensures { OnOk result
+        (IsReportLine table.now.schema table.now.rows report.now line.new.items) }
+{
+    line.clear();
+    match report {
+        Report::Groups(query, by) => match group_by(alloc, table, query, *by, MAX_GROUPS) {
+            Ok(groups) => write_groups(&groups, line),
+            Err(refused) => write_no_groups(refused, line),
+        },
+        Report::Top(end, c, most, pred) => match top(alloc, table, *c, *most as usize, *end, pred) {
+            Ok(rows) => write_top(&rows, table.row_feeders(), line),
+            Err(refused) => write_refused(refused, line),
+        },
+        Report::Distinct(c, pred) => {
+            let counted = distinct(alloc, table, *c, pred);
+            write_reply(
+                &Reply::Answered(counted.map(|count| Answer::Count(count))),
+                line,
+            )
+        }
+    }
+}
+
+/// Appends the line of a refusal.
+fn write_refused(refused: AskError, line: &mut Vec<u8>) -> Result<(), NoMemory>
+    ensures { OnOk result (line.new.items ≡ line.old.items ++ ask_line (Err refused)) }
+{
+    write_reply(&Reply::Answered(Err(refused)), line)
+}
+
+/// Appends the line of groups.
+fn write_groups(groups: &[Group], line: &mut Vec<u8>) -> Result<(), NoMemory>
+    ensures { OnOk result (line.new.items ≡ line.old.items ++ groups_line (Ok groups.now)) }
+{
+    line.extend_from_slice(b"groups")?;
+    write_each_group(groups, line)?;
+    line.extend_from_slice(b"\n")
+}
+
+/// Appends the line that tells why there are no groups.
+fn write_no_groups(refused: GroupError, line: &mut Vec<u8>) -> Result<(), NoMemory>
+    ensures { OnOk result (line.new.items ≡ line.old.items ++ groups_line (Err refused)) }
+{
+    match refused {
+        GroupError::TooMany => line.extend_from_slice(b"more than 65536 groups\n"),
+        GroupError::NoMemory => line.extend_from_slice(b"no memory\n"),
+        GroupError::BadColumn(_) => write_bad(line),
+    }
+}
+
+/// Appends groups, each with a space before it.
+fn write_each_group(groups: &[Group], line: &mut Vec<u8>) -> Result<(), NoMemory>
+    ensures { OnOk result (line.new.items
+        ≡ line.old.items ++ flat_map group_text groups.now) }
+{
+    'groups: for group in groups {
+        write_group(group, line)?;
+    }
+    Ok(())
+}
+
+/// Appends a space, the entry of a group, and its answer.
+fn write_group(group: &Group, line: &mut Vec<u8>) -> Result<(), NoMemory>
+    ensures { OnOk result (line.new.items ≡ line.old.items ++ group_text group.now) }
+{
+    line.extend_from_slice(b" ")?;
+    write_entry(group.entry, line)?;
+    line.extend_from_slice(b"=")?;
+    write_value(&group.answer, line)
+}
+
+/// Appends the entry of a group.
+fn write_entry(entry: Option<i64>, line: &mut Vec<u8>) -> Result<(), NoMemory>
+    ensures { OnOk result (line.new.items ≡ line.old.items ++ entry_text entry) }
+{
+    match entry {
+        None => line.extend_from_slice(b"null"),
+        Some(number) => write_number(number, line),
+    }
+}
+
+/// Appends the number of an answer, or that it is none. An answer that lists rows has no text.
+fn write_value(answer: &Answer, line: &mut Vec<u8>) -> Result<(), NoMemory>
+    ensures { OnOk result (line.new.items ≡ line.old.items ++ value_text answer.now) }
+{
+    match answer {
+        Answer::Count(count) => write_number(*count, line),
+        Answer::Sum(sum) => write_number(*sum, line),
+        Answer::Value(None) => line.extend_from_slice(b"none"),
+        Answer::Value(Some(number)) => write_number(*number, line),
+        Answer::Rows(_) => Ok(()),
+    }
+}
+
+/// Appends a number.
+fn write_number<I: Integer>(number: I, line: &mut Vec<u8>) -> Result<(), NoMemory>
+    ensures { OnOk result (line.new.items ≡ line.old.items ++ I.text number) }
+{
+    line.extend_from_slice(Buffer::new().format(number).as_bytes())
+}
+
+/// Appends the line of first rows, of rows that came from these feeders.
+fn write_top(rows: &[TopRow], feeders: &[u8], line: &mut Vec<u8>) -> Result<(), NoMemory>
+    requires { AreWithin (length feeders.now) rows.now }
+    ensures { OnOk result (line.new.items ≡ line.old.items ++ top_line feeders.now (Ok rows.now)) }
+{
+    line.extend_from_slice(b"top")?;
+    write_each_row(rows, feeders, line)?;
+    line.extend_from_slice(b"\n")
+}
+
+/// Appends rows, each with a space before it.
+fn write_each_row(rows: &[TopRow], feeders: &[u8], line: &mut Vec<u8>) -> Result<(), NoMemory>
+    requires { AreWithin (length feeders.now) rows.now }
+    ensures { OnOk result (line.new.items
+        ≡ line.old.items ++ flat_map (row_text feeders.now) rows.now) }
+{
+    'rows: for row in rows {
+        write_row(row, feeders, line)?;
+    }
+    Ok(())
+}
+
+/// Appends a space, the feeder of a row, its number among that feeder's rows, and its number in the column.
+fn write_row(row: &TopRow, feeders: &[u8], line: &mut Vec<u8>) -> Result<(), NoMemory>
+    requires { row.now.row < length feeders.now }
+    ensures { OnOk result (line.new.items ≡ line.old.items ++ row_text feeders.now row.now) }
+{
+    let at = row.row as usize;
+    let feeder = feeders[at];
+    let before = count_rows_of(feeder, &feeders[..at]);
+    line.extend_from_slice(b" ")?;
+    write_number(feeder, line)?;
+    line.extend_from_slice(b":")?;
+    write_number(before, line)?;
+    line.extend_from_slice(b"=")?;
+    write_number(row.number, line)
+}
+
+/// Counts the rows of a feeder.
+fn count_rows_of(feeder: u8, feeders: &[u8]) -> u64
+    ensures { result ≡ count_by (λ row_feeder. nat_eq row_feeder feeder) feeders.now }
+{
+    let mut count = 0;
+    'rows: for row_feeder in feeders {
+        count += u64::from(*row_feeder == feeder);
+    }
+    count
+}
