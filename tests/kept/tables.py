@@ -29,7 +29,7 @@ def column_record(chance, name):
 def numbers_at(machine, name, fields):
     """Returns the rows that a predicate selects, and the place of a column of them, or None."""
     place = machine.position(name)
-    places = None if place is None else script_model.selected(machine, fields)
+    places = None if place is None else script_model.selected(machine, list(fields))
     return None if places is None else (place, [machine.indexed[at] for at in places])
 
 
@@ -71,7 +71,8 @@ def first_rows(sign):
 def groups(machine, name, *query):
     """Returns the line of a query over each group."""
     by = machine.position(name)
-    if by is None or query[:1] == (b"list",) or answer(machine, list(query)) == files_model.BAD:
+    is_query = query[:1] != (b"list",) and (query[:1] == (b"rank",) or query[:1] and query[0] not in REPORTS)
+    if by is None or not is_query or answer(machine, list(query)) == files_model.BAD:
         return files_model.BAD
     # (a copy of the machine for each group, whose rows are those that have its entry)
     part = copy.copy(machine)
@@ -151,8 +152,12 @@ class Table:
         """Returns random questions, and a line that is none."""
         heads = [[word] for word in ("count", "list")] + [[word, self.chance.choice(self.names)] for word in TOTALS]
         heads += [["rank", self.chance.choice(self.names), rank] for rank in ("0", str(self.chance.randrange(200)), "-1", str(2**64 - 1))]
+        heads += [["distinct", self.chance.choice(self.names)]] + [["by", self.chance.choice(self.names), *head] for head in heads[:8]]
+        if self.feeders == 1:  # of several, which of two rows was loaded first is not told
+            heads += [[word, self.chance.choice(self.names), most] for word in ("top", "bottom") for most in ("0", str(self.chance.randrange(1, 20)), "-1")]
         lines = [",".join([*head, *self.predicate()]) for head in 2 * heads]
-        return "\n".join([*lines, "wrong", f"rank,{self.names[0]}", f"rank,{self.names[0]},0", ""]).encode()
+        short = [f"{words}{self.names[0]}{end}" for words in ("rank,", "top,", "distinct,", "by,") for end in ("", ",0")]
+        return "\n".join([*lines, "wrong", *short, f"by,{self.names[0]},distinct,{self.names[0]},all", ""]).encode()
 
     def answers(self, asks):
         """Returns the lines that answer questions over the rows of all segments."""
