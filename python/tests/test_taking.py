@@ -258,6 +258,18 @@ def test_the_outermost_rows_are_those_of_pandas():
     assert index.to_pandas(col.x > 15)["x"].tolist() == frame["x"][frame["x"] > 15].tolist()
 
 
+@pytest.mark.parametrize("end", (3, 1_000, 2**40))
+def test_the_outermost_of_many_rows(end):
+    rng = np.random.default_rng(end)
+    x = rng.integers(-end, end, 200_000).astype(float)
+    x[rng.random(len(x)) < 0.3] = np.nan
+    index = bsi.Index.from_frame({"x": x})
+    there = np.flatnonzero(~np.isnan(x))
+    for n in (0, 1, 10, 60, 1_000):
+        assert index.nlargest(n, "x").tolist() == there[np.argsort(-x[there], kind="stable")][:n].tolist()
+        assert index.nsmallest(n, "x").tolist() == there[np.argsort(x[there], kind="stable")][:n].tolist()
+
+
 def test_the_outermost_rows_that_are_none():
     index = bsi.Index.from_frame({"x": [1, 2, 2], "t": ["a", "b", "b"]})
     for n in (-1, 1.5, True, "1", None):

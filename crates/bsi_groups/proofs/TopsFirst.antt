@@ -15,7 +15,7 @@ use Rattle.bsi_orders.specs.Ranks.{IsSignedRanked}
 use Rattle.bsi_orders.specs.WholeNumbers.{signed_order, signed_selects}
 use Rattle.bsi_orders.specs.declared.op.Op.{Op}
 use Rattle.bsi_orders.specs.declared.op.Op.TheVariants.{Eq}
-use Rattle.bsi_groups.specs.Tops.{compared, is_ahead, is_beyond, op_beyond, rows_at, AreFirst, HaveNumbers, IsBoundRank, IsPast, IsRowOf}
+use Rattle.bsi_groups.specs.Tops.{compared, is_ahead, is_beyond, op_beyond, rows_at, AreFirst, HaveNumbers, IsBehind, IsBoundRank, IsRowOf}
 use Rattle.bsi_groups.specs.declared.tops.End.{End}
 use Rattle.bsi_groups.specs.declared.tops.End.TheVariants.{Greatest, Least}
 use Rattle.bsi_groups.specs.declared.tops.TopRow.{TopRow}
@@ -63,6 +63,10 @@ behind : (end : End) (n t : ℤ) → is_beyond end n t ≡ false → (int_le n t
 behind Greatest n t below other = grind (arith, ints, nat_tests)
 behind Least n t below other = grind (arith, ints, nat_tests)
 
+before_others : (end : End) (x t n : ℤ) → is_beyond end x t ≡ true → is_beyond end n t ≡ false → is_beyond end x n ≡ true
+before_others Greatest x t n beyond other = grind (arith, ints, nat_tests)
+before_others Least x t n beyond other = grind (arith, ints, nat_tests)
+
 not_both : (end : End) (n t : ℤ) → is_beyond end n t ≡ true → (int_le n t && int_le t n) ≡ true → ⊥
 not_both Greatest n t beyond same = grind (arith, ints, nat_tests)
 not_both Least n t beyond same = grind (arith, ints, nat_tests)
@@ -89,7 +93,7 @@ module _ {X : Type 0} (R : X → X → Type 0) where
       (All-append (R x) xs ys (λ k d within. first zero (suc k) d (omega arith) (omega arith)) (All-head (λ x. All (R x) ys) x xs across))
       (all_pairs_append xs ys (λ i j d before within. first (suc i) (suc j) d (omega arith) (omega arith)) second (All-tail (λ x. All (R x) ys) x xs across))
 
-  all_pairs_take : (k : ℕ) (xs : List X) → AllPairs R xs → AllPairs R (take k xs)
+  pub all_pairs_take : (k : ℕ) (xs : List X) → AllPairs R xs → AllPairs R (take k xs)
   all_pairs_take zero xs all = λ i j d before within. absurd (omega arith)
   all_pairs_take (suc k) [] all = all
   all_pairs_take (suc k) (x ∷ xs) all =
@@ -126,12 +130,12 @@ module _ (found : List Bool) (entries : List (Option ℤ)) where
         All-map (IsRowOf found entries) (row_at entries) places
         (All-weaker (λ r. get_or found r false ≡ true) (λ r. IsRowOf found entries (row_at entries r)) (λ r set. (set, some_is (get_or entries r None) (numbers r set))) places set)
 
-    -- where there are no more than so many rows, each is listed
-    pub all_first : (end : End) (most : ℕ) → count_by (λ b. b) found ≤ most → AreFirst end most found entries (rows_at entries (set_places found))
-    all_first end most few = record {
+    -- where each row is listed
+    pub all_first : (end : End) (most : ℕ) → AreFirst end most found entries (rows_at entries (set_places found))
+    all_first end most = record {
       once = subst (AllPairs (λ x y. x ≢ y)) (sym (places_of_rows entries (set_places found))) (places_once found);
       had = rows_had (set_places found) (places_set found);
-      few = omega (arith, few, places_count found, length-map (set_places found) (row_at entries));
+      enough = λ many. omega (arith, many, places_count found, length-map (set_places found) (row_at entries));
       first = λ row is. inl (row_there row is (set_places found) (place_there found row.row is.0));
     }
 
@@ -161,6 +165,24 @@ module _ (found : List Bool) (entries : List (Option ℤ)) where
         abbrev pub bound_places : List ℕ
         bound_places = set_places beyond ++ tied
 
+        -- where enough rows are beyond the bound, the first of them are the first of all
+        pub narrowed : (listed : List TopRow) → AreFirst end most beyond entries listed → most ≤ length listed → AreFirst end most found entries listed
+        narrowed listed are enough = record {
+          once = are.once;
+          had = All-weaker (IsRowOf beyond entries) (IsRowOf found entries) (λ row is. ((compared_is (op_beyond end) row.row is.0).0, is.1)) listed are.had;
+          enough = λ many. enough;
+          first = λ row is. elim (cases_Bool (is_beyond end row.number t)) [
+            | inl above ↦ are.first row (compared_there (op_beyond end) row is above, is.1)
+            | inr below ↦
+                inr (
+                  enough,
+                  All-weaker (IsRowOf beyond entries) (λ x. IsTrue (is_ahead end x row))
+                      (λ x had. ahead_by_number end x row (before_others end x.number t row.number
+                      (subst (λ n. is_beyond end n t ≡ true) (ap (λ e. unwrap_or e (pos 0)) had.1) (compared_is (op_beyond end) x.row had.0).1) below)) listed are.had,
+                )
+          ];
+        }
+
         tied_set : All (λ r. get_or ties r false ≡ true) tied
         tied_set = All-take (λ r. get_or ties r false ≡ true) (most - length (set_places beyond)) (set_places ties) (places_set ties)
 
@@ -180,7 +202,7 @@ module _ (found : List Bool) (entries : List (Option ℤ)) where
             (All-weaker (λ r. get_or beyond r false ≡ true) (λ r. get_or found r false ≡ true) (λ r set. (compared_is (op_beyond end) r set).0) (set_places beyond) (places_set beyond))
             (All-weaker (λ r. get_or ties r false ≡ true) (λ r. get_or found r false ≡ true) (λ r set. (compared_is Eq r set).0) tied tied_set)
 
-        module _ (few : count_by (λ b. b) beyond ≤ most) (many : most < count_by (λ b. b) beyond + count_by (λ b. b) ties) where
+        module _ (few : count_by (λ b. b) beyond ≤ most) (many : most ≤ count_by (λ b. b) beyond + count_by (λ b. b) ties) where
           long : length (rows_at entries bound_places) ≡ most
           long =
               length-map bound_places (row_at entries) ∙ length-append (set_places beyond) tied
@@ -189,10 +211,10 @@ module _ (found : List Bool) (entries : List (Option ℤ)) where
 
           -- a row is past the listed ones if it comes after the bound, or has its number at a later place
           past : (row : TopRow) → ((x : ℤ) → is_beyond end x t ≡ true → is_beyond end x row.number ≡ true)
-              → ((r : ℕ) → (row_at entries r).number ≡ t → Contains tied r → is_ahead end (row_at entries r) row ≡ true) → IsPast end most (rows_at entries bound_places) row
+              → ((r : ℕ) → (row_at entries r).number ≡ t → Contains tied r → is_ahead end (row_at entries r) row ≡ true) → IsBehind end most (rows_at entries bound_places) row
           past row after tie =
               let P : TopRow → Type 0 = λ x. IsTrue (is_ahead end x row) in (
-                long,
+                omega (arith, long),
                 All-map P (row_at entries) bound_places
                     (All-append (λ r. P (row_at entries r)) (set_places beyond) tied
                     (All-weaker (λ r. get_or beyond r false ≡ true) (λ r. P (row_at entries r))
@@ -200,7 +222,7 @@ module _ (found : List Bool) (entries : List (Option ℤ)) where
                     (λ k d within. tie (get_or tied k d) (same_number (row_at entries (get_or tied k d)).number t (compared_is Eq (get_or tied k d) (tied_set k d within)).1) (All-contains_itself tied k d within))),
               )
 
-          first : (row : TopRow) → IsRowOf found entries row → Contains (rows_at entries bound_places) row ⊎ IsPast end most (rows_at entries bound_places) row
+          first : (row : TopRow) → IsRowOf found entries row → Contains (rows_at entries bound_places) row ⊎ IsBehind end most (rows_at entries bound_places) row
           first row is = elim (cases_Bool (is_beyond end row.number t)) [
             | inl above ↦
                 inl (row_there row is bound_places (Contains-append_left (set_places beyond) tied row.row (place_there beyond row.row (compared_there (op_beyond end) row is above))))
@@ -220,16 +242,16 @@ module _ (found : List Bool) (entries : List (Option ℤ)) where
             ]
           ]
 
-          pub bound_first : AreFirst end most found entries (rows_at entries bound_places)
+          bound_first : AreFirst end most found entries (rows_at entries bound_places)
           bound_first = record {
             once = subst (AllPairs (λ x y. x ≢ y)) (sym (places_of_rows entries bound_places)) once;
             had = rows_had bound_places found_set;
-            few = omega (arith, long);
+            enough = λ many. omega (arith, long);
             first = first;
           }
 
         -- what the two passes list
-        pub listed_is : (none some all : List TopRow) → none ≡ [] → some ≡ none ++ rows_at entries (take (most - length none) (set_places beyond))
+        listed_is : (none some all : List TopRow) → none ≡ [] → some ≡ none ++ rows_at entries (take (most - length none) (set_places beyond))
             → all ≡ some ++ rows_at entries (take (most - length some) (set_places ties)) → count_by (λ b. b) beyond ≤ most → all ≡ rows_at entries bound_places
         listed_is none some all none_is some_is all_is few =
             let first : some ≡ rows_at entries (set_places beyond) =
@@ -238,3 +260,9 @@ module _ (found : List Bool) (entries : List (Option ℤ)) where
             all_is ∙ ap (λ l. l ++ rows_at entries (take (most - length l) (set_places ties))) first
             ∙ ap (λ n. rows_at entries (set_places beyond) ++ rows_at entries (take (most - n) (set_places ties))) (length-map (set_places beyond) (row_at entries))
             ∙ sym (map-append (row_at entries) (set_places beyond) tied)
+
+        pub bound_listed : (none some all : List TopRow) → none ≡ [] → some ≡ none ++ rows_at entries (take (most - length none) (set_places beyond))
+            → all ≡ some ++ rows_at entries (take (most - length some) (set_places ties)) → count_by (λ b. b) beyond ≤ most
+            → most ≤ count_by (λ b. b) beyond + count_by (λ b. b) ties → AreFirst end most found entries all
+        bound_listed none some all none_is some_is all_is few many =
+            subst (AreFirst end most found entries) (sym (listed_is none some all none_is some_is all_is few)) (bound_first few many)

@@ -1,22 +1,22 @@
 -- The first rows in order.
-use Rattle.std.proofs.Common.{◌≡◌, ◌≢◌, ◌∷◌, [], ℕ, zero, suc, ℤ, Bool, true, false, true≢false, List, Option, Some, None, eqb, length, map, get_or, inl, inr, refl, ap₂, sym, ◌∙◌, arith}
-use Rattle.std.specs.Prelude.{◌&&◌, ◌||◌, AllPairs, IsPermutation, IsSome, IsSortedBy, IsTrue, int_lt, is_none, nat_lt, not}
+use Rattle.std.proofs.Common.{◌≡◌, ◌≢◌, ◌<◌, ◌∷◌, [], ℕ, zero, suc, ℤ, Bool, true, false, true≢false, List, Option, Some, None, Contains, eqb, length, map, take, get_or, inl, inr, refl, ap₂, sym, subst, ◌∙◌, arith}
+use Rattle.std.specs.Prelude.{◌⊎◌, ◌&&◌, ◌||◌, AllPairs, IsPermutation, IsSome, IsSortedBy, IsTrue, int_lt, is_some, nat_lt}
 use Rattle.std.specs.Cmp.{IsStrictWeakOrder}
 use Rattle.std.specs.Ordering.{int_eq}
 use Rattle.std.specs.Simd.Lanes.{zip2}
-use Rattle.std.proofs.lemmas.Bool.{and_parts, and_right}
+use Rattle.std.proofs.lemmas.Bool.{and_parts, and_right, cases_lt}
 use Rattle.std.proofs.lemmas.Bool.Decides.{nat_tests, Decides-eqb, Decides-int_eq}
 use Rattle.std.proofs.lemmas.Int.{ints}
-use Rattle.std.proofs.lemmas.List.{get_or-map, length-map}
-use Rattle.std.proofs.lemmas.List.Elements.{All-weaker}
+use Rattle.std.proofs.lemmas.List.{get_or-map, get_or-take, get_or_default, length-map, length-take, length-take-le}
+use Rattle.std.proofs.lemmas.List.Elements.{All-take, All-weaker}
 use Rattle.std.proofs.lemmas.List.Sorted.{sorted_far, length_permutation, All-permutation, Contains-permutation, IsPermutation-map}
 use Rattle.std.proofs.lemmas.Map.Keys.{IsDistinct-IsPermutation}
 use Rattle.std.proofs.lemmas.Map.Made.{AllPairs-from_IsDistinct, IsDistinct-from_AllPairs}
-use Rattle.bsi_bits.specs.BitList.{without}
-use Rattle.bsi_groups.specs.Tops.{is_ahead, AreFirst, AreTop, HaveNumbers, IsRowOf}
+use Rattle.bsi_groups.specs.Tops.{is_ahead, AreFirst, AreTop, HaveNumbers, IsPast, IsRowOf}
 use Rattle.bsi_groups.specs.declared.tops.End.{End}
 use Rattle.bsi_groups.specs.declared.tops.End.TheVariants.{Greatest, Least}
 use Rattle.bsi_groups.specs.declared.tops.TopRow.{TopRow}
+use Rattle.bsi_groups.proofs.TopsFirst.{all_pairs_take}
 
 -- the order of rows, where the greatest numbers come first
 module _ (x y z : ℤ) (i j k : ℕ) where
@@ -64,48 +64,73 @@ once_more xs ys moved once =
     flips : (x y : ℕ) → eqb x y ≡ eqb y x
     flips x y = grind (arith, nat_tests)
 
-module _ (end : End) (most : ℕ) (found : List Bool) (entries : List (Option ℤ)) where
-  -- the first rows, sorted
-  pub sorted_top : (listed sorted : List TopRow) → AreFirst end most found entries listed → IsPermutation listed sorted → IsSortedBy (is_ahead end) sorted
-      → AreTop end most found entries sorted
-  sorted_top listed sorted are moved up =
-      let once = once_more (map (λ row. row.row) listed) (map (λ row. row.row) sorted) (IsPermutation-map (λ row. row.row) listed sorted moved) are.once in
-      let long : length sorted ≡ length listed = length_permutation listed sorted moved in record {
-        rise = λ i j d before within.
-            one_first end (get_or sorted i d) (get_or sorted j d)
-            (λ same. once i j d.row before (omega (arith, within, length-map sorted (λ (row : TopRow). row.row)))
-            (get_or-map (λ (row : TopRow). row.row) sorted i d d.row (omega (arith, before, within)) ∙ same
-            ∙ sym (get_or-map (λ (row : TopRow). row.row) sorted j d d.row within)))
-            (sorted_far (is_ahead end) (ahead_orders end) sorted up i j d (omega arith) within);
-        had = All-permutation (IsRowOf found entries) listed sorted moved are.had;
-        few = omega (arith, long, are.few);
-        first = λ row is. elim (are.first row is) [
-          | inl there ↦ inl (Contains-permutation listed sorted row moved there)
-          | inr past ↦ inr (long ∙ past.0, All-permutation (λ x. IsTrue (is_ahead end x row)) listed sorted moved past.1)
-        ];
-      }
+module _ (end : End) (most : ℕ) where
+  -- of rows in order, one is among the first so many, or past them
+  among_or_past : (sorted : List TopRow) (row : TopRow) → AllPairs (λ x y. IsTrue (is_ahead end x y)) sorted → Contains sorted row
+      → Contains (take most sorted) row ⊎ IsPast end most (take most sorted) row
+  among_or_past sorted row rise there =
+      let long = length-take most sorted in
+      elim (cases_lt there.0 most) [
+        | inl within ↦ inl (there.0, omega (arith, long, within, there.1), get_or-take most sorted there.0 row within ∙ there.2)
+        | inr past ↦
+            inr (
+              length-take-le most sorted (omega (arith, past, there.1)),
+              λ k d below.
+                  let before : k < most = omega (arith, long, below) in
+                  let same = get_or_default (take most sorted) k d row below ∙ get_or-take most sorted k row before in
+                  subst (λ x. IsTrue (is_ahead end x row)) (sym same)
+                  (subst (λ y. IsTrue (is_ahead end (get_or sorted k row) y)) there.2 (rise k there.0 row (omega (arith, before, past)) there.1)),
+            )
+      ]
+
+  module _ (found : List Bool) (entries : List (Option ℤ)) where
+    -- the first rows, sorted and cut
+    pub sorted_top : (listed sorted : List TopRow) → AreFirst end most found entries listed → IsPermutation listed sorted → IsSortedBy (is_ahead end) sorted
+        → AreTop end most found entries (take most sorted)
+    sorted_top listed sorted are moved up =
+        let once = once_more (map (λ row. row.row) listed) (map (λ row. row.row) sorted) (IsPermutation-map (λ row. row.row) listed sorted moved) are.once in
+        let long : length sorted ≡ length listed = length_permutation listed sorted moved in
+        let rise : AllPairs (λ x y. IsTrue (is_ahead end x y)) sorted =
+        λ i j d before within.
+        one_first end (get_or sorted i d) (get_or sorted j d)
+        (λ same. once i j d.row before (omega (arith, within, length-map sorted (λ (row : TopRow). row.row)))
+        (get_or-map (λ (row : TopRow). row.row) sorted i d d.row (omega (arith, before, within)) ∙ same
+        ∙ sym (get_or-map (λ (row : TopRow). row.row) sorted j d d.row within)))
+        (sorted_far (is_ahead end) (ahead_orders end) sorted up i j d (omega arith) within) in record {
+          rise = all_pairs_take (λ x y. IsTrue (is_ahead end x y)) most sorted rise;
+          had = All-take (IsRowOf found entries) most sorted (All-permutation (IsRowOf found entries) listed sorted moved are.had);
+          few = omega (arith, length-take most sorted);
+          first = λ row is. elim (are.first row is) [
+            | inl there ↦ among_or_past sorted row rise (Contains-permutation listed sorted row moved there)
+            | inr behind ↦
+                inr (
+                  length-take-le most sorted (omega (arith, long, behind.0)),
+                  All-take (λ x. IsTrue (is_ahead end x row)) most sorted (All-permutation (λ x. IsTrue (is_ahead end x row)) listed sorted moved behind.1),
+                )
+          ];
+        }
 
 -- ---- a found set without its null rows
 
 abbrev numbered : List Bool → List (Option ℤ) → List Bool
-numbered found entries = zip2 without found (map is_none entries)
+numbered found entries = zip2 ◌&&◌ found (map is_some entries)
 
 numbered_at : (found : List Bool) (entries : List (Option ℤ)) (r : ℕ)
-    → get_or (numbered found entries) r false ≡ (get_or found r false && not (is_none (get_or entries r None)))
+    → get_or (numbered found entries) r false ≡ (get_or found r false && is_some (get_or entries r None))
 numbered_at [] [] r = refl
 numbered_at (f ∷ found) [] r = sym (and_right (get_or (f ∷ found) r false) false refl)
 numbered_at [] (e ∷ entries) r = refl
 numbered_at (f ∷ found) (e ∷ entries) zero = refl
 numbered_at (f ∷ found) (e ∷ entries) (suc r) = numbered_at found entries r
 
-some_there : (entry : Option ℤ) → not (is_none entry) ≡ true → IsSome entry
+some_there : (entry : Option ℤ) → is_some entry ≡ true → IsSome entry
 some_there None is = absurd (true≢false (sym is))
 some_there (Some n) is = refl
 
 module _ (found : List Bool) (entries : List (Option ℤ)) where
   numbered_set : (r : ℕ) → get_or (numbered found entries) r false ≡ true → (get_or found r false ≡ true) × IsSome (get_or entries r None)
   numbered_set r set =
-      let parts = and_parts (get_or found r false) (not (is_none (get_or entries r None))) (sym (numbered_at found entries r) ∙ set) in
+      let parts = and_parts (get_or found r false) (is_some (get_or entries r None)) (sym (numbered_at found entries r) ∙ set) in
       (parts.0, some_there (get_or entries r None) parts.1)
 
   pub numbered_have : HaveNumbers (numbered found entries) entries
@@ -117,5 +142,5 @@ module _ (found : List Bool) (entries : List (Option ℤ)) where
     rise = top.rise;
     had = All-weaker (IsRowOf (numbered found entries) entries) (IsRowOf found entries) (λ row is. ((numbered_set row.row is.0).0, is.1)) listed top.had;
     few = top.few;
-    first = λ row is. top.first row (numbered_at found entries row.row ∙ ap₂ (λ a e. a && not (is_none e)) is.0 is.1, is.1);
+    first = λ row is. top.first row (numbered_at found entries row.row ∙ ap₂ (λ a e. a && is_some e) is.0 is.1, is.1);
   }

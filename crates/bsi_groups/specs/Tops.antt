@@ -1,5 +1,5 @@
 -- The rows of a found set that come first by their numbers in a column.
-use Rattle.std.specs.Prelude.{◌≡◌, ◌≢◌, ◌⊎◌, ◌&&◌, ◌||◌, ◌≤◌, ◌+◌, ◌/◌, ◌%◌, ℕ, ℤ, pos, Bool, true, false, List, Option, Some, None, All, AllPairs, Contains, IfSome, IsSome, IsTrue, length, map, nat_lt, slice_index_or, unwrap_or}
+use Rattle.std.specs.Prelude.{◌≡◌, ◌≢◌, ◌⊎◌, ◌&&◌, ◌||◌, ◌≤◌, ◌+◌, ◌/◌, ◌%◌, ℕ, ℤ, pos, Bool, true, false, List, Option, Some, None, All, AllPairs, Contains, IfSome, IsSome, IsTrue, count_by, length, map, nat_lt, slice_index_or, unwrap_or}
 use Rattle.std.specs.Ordering.{int_eq}
 use Rattle.std.specs.Simd.Lanes.{zip2}
 use Rattle.bsi_orders.specs.WholeNumbers.{signed_order, signed_selects}
@@ -32,14 +32,19 @@ IsRowOf found entries row =
 abbrev pub IsPast : End → ℕ → List TopRow → TopRow → Type 0
 IsPast end most listed row = (length listed ≡ most) × All (λ x. IsTrue (is_ahead end x row)) listed
 
--- the first rows of a found set, at most so many, in whatever order: a row with a number that is not among them is past them
+-- no fewer rows are listed, and each of them comes before this one
+abbrev pub IsBehind : End → ℕ → List TopRow → TopRow → Type 0
+IsBehind end most listed row = (most ≤ length listed) × All (λ x. IsTrue (is_ahead end x row)) listed
+
+-- the first rows of a found set, so many or more where there are as many, in whatever order: a row with a number that is not among
+-- them is behind them
 pub record AreFirst (end : End) (most : ℕ) (found : List Bool) (entries : List (Option ℤ)) (listed : List TopRow) : Type 0 where
   pub once : AllPairs (λ x y. x ≢ y) (map (λ row. row.row) listed)
   pub had : All (IsRowOf found entries) listed
-  pub few : length listed ≤ most
-  pub first : (row : TopRow) → IsRowOf found entries row → Contains listed row ⊎ IsPast end most listed row
+  pub enough : most ≤ count_by (λ b. b) found → most ≤ length listed
+  pub first : (row : TopRow) → IsRowOf found entries row → Contains listed row ⊎ IsBehind end most listed row
 
--- the same in order: each row comes before those behind it
+-- the first rows of a found set, at most so many, in order: each row comes before those behind it
 pub record AreTop (end : End) (most : ℕ) (found : List Bool) (entries : List (Option ℤ)) (listed : List TopRow) : Type 0 where
   pub rise : AllPairs (λ x y. IsTrue (is_ahead end x y)) listed
   pub had : All (IsRowOf found entries) listed

@@ -1,10 +1,9 @@
 //! The rows with the greatest or the least numbers of a column, by the number of a rank and one list (Rinfret, O'Neil and
 //! O'Neil 2001).
 
-ghost use Rattle.std.specs.Prelude.{◌≡◌, ◌<◌, ◌≤◌, ◌-◌, ◌++◌, length, map, take, slice_index_or, is_none, None, IfOk, IfSome, OnOk};
+ghost use Rattle.std.specs.Prelude.{◌≡◌, ◌<◌, ◌≤◌, ◌-◌, ◌++◌, count_by, length, map, take, slice_index_or, None, IfOk, IfSome, OnOk};
 ghost use Rattle.std.specs.Ordering.{is_lt};
-ghost use Rattle.std.specs.Simd.Lanes.{zip2};
-ghost use Rattle.bsi_bits.specs.BitList.{set_places, without};
+ghost use Rattle.bsi_bits.specs.BitList.{set_places};
 ghost use Rattle.bsi_rows.specs.Rows.{column_of, holds, row_entries};
 ghost use Rattle.bsi_shift.specs.Shifted.{shifted_entries};
 ghost use Rattle.bsi_groups.specs.Replies.{IsReplyOn};
@@ -17,6 +16,15 @@ use bsi_shift::Shifted;
 use bsi_table::{AskError, Index, NoMemory, Pred};
 use std::alloc::Global;
 use std::cmp::Ordering;
+
+/// A multiplier that spreads a sample over the blocks.
+const SPREAD: usize = 0x9E37_79B9_7F4A_7C15;
+
+/// The least sample of blocks that saves time.
+const MIN_SAMPLE: usize = 32;
+
+/// As many rows take about as long to compare with a bound as one of them takes to read.
+const ROWS_PER_LISTED: u64 = 1024;
 
 /// A row of an index, and its number in a column.
 #[derive(Clone, Copy, Debug, PartialEq, Eq)]
@@ -41,6 +49,19 @@ pub enum End {
 struct ReadBlock {
     at: usize,
     numbers: [i64; MAX_BLOCK],
+}
+
+/// What the blocks of a sample have, in numbers that are turned, so that the greatest are the nearest to the end.
+#[derive(Drop)]
+struct Sample {
+    /// The nearest number.
+    near: i64,
+    /// The farthest one of its block.
+    far: i64,
+    /// The nearest one of the other blocks.
+    other: i64,
+    /// Whether its block is the first or the last, and has more than `most` rows.
+    is_outer: bool,
 }
 
 /// Returns the `most` rows with the greatest numbers in column `c`, or the least, among the rows that a predicate
@@ -76,26 +97,14 @@ fn top_found(
         AreTop end most found.bits (shifted_entries column.now) listed.items) }
 {
     let mut numbered = found;
-    drop_nulls(column, &mut numbered)?;
+    numbered.and_with(column.not_null());
     let mut listed = first_rows(alloc, column, &numbered, most, end)?;
     listed.sort_unstable_by(|x, y| order(end, x, y));
+    listed.truncate(most);
     Ok(listed)
 }
 
-/// Takes the null rows out of a found set.
-fn drop_nulls(column: &Shifted, found: &mut Bits) -> Result<(), NoMemory>
-    requires { length (shifted_entries column.now) ≡ length found.old.bits }
-    ensures { OnOk result (found.new.bits
-        ≡ zip2 without found.old.bits (map is_none (shifted_entries column.now))) }
-{
-    let mut nulls = found.copy()?;
-    column.nulls_into(&mut nulls);
-    found.and_not_with(&nulls);
-    Ok(())
-}
-
-/// Lists the first rows of a found set of no nulls, in no order that is told: those whose number is beyond the one of a
-/// rank, and as many of those that have it as there is room for.
+/// Lists the first rows of a found set of no nulls, at least `most` where there are as many, in no order that is told.
 fn first_rows(
     alloc: Global,
     column: &Shifted,
@@ -108,18 +117,182 @@ fn first_rows(
     ensures { IfOk result (λ listed.
         AreFirst end most found.now.bits (shifted_entries column.now) listed.items) }
 {
-    let count = found.count();
-    let mut listed = Vec::with_capacity(alloc, count.min(most as u64) as usize)?;
-    if count <= most as u64 {
-        list_rows(column, found, most, &mut listed)?;
-        return Ok(listed);
+    match sampled_bound(column, found, most, end) {
+        Some(bound) => rows_near(alloc, column, found, bound, most, end),
+        None => rows_by_rank(alloc, column, found, most, end),
     }
+}
+
+/// Returns a bound that few rows of a found set of no nulls are beyond, and more than `most` where the sample does not
+/// mislead, or none where a sample would save no time. Whatever it is, the rows that are listed by it are the first.
+fn sampled_bound(column: &Shifted, found: &Bits, most: usize, end: End) -> Option<i64>
+    requires { length (shifted_entries column.now) ≡ length found.now.bits }
+{
+    let words = found.words();
+    let mut block = [0; MAX_BLOCK];
+    let mut sample = Sample {
+        near: i64::MIN,
+        far: i64::MIN,
+        other: i64::MIN,
+        is_outer: false,
+    };
+    'sample: for k in 0..sample_size(words.len(), most) {
+        let at = sampled_block(k, words.len());
+        if words[at] != 0 {
+            column.read_block(at, &mut block);
+            let is_outer = k < 2 && words[at].count_ones() as usize > most;
+            sample.add(outermost(end, words[at], &block), is_outer);
+        }
+    }
+    let bound = sample.bound()?;
+    Some(turned(end, bound))
+}
+
+/// Returns how many of so many blocks are read as a sample: about as many as the rows beyond its bound, which are to be
+/// several times `most`, or none.
+fn sample_size(blocks: usize, most: usize) -> usize
+    ensures { result ≤ blocks }
+{
+    let size = blocks.isqrt().min(blocks / 8 / most.max(1));
+    if size < MIN_SAMPLE { 0 } else { size }
+}
+
+/// Returns which of so many blocks is read at turn `k`: the last, the first, and then blocks in between.
+fn sampled_block(k: usize, blocks: usize) -> usize
+    requires { 0 < blocks }
+    ensures { result < blocks }
+{
+    match k {
+        0 => blocks - 1,
+        1 => 0,
+        _ => k.wrapping_mul(SPREAD) % blocks,
+    }
+}
+
+/// Returns a number so that it is greater the nearer it is to the end, and such a number as it was.
+fn turned(end: End, number: i64) -> i64 {
+    match end {
+        End::Greatest => number,
+        End::Least => !number,
+    }
+}
+
+/// Returns the nearest and the farthest number of a block, both turned, among those at the ones of a word.
+fn outermost(end: End, rows: u64, block: &[i64; MAX_BLOCK]) -> (i64, i64) {
+    let (mut near, mut far) = (i64::MIN, i64::MAX);
+    'rows: for r in 0..MAX_BLOCK {
+        if rows >> r & 1 == 1 {
+            let number = turned(end, block[r]);
+            near = near.max(number);
+            far = far.min(number);
+        }
+    }
+    (near, far)
+}
+
+impl Sample {
+    /// Adds a block: its nearest and its farthest number, and whether it is one of the outer blocks.
+    fn add(&mut self, numbers: (i64, i64), is_outer: bool) {
+        let (near, far) = numbers;
+        if near <= self.near {
+            self.other = self.other.max(near);
+            return;
+        }
+        self.other = self.near;
+        self.near = near;
+        self.far = far;
+        self.is_outer = is_outer;
+    }
+
+    /// Returns the nearest number. Where the whole block comes before the others, neighbours are alike: then many more
+    /// rows may come before it, but for the first or the last block of an ordered column, whose farthest number serves.
+    fn bound(&self) -> Option<i64> {
+        if self.near == i64::MIN {
+            return None;
+        }
+        let is_apart = self.other < self.far && self.far < self.near;
+        match (is_apart, self.is_outer) {
+            (false, _) => Some(self.near),
+            (true, true) => Some(self.far),
+            (true, false) => None,
+        }
+    }
+}
+
+/// Lists the same by a bound, which may be any number: where enough rows are beyond it, only those are looked at, and
+/// where no more than `most` are, those that have it follow.
+fn rows_near(
+    alloc: Global,
+    column: &Shifted,
+    found: &Bits,
+    bound: i64,
+    most: usize,
+    end: End,
+) -> Result<Vec<TopRow>, NoMemory>
+    requires same { length (shifted_entries column.now) ≡ length found.now.bits }
+    requires numbers { HaveNumbers found.now.bits (shifted_entries column.now) }
+    ensures { IfOk result (λ listed.
+        AreFirst end most found.now.bits (shifted_entries column.now) listed.items) }
+{
+    let first = rows_compared(column, found, beyond(end), bound)?;
+    let count = first.count();
+    if count > most as u64 {
+        return rows_by_rank(alloc, column, &first, most, end);
+    }
+    let ties = rows_compared(column, found, Op::Eq, bound)?;
+    let (tied, room) = (ties.count(), most as u64 - count);
+    if tied < room {
+        return rows_by_rank(alloc, column, found, most, end);
+    }
+    let mut listed = Vec::with_capacity(alloc, most)?;
+    list_rows(column, &first, most, &mut listed)?;
+    list_rows(column, &ties, most, &mut listed)?;
+    Ok(listed)
+}
+
+/// Lists the same by the number of a rank: the rows whose number is beyond it, and as many of those that have it as
+/// there is room for. Where there are few rows, each is listed.
+fn rows_by_rank(
+    alloc: Global,
+    column: &Shifted,
+    found: &Bits,
+    most: usize,
+    end: End,
+) -> Result<Vec<TopRow>, NoMemory>
+    requires same { length (shifted_entries column.now) ≡ length found.now.bits }
+    requires numbers { HaveNumbers found.now.bits (shifted_entries column.now) }
+    ensures { IfOk result (λ listed.
+        AreFirst end most found.now.bits (shifted_entries column.now) listed.items) }
+{
+    let count = found.count();
+    if count <= (most as u64).max(found.len() / ROWS_PER_LISTED) {
+        return all_rows(alloc, column, found, count as usize);
+    }
+    let mut listed = Vec::with_capacity(alloc, most)?;
     let rank = bound_rank(end, count, most as u64);
     let Some(bound) = column.ranked(found, rank)? else {
         return Ok(listed);
     };
     list_compared(column, found, beyond(end), bound, most, &mut listed)?;
     list_compared(column, found, Op::Eq, bound, most, &mut listed)?;
+    Ok(listed)
+}
+
+/// Lists each row of a found set of no nulls.
+fn all_rows(
+    alloc: Global,
+    column: &Shifted,
+    found: &Bits,
+    count: usize,
+) -> Result<Vec<TopRow>, NoMemory>
+    requires same { length (shifted_entries column.now) ≡ length found.now.bits }
+    requires numbers { HaveNumbers found.now.bits (shifted_entries column.now) }
+    requires count { count ≡ count_by (λ b. b) found.now.bits }
+    ensures { IfOk result (λ listed. listed.items
+        ≡ rows_at (shifted_entries column.now) (set_places found.now.bits)) }
+{
+    let mut listed = Vec::with_capacity(alloc, count)?;
+    list_rows(column, found, count, &mut listed)?;
     Ok(listed)
 }
 
@@ -160,9 +333,22 @@ fn list_compared(
         ++ rows_at (shifted_entries column.now) (take (most - length listed.old.items)
         (set_places (compared op bound found.now.bits (shifted_entries column.now))))) }
 {
+    let rows = rows_compared(column, found, op, bound)?;
+    list_rows(column, &rows, most, listed)
+}
+
+/// Returns those rows of a found set of no nulls whose number compares so with a bound: a found set of no nulls too.
+fn rows_compared(column: &Shifted, found: &Bits, op: Op, bound: i64) -> Result<Bits, NoMemory>
+    requires same { length (shifted_entries column.now) ≡ length found.now.bits }
+    requires numbers { HaveNumbers found.now.bits (shifted_entries column.now) }
+    ensures rows { IfOk result (λ rows. rows.bits
+        ≡ compared op bound found.now.bits (shifted_entries column.now)) }
+    ensures same { IfOk result (λ rows. length (shifted_entries column.now) ≡ length rows.bits) }
+    ensures numbers { IfOk result (λ rows. HaveNumbers rows.bits (shifted_entries column.now)) }
+{
     let mut rows = column.compare(op, i128::from(bound))?;
     rows.and_with(found);
-    list_rows(column, &rows, most, listed)
+    Ok(rows)
 }
 
 /// Lists the rows of a found set of no nulls, in order of their positions, until `most` rows are listed.

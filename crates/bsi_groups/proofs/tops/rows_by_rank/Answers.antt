@@ -1,7 +1,7 @@
 use Rattle.std.proofs.Common.{◌≡◌, ◌+◌, ◌-◌, ◌<◌, ◌≤◌, ◌++◌, ℕ, SFits, rules, to_z-of_z, length, take, ap, sym, subst, arith, ◌∙◌}
 use Rattle.std.specs.Int.{w64}
 use Rattle.std.specs.Prelude.{count_by}
-use Rattle.std.proofs.lemmas.List.{take_all}
+use Rattle.std.proofs.lemmas.Result.{IfOk-weaker}
 use Rattle.bsi_bits.specs.BitList.{set_places}
 use Rattle.bsi_orders.specs.Orders.{values_at}
 use Rattle.bsi_orders.specs.Ranks.{IsSignedRanked, IsSignedRankOf}
@@ -10,20 +10,18 @@ use Rattle.bsi_shift.specs.Shifted.{shifted_entries}
 use Rattle.bsi_groups.specs.Tops.{compared, op_beyond, rows_at, AreFirst, IsBoundRank}
 use Rattle.bsi_groups.specs.declared.tops.End.{End}
 use Rattle.bsi_groups.specs.declared.tops.End.TheVariants.{Greatest, Least}
-use Rattle.bsi_groups.proofs.TopsFirst.{all_first, bound_first, bounds, listed_is}
-use Rattle.bsi_groups.proofs.TopsPlaces.{compared_count, numbers_count, places_count}
-use Rattle.bsi_groups.proofs.tops.first_rows.Goals as goal
+use Rattle.bsi_groups.proofs.TopsFirst.{all_first, bound_listed, bounds}
+use Rattle.bsi_groups.proofs.TopsPlaces.{compared_count, numbers_count}
+use Rattle.bsi_groups.proofs.tops.rows_by_rank.Goals as goal
 
--- no more rows than so many: each is listed
-pub returns-then-count-most : goal.returns-then-count-most
-returns-then-count-most c =
+-- each row is listed
+pub returns-then-count-max : goal.returns-then-count-max
+returns-then-count-max c =
     let found = c.args.found.now.bits in
     let entries = shifted_entries c.args.column.now in
-    let few : count_by (λ b. b) found ≤ c.args.most = omega (arith, c.count-count.ensures, c.if-count-most.true) in
-    let listed : c.list_rows.new.listed.items ≡ rows_at entries (set_places found) =
-    c.in_ok-list_rows.ensures ∙ ap (λ l. l ++ rows_at entries (take (c.args.most - length l) (set_places found))) c.in_ok-listed.ensures.items
-    ∙ ap (rows_at entries) (take_all (c.args.most - 0) (set_places found) (omega (arith, few, places_count found))) in
-    subst (AreFirst c.args.end c.args.most found entries) (sym listed) (all_first found entries c.requires.numbers c.args.end c.args.most few)
+    IfOk-weaker c.all_rows.result (λ listed. listed.items ≡ rows_at entries (set_places found)) (λ listed. AreFirst c.args.end c.args.most found entries listed.items)
+    (λ listed is. subst (AreFirst c.args.end c.args.most found entries) (sym is) (all_first found entries c.requires.numbers c.args.end c.args.most))
+    c.all_rows.ensures
 
 -- the rank is within the numbers
 within : (end : End) (count most rank : ℕ) → most < count → IsBoundRank end count most rank → rank < count
@@ -35,7 +33,7 @@ returns-in_default c =
     let numbers = values_at c.args.found.now.bits (shifted_entries c.args.column.now) in
     let past : length numbers ≤ c.bound_rank-rank.result = subst (IsSignedRankOf c.bound_rank-rank.result numbers) c.in_default.is c.in_ok-bound.ensures in
     let count = numbers_count c.args.found.now.bits (shifted_entries c.args.column.now) c.requires.same c.requires.numbers in
-    let below = within c.args.end c.count-count.result c.args.most c.bound_rank-rank.result (omega (arith, c.if-count-most.false)) c.bound_rank-rank.ensures in
+    let below = within c.args.end c.count-count.result c.args.most c.bound_rank-rank.result (omega (arith, c.if-count-max.false)) c.bound_rank-rank.ensures in
     absurd (omega (arith, past, count, below, c.count-count.ensures))
 
 pub returns : goal.returns
@@ -60,6 +58,4 @@ returns c =
     ∙ ap (λ op. none ++ rows_at entries (take (most - length none) (set_places (compared op t found entries)))) c.beyond.ensures in
     let second = c.in_ok-list_compared-2.ensures
     ∙ ap (λ n. some ++ rows_at entries (take (most - length some) (set_places (compared Eq n found entries)))) (to_z-of_z fits) in
-    subst (AreFirst c.args.end most found entries)
-    (sym (listed_is found entries c.requires.numbers t c.args.end most none some c.list_compared-2.new.listed.items c.in_ok-listed.ensures.items first second few))
-    (bound_first found entries c.requires.numbers t c.args.end most few many)
+    bound_listed found entries c.requires.numbers t c.args.end most none some c.list_compared-2.new.listed.items c.in_ok-listed.ensures.items first second few (omega (arith, many))
