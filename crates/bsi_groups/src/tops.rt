@@ -1,5 +1,5 @@
-//! The rows with the greatest or the least numbers of a column, by the number of a rank and one list (Rinfret, O'Neil and
-//! O'Neil 2001).
+//! The rows with the greatest or the least numbers of a column, by a bound and one list: the best number of a sample or, where
+//! that misleads, the number of a rank (Rinfret, O'Neil and O'Neil 2001).
 
 ghost use Rattle.std.specs.Prelude.{◌≡◌, ◌<◌, ◌≤◌, ◌-◌, ◌++◌, count_by, length, map, take, slice_index_or, None, IfOk, IfSome, OnOk};
 ghost use Rattle.std.specs.Ordering.{is_lt};
