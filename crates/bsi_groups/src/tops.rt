@@ -11,6 +11,7 @@ ghost use Rattle.bsi_groups.specs.Tops.{compared, is_ahead, op_beyond, rows_at, 
 
 use crate::selecting::select_for;
 use bsi_bits::{Bits, MAX_BLOCK};
+use bsi_columns::AnyColumn;
 use bsi_orders::Op;
 use bsi_shift::Shifted;
 use bsi_table::{AskError, Index, NoMemory, Pred};
@@ -19,12 +20,6 @@ use std::cmp::Ordering;
 
 /// A multiplier that spreads a sample over the blocks.
 const SPREAD: usize = 0x9E37_79B9_7F4A_7C15;
-
-/// The least sample of blocks that saves time.
-const MIN_SAMPLE: usize = 32;
-
-/// As many rows take about as long to compare with a bound as one of them takes to read.
-const ROWS_PER_LISTED: u64 = 1024;
 
 /// A row of an index, and its number in a column.
 #[derive(Clone, Copy, Debug, PartialEq, Eq)]
@@ -136,7 +131,9 @@ fn sampled_bound(column: &Shifted, found: &Bits, most: usize, end: End) -> Optio
         other: i64::MIN,
         is_outer: false,
     };
-    'sample: for k in 0..sample_size(words.len(), most) {
+    // A smaller sample saves no time.
+    let least = rows_per_read(column) as usize / 32;
+    'sample: for k in 0..sample_size(words.len(), most, least) {
         let at = sampled_block(k, words.len());
         if words[at] != 0 {
             column.read_block(at, &mut block);
@@ -149,12 +146,22 @@ fn sampled_bound(column: &Shifted, found: &Bits, most: usize, end: End) -> Optio
 }
 
 /// Returns how many of so many blocks are read as a sample: about as many as the rows beyond its bound, which are to be
-/// several times `most`, or none.
-fn sample_size(blocks: usize, most: usize) -> usize
+/// several times `most`, or none where they are fewer than `least`.
+fn sample_size(blocks: usize, most: usize, least: usize) -> usize
     ensures { result ≤ blocks }
 {
     let size = blocks.isqrt().min(blocks / 8 / most.max(1));
-    if size < MIN_SAMPLE { 0 } else { size }
+    if size < least { 0 } else { size }
+}
+
+/// Returns how many rows of a column are compared with a bound in about the time in which one of them is read.
+fn rows_per_read(column: &Shifted) -> u64
+    ensures { 0 < result }
+{
+    match column.stored() {
+        AnyColumn::Slices(_) => 1024,
+        AnyColumn::Equality(_) | AnyColumn::Range(_) => 8192,
+    }
 }
 
 /// Returns which of so many blocks is read at turn `k`: the last, the first, and then blocks in between.
@@ -265,7 +272,7 @@ fn rows_by_rank(
         AreFirst end most found.now.bits (shifted_entries column.now) listed.items) }
 {
     let count = found.count();
-    if count <= (most as u64).max(found.len() / ROWS_PER_LISTED) {
+    if count <= (most as u64).max(found.len() / rows_per_read(column)) {
         return all_rows(alloc, column, found, count as usize);
     }
     let mut listed = Vec::with_capacity(alloc, most)?;
