@@ -6,8 +6,8 @@
  * Each call takes a handle and returns a status. Where the status is not BSI_OK, the call has changed no row, and
  * written nothing, but for what is said at the call.
  *
- * Pointers. No pointer is null, not even one to nothing: where a length is 0, pass any aligned address. What a call
- * reads is the caller's, and is not kept after the call. What a call writes lies apart from all else that it is given.
+ * Pointers. No pointer is null, but one to a length of 0 may be: nothing is read or written there. What a call reads is the
+ * caller's, and is not kept after the call. What a call writes lies apart from all else that it is given.
  *
  * Threads. A call has its handle alone while it runs, also to ask. Two handles of one index, made by bsi_share, may be
  * used by two threads at once. A handle may be used by one thread after another.
@@ -128,12 +128,15 @@ enum {
 uint32_t bsi_open(bsi_index *index, const uint8_t *schema, size_t schema_len, uint32_t feeders, uint64_t *bad_record);
 
 /* Appends rows of a feeder, numbered from 0, that are given as one bsi_column for each column of the schema, in its
- * order. All rows are tested before the first is appended. *row is, at
- *     BSI_OK         how many rows were appended: all
- *     BSI_BAD_ROW    the first row that does not fit; none was appended
- *     BSI_NO_MEMORY  how many rows were appended: the first so many, in whole blocks of 64
- * and else 0; then none was appended. */
-uint32_t bsi_append(bsi_index *index, uint32_t feeder, const bsi_column *columns, size_t columns_len, uint64_t *row);
+ * order. All rows are tested before the first is appended. *row and *column are, at
+ *     BSI_OK           how many rows were appended: all; and 0
+ *     BSI_BAD_ROW      the first row that does not fit, and the first column, from 0, that does not take its entry there
+ *     BSI_BAD_COLUMNS  0, and the first column that is missing, or too many, or has another number of entries than the first
+ *                      or a bitmap that is short
+ *     BSI_NO_MEMORY    how many rows were appended: the first so many, in whole blocks of 64; and 0
+ * and else 0. Only at BSI_OK and BSI_NO_MEMORY were rows appended. */
+uint32_t bsi_append(bsi_index *index, uint32_t feeder, const bsi_column *columns, size_t columns_len, uint64_t *row,
+                    size_t *column);
 
 /* Answers a query, given as the fields of a query record: {"count", "price", "<", "100"}, or of a rank, from 0:
  * {"rank", "price", "9", "all"}. A comparison may have the name of another column in place of the number: {"count", "price",
@@ -152,12 +155,13 @@ uint32_t bsi_group_by(bsi_index *index, const bsi_text *fields, size_t fields_le
  * The groups come in order of the first column's numbers, null last, and those of one of these in order of the second's.
  * *count is how many they are; at BSI_NO_ROOM there are more than pairs_len, and nothing is written. No such column is
  * BSI_BAD_QUERY. The names may be the same. */
-uint32_t bsi_group_by_two(bsi_index *index, const bsi_text *fields, size_t fields_len, const uint8_t *first, size_t first_len,
-                          const uint8_t *second, size_t second_len, bsi_pair *pairs, size_t pairs_len, size_t *count);
+uint32_t bsi_group_by_two(bsi_index *index, const bsi_text *fields, size_t fields_len, const uint8_t *first,
+                          size_t first_len, const uint8_t *second, size_t second_len, bsi_pair *pairs, size_t pairs_len,
+                          size_t *count);
 
 /* Writes which rows a predicate selects, given as its fields: {"price", "<", "100"}. Row i is bit i % 64 of word i / 64,
  * from the lowest; bits past the last row are 0. Rows are numbered as they were appended, by all feeders together. It
- * takes and writes as many words as the rows fill: rows / 64, rounded up. */
+ * takes at least as many words as the rows fill, rows / 64, rounded up, and writes these; fewer are BSI_NO_ROOM. */
 uint32_t bsi_select(bsi_index *index, const bsi_text *fields, size_t fields_len, uint64_t *words, size_t words_len);
 
 /* Writes how many different numbers the column of a name, given as its bytes, has at the rows that a predicate selects. A
@@ -173,11 +177,15 @@ uint32_t bsi_ranks(bsi_index *index, const bsi_text *fields, size_t fields_len, 
 /* Writes the rows with the greatest numbers, or the least, that the column of a name has at such rows: as many as rows_len,
  * or all where fewer have a number. The greatest comes first, or the least, and of rows with one number the lower row.
  * *count is how many they are. */
-uint32_t bsi_top(bsi_index *index, const bsi_text *fields, size_t fields_len, const uint8_t *name, size_t name_len, bool least,
-                 bsi_row *rows, size_t rows_len, size_t *count);
+uint32_t bsi_top(bsi_index *index, const bsi_text *fields, size_t fields_len, const uint8_t *name, size_t name_len,
+                 bool least, bsi_row *rows, size_t rows_len, size_t *count);
 
 /* Writes the number of rows, at most 2^32. */
 uint32_t bsi_rows(bsi_index *index, uint64_t *rows);
+
+/* Writes how many bytes the index keeps of its rows: those of its bitmaps, in words of 64 rows, a byte a row for the feeder,
+ * and, with several feeders, 4 bytes for each of them and every 512 rows. The room for more rows comes on top. */
+uint32_t bsi_memory(bsi_index *index, uint64_t *bytes);
 
 /* Writes the schema as the text that opened the index, or for kept bytes one that declares the same. *size is its number
  * of bytes, at BSI_NO_ROOM too. */

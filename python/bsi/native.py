@@ -60,7 +60,7 @@ class _Pair(Structure):
 
 _CALLS: Dict[str, List[Any]] = {
     "bsi_open": [c_void_p, c_size_t, c_uint32, POINTER(c_uint64)],
-    "bsi_append": [c_uint32, c_void_p, c_size_t, POINTER(c_uint64)],
+    "bsi_append": [c_uint32, c_void_p, c_size_t, POINTER(c_uint64), POINTER(c_size_t)],
     "bsi_ask": [c_void_p, c_size_t, POINTER(_Answer), c_void_p, c_size_t],
     "bsi_group_by": [c_void_p, c_size_t, c_void_p, c_size_t, c_void_p, c_size_t, POINTER(c_size_t)],
     "bsi_group_by_two": [*[c_void_p, c_size_t] * 4, POINTER(c_size_t)],
@@ -140,13 +140,14 @@ class Handle:
             return getattr(_library, name)(self._at, *arguments)
 
     def append(self, columns: Sequence[Entries]) -> Tuple[int, int]:
-        """Appends rows, and returns the status and the row that it tells."""
+        """Appends rows, and returns the status and the row that it tells. Which column is refused the caller finds by itself,
+        since it tells of each."""
         given = (_Column * max(1, len(columns)))()
         for column, (values, valid) in zip(given, columns):
             column.values, column.values_len = _address(values), len(values)
             column.valid, column.valid_len = _address(valid), 0 if valid is None else len(valid)
-        row = c_uint64()
-        return self._call("bsi_append", 0, ctypes.addressof(given), len(columns), byref(row)), row.value
+        row, places = c_uint64(), (ctypes.addressof(given), len(columns))
+        return self._call("bsi_append", 0, *places, byref(row), byref(c_size_t())), row.value
 
     def _ask(self, *fields: bytes) -> _Answer:
         answer, (slices, length, _kept) = _Answer(), _slices(fields)

@@ -192,10 +192,11 @@ int main(void) {
     bsi_index index = {0};
     bsi_answer answer = {0};
     uint64_t bad, row, rows;
+    size_t refused;
     const char *schema = "column,a,slices,20\ncolumn,b,range,10 10 10,-400\ncolumn,c,equality,70 72\nlimit,200000\n";
     check(!opens(&index, schema, 1, &bad) && bad == 0, "an index is opened");
     bsi_column columns[3] = {{plain[0], ROWS, valid, 0}, {plain[1], ROWS, valid, sizeof valid}, {plain[2], ROWS, valid, 0}};
-    check(!bsi_append(&index, 0, columns, 3, &row) && row == ROWS, "rows are appended");
+    check(!bsi_append(&index, 0, columns, 3, &row, &refused) && row == ROWS && refused == 0, "rows are appended");
     check(!bsi_rows(&index, &rows) && rows == ROWS, "the rows are counted");
     for (int column = 0; column < 3; column++)
         for (int sign = 0; sign < 6; sign++) compare(&index, column, sign);

@@ -28,7 +28,8 @@ static void append(bsi_index *index, uint32_t feeder, size_t rows) {
     for (size_t k = 0; k < sizeof there; k++) there[k] = next();
     bsi_column columns[3] = {{a, rows, there, 0}, {b, rows, there, sizeof there}, {c, rows, there, 0}};
     uint64_t row;
-    check(bsi_append(index, feeder, columns, 3, &row) == BSI_OK, "rows are appended");
+    size_t column;
+    check(bsi_append(index, feeder, columns, 3, &row, &column) == BSI_OK, "rows are appended");
 }
 
 static void ask_all(bsi_index *index, replies *into) {

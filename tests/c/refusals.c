@@ -2,10 +2,12 @@
  * but those that it counts, and leaves no block. Where the growth is refused alone, the same call made again does what
  * is left. The calls by which the library asks for memory stand here in place of its own. */
 #include "check.h"
+#include <limits.h>
+#include <malloc.h>
 
-enum { ROWS = 200 };
+enum { ROWS = 200, MANY = 65536 };
 
-static long left, live;
+static long left, live, live_bytes;
 static bool all_later, was_refused;
 static int64_t a[ROWS], b[ROWS];
 static uint8_t none[1];
@@ -31,13 +33,20 @@ void __real_free(void *block);
 void *__wrap_malloc(size_t size) {
     void *block = is_refused() ? NULL : __real_malloc(size);
     live += block != NULL;
+    live_bytes += malloc_usable_size(block);
     return block;
 }
 
-void *__wrap_realloc(void *block, size_t size) { return is_refused() ? NULL : __real_realloc(block, size); }
+void *__wrap_realloc(void *block, size_t size) {
+    size_t before = malloc_usable_size(block);
+    void *grown = is_refused() ? NULL : __real_realloc(block, size);
+    live_bytes += grown ? malloc_usable_size(grown) - before : 0;
+    return grown;
+}
 
 void __wrap_free(void *block) {
     live -= block != NULL;
+    live_bytes -= malloc_usable_size(block);
     __real_free(block);
 }
 
@@ -141,8 +150,9 @@ static void question(bsi_index *index, uint64_t rows) {
 static uint32_t append_from(bsi_index *index, uint64_t first, uint64_t *rows) {
     bsi_column columns[2] = {{a + first, ROWS - first, none, 0}, {b + first, ROWS - first, none, 0}};
     uint64_t row;
-    uint32_t status = bsi_append(index, 0, columns, 2, &row);
-    wrong += !is_fair(status) || (!status && row != ROWS - first) || (status && (row % 64 || row >= ROWS - first));
+    size_t column;
+    uint32_t status = bsi_append(index, 0, columns, 2, &row, &column);
+    wrong += !is_fair(status) || column || (!status && row != ROWS - first) || (status && (row % 64 || row >= ROWS - first));
     wrong += bsi_rows(index, rows) != BSI_OK || *rows != first + row;
     return status;
 }
@@ -222,7 +232,28 @@ static long refuse_each(bool and_later) {
     return 0;
 }
 
+/* Compares what bsi_memory says of rows that fill their room with what is allocated for them, which is rounded up. */
+static void measure(const char *schema, uint32_t feeders) {
+    static int64_t numbers[MANY];
+    bsi_index index = {0};
+    bsi_column column = {numbers, MANY, none, 0};
+    uint64_t bad, row, bytes = 0;
+    size_t refused;
+    char text[128];
+    left = LONG_MAX;
+    uint32_t status = opens(&index, schema, feeders, &bad);
+    long before = live_bytes;
+    status |= bsi_append(&index, 0, &column, 1, &row, &refused) | bsi_memory(&index, &bytes);
+    long grown = live_bytes - before;
+    snprintf(text, sizeof text, "bsi_memory counts what is allocated: %.*s", (int)strcspn(schema, "\n"), schema);
+    check(!status && (long)bytes <= grown && grown - (long)bytes <= grown / 100, text);
+    bsi_close(&index);
+}
+
 int main(void) {
+    measure("column,x,slices,8\n", 1);
+    measure("column,x,equality,2 3 4 50\n", 2);
+    measure("column,x,range,2 3 4 50\n", 64);
     for (int k = 0; k < ROWS; k++) a[k] = k * 7 % 256, b[k] = k % 100;
     for (int and_later = 0; and_later < 2; and_later++) {
         char text[128];

@@ -17,10 +17,22 @@ static uint64_t rows_of(bsi_index *index) {
     return rows;
 }
 
-static uint32_t append(bsi_index *index, uint32_t feeder, const bsi_column *columns, size_t len, uint64_t want_row) {
+static uint64_t memory_of(bsi_index *index) {
+    uint64_t bytes = UINT64_MAX;
+    bsi_memory(index, &bytes);
+    return bytes;
+}
+
+static uint32_t append_at(bsi_index *index, uint32_t feeder, const bsi_column *columns, size_t len, uint64_t want_row,
+                          size_t want_column) {
     uint64_t row = 77;
-    uint32_t status = bsi_append(index, feeder, columns, len, &row);
-    return row == want_row ? status : 1000 + (uint32_t)row;
+    size_t column = 77;
+    uint32_t status = bsi_append(index, feeder, columns, len, &row, &column);
+    return row == want_row && column == want_column ? status : 1000 + (uint32_t)row;
+}
+
+static uint32_t append(bsi_index *index, uint32_t feeder, const bsi_column *columns, size_t len, uint64_t want_row) {
+    return append_at(index, feeder, columns, len, want_row, 0);
 }
 
 static void of_a_closed_handle(void) {
@@ -38,6 +50,7 @@ static void of_a_closed_handle(void) {
     check(top(&closed, "all", "x", false, rows, 1, &size) == BSI_CLOSED, "top: a closed handle");
     check(selects(&closed, "all", words, 0) == BSI_CLOSED, "select: a closed handle");
     check(bsi_rows(&closed, &number) == BSI_CLOSED, "rows: a closed handle");
+    check(bsi_memory(&closed, &number) == BSI_CLOSED, "memory: a closed handle");
     check(bsi_schema(&closed, bits, 0, &size) == BSI_CLOSED, "schema: a closed handle");
     check(bsi_share(&closed, &other) == BSI_CLOSED, "share: a closed handle");
     check(bsi_close(&closed) == BSI_CLOSED, "close: a closed handle");
@@ -63,7 +76,7 @@ static void of_schemas(void) {
     free(text);
     check(opens(&open_one, "column,x,slices,8\ncolumn,y,range,10 10,-50\nlimit,70\n", 2, &bad) == BSI_OK && bad == 0, "open");
     check(opens(&open_one, "column,x,slices,8\n", 1, &bad) == BSI_OPEN && bad == 0, "open: an open handle");
-    check(rows_of(&open_one) == 0, "an index begins with no rows");
+    check(rows_of(&open_one) == 0 && memory_of(&open_one) == 0, "an index begins with no rows, and keeps no bytes of these");
 }
 
 static void of_columns(void) {
@@ -73,19 +86,24 @@ static void of_columns(void) {
     bsi_column long_one[2] = {{numbers, 71, bits, 0}, {numbers, 71, bits, 0}};
     bsi_column no_rows[2] = {{numbers, 0, bits, 0}, {numbers, 0, bits, 0}};
     check(append(&open_one, 2, two, 2, 0) == BSI_BAD_FEEDER, "append: no such feeder");
-    check(append(&open_one, 0, two, 1, 0) == BSI_BAD_COLUMNS, "append: one column of two");
-    check(append(&open_one, 0, two, 0, 0) == BSI_BAD_COLUMNS, "append: no column");
-    check(append(&open_one, 0, three, 3, 0) == BSI_BAD_COLUMNS, "append: three columns of two");
+    check(append_at(&open_one, 0, two, 1, 0, 1) == BSI_BAD_COLUMNS, "append: one column of two, and the second is missing");
+    check(append(&open_one, 0, two, 0, 0) == BSI_BAD_COLUMNS, "append: no column, and the first is missing");
+    check(append_at(&open_one, 0, three, 3, 0, 2) == BSI_BAD_COLUMNS, "append: three columns of two, and the third is too many");
     two[1].values_len = 2;
-    check(append(&open_one, 0, two, 2, 0) == BSI_BAD_COLUMNS, "append: lengths that differ");
+    check(append_at(&open_one, 0, two, 2, 0, 1) == BSI_BAD_COLUMNS, "append: lengths that differ");
     long_one[1].valid_len = 8;
-    check(append(&open_one, 0, long_one, 2, 0) == BSI_BAD_COLUMNS, "append: a bitmap that is short by a byte");
+    check(append_at(&open_one, 0, long_one, 2, 0, 1) == BSI_BAD_COLUMNS, "append: a bitmap that is short by a byte");
     long_one[1].valid_len = 0;
     check(append(&open_one, 0, long_one, 2, 0) == BSI_INDEX_FULL, "append: a row more than the limit");
     two[1] = (bsi_column){low, 3, bits, 0};
-    check(append(&open_one, 0, two, 2, 2) == BSI_BAD_ROW, "append: a number below the least");
+    check(append_at(&open_one, 0, two, 2, 2, 1) == BSI_BAD_ROW, "append: a number below the least");
     two[0].values = big;
     check(append(&open_one, 0, two, 2, 1) == BSI_BAD_ROW, "append: the first of two rows that do not fit");
+    low[1] = 50;
+    check(append(&open_one, 0, two, 2, 1) == BSI_BAD_ROW, "append: the first of two columns that a row does not fit");
+    low[0] = 50;
+    check(append_at(&open_one, 0, two, 2, 0, 1) == BSI_BAD_ROW, "append: the second column, in an earlier row than the first");
+    low[0] = -50, low[1] = 49;
     check(append(&open_one, 0, no_rows, 2, 0) == BSI_OK, "append: no rows");
     check(rows_of(&open_one) == 0, "refused rows are not there");
     bits[15] = 5;
@@ -93,6 +111,8 @@ static void of_columns(void) {
     two[1] = (bsi_column){low, 3, bits + 15, 1};
     low[2] = 0;
     check(append(&open_one, 1, two, 2, 3) == BSI_OK && rows_of(&open_one) == 3, "append: a null need not fit");
+    /* 9 bitmaps of 8 slices; 27 of two bases of 10, with 9 digits and 4 places each; a byte a row; two counts */
+    check(memory_of(&open_one) == (9 + 27) * 8 + 3 + 2 * 4, "memory: the bytes of 36 bitmaps of a word, and of the feeders");
 }
 
 static void of_pairs(void) {
@@ -233,7 +253,25 @@ static void of_sharing(void) {
     check(bsi_close(&third) == BSI_OK && bsi_close(&third) == BSI_CLOSED, "close: twice");
 }
 
-/* A length of 0 beside a null pointer is outside the contract, and does no harm. */
+/* A pointer to a length of 0 may be null. */
+static void of_null_pointers_to_bytes(bsi_index *index) {
+    bsi_answer answer = {0};
+    uint64_t row;
+    size_t refused, size, notes_len;
+    bsi_text nothing = {NULL, 0};
+    check(bsi_append(index, 0, NULL, 0, &row, &refused) == BSI_BAD_COLUMNS && refused == 0, "append: null and no column");
+    check(bsi_ask(index, &nothing, 1, &answer, NULL, 0) == BSI_BAD_QUERY, "ask: a field of null and no byte");
+    check(bsi_distinct(index, NULL, 0, NULL, 0, &row) == BSI_BAD_QUERY, "distinct: null and no field, null and no name");
+    check(bsi_schema(index, NULL, 0, &size) == BSI_NO_ROOM && size > 0, "schema: null and no room");
+    check(bsi_save(index, NULL, 0, NULL, 0, &size) == BSI_NO_ROOM && size > 0, "save: null and no note, null and no room");
+    check(bsi_open_kept(&closed, NULL, 0, NULL, 0, &notes_len, &row) == BSI_NOT_KEPT, "open_kept: null and no byte");
+    uint8_t *bytes = malloc(size);
+    check(bsi_save(index, NULL, 0, bytes, size, &size) == BSI_OK, "save: null and no note");
+    check(bsi_open_kept(&closed, bytes, size, NULL, 0, &notes_len, &row) == BSI_OK && !notes_len, "open_kept: null and no room");
+    free(bytes);
+    bsi_close(&closed);
+}
+
 static void of_null_pointers(void) {
     bsi_index index = {0};
     bsi_answer answer = {0};
@@ -250,6 +288,7 @@ static void of_null_pointers(void) {
     check(group_by_two(&index, "count all", "x", "x", NULL, 0, &count) == BSI_OK && count == 0, "group_by_two: null and no pair");
     check(ranks(&index, "all", "x", NULL, 0, NULL, 0) == BSI_OK, "ranks: null and no rank");
     check(top(&index, "all", "x", false, NULL, 0, &count) == BSI_OK && count == 0, "top: null and no row");
+    of_null_pointers_to_bytes(&index);
     bsi_close(&index);
 }
 

@@ -35,11 +35,12 @@ static void *asks(void *at) {
 int main(void) {
     pthread_t threads[THREADS];
     uint64_t bad, row;
+    size_t refused;
     long all = 0;
     for (size_t k = 0; k < ROWS; k++) numbers[k] = next() % 1000;
     bsi_column column = {numbers, ROWS, none, 0};
     all += opens(&handles[0], "column,x,range,10 10 10\n", 1, &bad) != BSI_OK;
-    all += bsi_append(&handles[0], 0, &column, 1, &row) != BSI_OK;
+    all += bsi_append(&handles[0], 0, &column, 1, &row, &refused) != BSI_OK;
     for (int k = 1; k < THREADS; k++) all += bsi_share(&handles[0], &handles[k]) != BSI_OK;
     for (int k = 0; k < THREADS; k++) all += pthread_create(&threads[k], NULL, asks, (void *)(intptr_t)k) != 0;
     for (int k = 0; k < THREADS; k++) all += pthread_join(threads[k], NULL) != 0 || wrong[k];

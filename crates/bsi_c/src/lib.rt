@@ -5,6 +5,7 @@
 ghost use Rattle.std.specs.Prelude.{◌≡◌, ◌≢◌, Err, None, drop, length, map};
 ghost use Rattle.bsi_ffi.specs.Calls.{IsAppending, IsAsking, IsClosing, IsCounting, IsDescribing, IsKeeping, IsOpening, IsReopening, IsSelecting, IsSharing, LeavesRest, LeavesWords};
 ghost use Rattle.bsi_ffi.specs.Groups.{IsGrouping};
+ghost use Rattle.bsi_ffi.specs.Memory.{IsMeasuring};
 ghost use Rattle.bsi_ffi.specs.Pairs.{IsGroupingByTwo};
 ghost use Rattle.bsi_ffi.specs.Numbers.{IsCountingDifferent, IsRanking};
 ghost use Rattle.bsi_ffi.specs.States.{opened_in};
@@ -14,8 +15,8 @@ ghost use Rattle.bsi_ffi.specs.declared.refusal.Refusal.TheVariants.{NoMemory, N
 
 use bsi_ffi::{
     FlatAnswer, FlatEntry, FlatGroup, FlatPair, FlatRow, GivenColumn, Handle, Place, append, ask,
-    close, count, describe, different, first_rows, group, group_pairs, open, open_kept, ranked,
-    save, select, share, status_of,
+    close, count, describe, different, first_rows, group, group_pairs, measure, open, open_kept,
+    ranked, save, select, share, status_of,
 };
 use std::alloc::Global;
 
@@ -37,7 +38,8 @@ pub extern "C" fn bsi_open(
 }
 
 /// Appends all rows of the columns, and writes how many. If one does not fit, it writes the number of the first such
-/// row, and appends none. If memory is refused, it writes how many were appended.
+/// row, and appends none. If memory is refused, it writes how many were appended. It writes the first column that is
+/// refused.
 #[unsafe(no_mangle)]
 pub extern "C" fn bsi_append(
     alloc: Global,
@@ -45,13 +47,14 @@ pub extern "C" fn bsi_append(
     feeder: u32,
     columns: &[GivenColumn],
     row: &mut u64,
+    column: &mut usize,
 ) -> u32
     ensures told { Tells result (IsAppending index.old.held.value feeder columns.now row.new
-        index.new.held.value) }
+        column.new index.new.held.value) }
     ensures kept { result ≢ 0 → result ≢ status_of (Err NoMemory) →
         index.new.held.value ≡ index.old.held.value }
 {
-    status_of(append(alloc, index, feeder, columns, row))
+    status_of(append(alloc, index, feeder, columns, row, column))
 }
 
 /// Answers the query that the fields ask, as in a script: `count`, `price`, `<`, `100`.
@@ -203,6 +206,16 @@ pub extern "C" fn bsi_rows(alloc: Global, index: &mut Handle, rows: &mut u64) ->
     ensures left { result ≢ 0 → rows.new ≡ rows.old }
 {
     status_of(count(alloc, index, rows))
+}
+
+/// Writes how many bytes the index keeps of its rows. The room for more rows comes on top.
+#[unsafe(no_mangle)]
+pub extern "C" fn bsi_memory(alloc: Global, index: &mut Handle, bytes: &mut u64) -> u32
+    ensures told { Tells result (IsMeasuring (opened_in index.old.held.value) bytes.new) }
+    ensures kept { index.new.held.value ≡ index.old.held.value }
+    ensures left { result ≢ 0 → bytes.new ≡ bytes.old }
+{
+    status_of(measure(alloc, index, bytes))
 }
 
 /// Writes the schema text, if there is room, and its length.

@@ -19,7 +19,7 @@ use Rattle.bsi_saved.specs.Faults.{IsFirstFault, IsOpened}
 use Rattle.bsi_saved.specs.Saved.{kept_file, max_notes, Keeps, MayBeKept}
 use Rattle.bsi_saved.specs.declared.fault.OpenFault.{OpenFault}
 use Rattle.bsi_saved.specs.declared.fault.OpenFault.TheVariants as open_fault
-use Rattle.bsi_ffi.specs.Columns.{are_columns, given_rows, row_count, AreTaken, IsFirstMisfit}
+use Rattle.bsi_ffi.specs.Columns.{are_columns, first_unlike, given_rows, row_count, row_of, AreTaken, IsFirstMisfit, IsFirstRefusing}
 use Rattle.bsi_ffi.specs.Opened.{Opened}
 use Rattle.bsi_ffi.specs.States.{is_shared, opened_in}
 use Rattle.bsi_ffi.specs.Statuses.{Ending}
@@ -73,43 +73,49 @@ pub record AreAppendable (table : Table) (feeder : ℕ) (columns : List GivenCol
 abbrev pub AreOfIndex : Table → ℕ → List GivenColumn → Type 0
 AreOfIndex table feeder columns = (feeder < table.feeders) × (are_columns (length table.schema.columns) columns ≡ true)
 
--- the rows are refused, for the first cause that applies; of one that does not fit this is the number, and else it is 0
-abbrev pub IsRowsRefusal : Table → ℕ → List GivenColumn → ℕ → Refusal → Type 0
-IsRowsRefusal table feeder columns row BadFeeder = (table.feeders ≤ feeder) × (row ≡ 0)
-IsRowsRefusal table feeder columns row BadColumns =
+-- the rows are refused, for the first cause that applies. Of a row that does not fit this is the number, and else it is 0; this
+-- is the first column that does not take that row's entry, or that the index can't take, and else it is 0
+abbrev pub IsRowsRefusal : Table → ℕ → List GivenColumn → ℕ → ℕ → Refusal → Type 0
+IsRowsRefusal table feeder columns row column BadFeeder = (table.feeders ≤ feeder) × (row ≡ 0) × (column ≡ 0)
+IsRowsRefusal table feeder columns row column BadColumns =
     (feeder < table.feeders) × (are_columns (length table.schema.columns) columns ≡ false) × (row ≡ 0)
-IsRowsRefusal table feeder columns row BadRow = AreOfIndex table feeder columns × IsFirstMisfit table.schema.columns columns row
-IsRowsRefusal table feeder columns row IndexFull =
+    × (column ≡ first_unlike (length table.schema.columns) columns)
+IsRowsRefusal table feeder columns row column BadRow =
+    AreOfIndex table feeder columns × IsFirstMisfit table.schema.columns columns row
+    × IsFirstRefusing table.schema.columns (row_of columns row) column
+IsRowsRefusal table feeder columns row column IndexFull =
     AreOfIndex table feeder columns × AreTaken table.schema.columns columns (row_count columns)
-    × (table.limit < length table.rows + row_count columns) × (row ≡ 0)
-IsRowsRefusal table feeder columns row why = ⊥
+    × (table.limit < length table.rows + row_count columns) × (row ≡ 0) × (column ≡ 0)
+IsRowsRefusal table feeder columns row column why = ⊥
 
 -- the first so many rows of the columns were appended
 abbrev pub with_first : Table → ℕ → List GivenColumn → ℕ → Table
 with_first table feeder columns n = with_rows table (given_rows feeder columns 0 n)
 
 -- an index takes rows: all of them, or, if memory is refused, those of the first full blocks but not all, or none
-abbrev pub AppendsColumns : Table → ℕ → List GivenColumn → ℕ → Table → Ending → Type 0
-AppendsColumns before feeder columns row after (Ok done) =
-    AreAppendable before feeder columns × (row ≡ row_count columns) × (after ≡ with_first before feeder columns row)
-AppendsColumns before feeder columns row after (Err NoMemory) =
-    AreAppendable before feeder columns × (row < row_count columns) × (row % max_block_rows ≡ 0)
+abbrev pub AppendsColumns : Table → ℕ → List GivenColumn → ℕ → ℕ → Table → Ending → Type 0
+AppendsColumns before feeder columns row column after (Ok done) =
+    AreAppendable before feeder columns × (row ≡ row_count columns) × (column ≡ 0) × (after ≡ with_first before feeder columns row)
+AppendsColumns before feeder columns row column after (Err NoMemory) =
+    AreAppendable before feeder columns × (row < row_count columns) × (row % max_block_rows ≡ 0) × (column ≡ 0)
     × (after ≡ with_first before feeder columns row)
-AppendsColumns before feeder columns row after (Err why) =
-    IsRowsRefusal before feeder columns row why × (after ≡ before)
+AppendsColumns before feeder columns row column after (Err why) =
+    IsRowsRefusal before feeder columns row column why × (after ≡ before)
 
 -- the index of a handle, with the other table
 abbrev pub with_table : Opened → Table → Opened
 with_table opened table = record opened { table = table }
 
-abbrev pub IsAppending : Option State → ℕ → List GivenColumn → ℕ → Option State → Ending → Type 0
-IsAppending None feeder columns row after ending = (ending ≡ Err Closed) × (row ≡ 0) × (after ≡ None)
-IsAppending (Some (Alone opened)) feeder columns row after ending =
+abbrev pub IsAppending : Option State → ℕ → List GivenColumn → ℕ → ℕ → Option State → Ending → Type 0
+IsAppending None feeder columns row column after ending =
+    (ending ≡ Err Closed) × (row ≡ 0) × (column ≡ 0) × (after ≡ None)
+IsAppending (Some (Alone opened)) feeder columns row column after ending =
     (table : Table) × (after ≡ Some (Alone (with_table opened table)))
-    × AppendsColumns opened.table feeder columns row table ending
-IsAppending (Some (shared_state opened)) feeder columns row after ending =
-    (ending ≡ Err Shared) × (row ≡ 0) × (after ≡ Some (shared_state opened))
-IsAppending (Some Moved) feeder columns row after ending = (ending ≡ Err Closed) × (row ≡ 0) × (after ≡ Some Moved)
+    × AppendsColumns opened.table feeder columns row column table ending
+IsAppending (Some (shared_state opened)) feeder columns row column after ending =
+    (ending ≡ Err Shared) × (row ≡ 0) × (column ≡ 0) × (after ≡ Some (shared_state opened))
+IsAppending (Some Moved) feeder columns row column after ending =
+    (ending ≡ Err Closed) × (row ≡ 0) × (column ≡ 0) × (after ≡ Some Moved)
 
 -- ---- asking
 

@@ -1,10 +1,10 @@
 -- Rows that are given as columns: numbers, and a bitmap that says which of them are there.
-use Rattle.std.specs.Prelude.{◌≡◌, ℕ, ◌+◌, ◌/◌, ◌%◌, ◌<◌, ◌==◌, ◌||◌, ◌&&◌, nat_eq, nat_le, Bool, true, false, List, [], ◌∷◌, length, map, Option, Some, None, slice_index, slice_index_or, ℤ, pos, if◌then◌else◌}
+use Rattle.std.specs.Prelude.{◌≡◌, ℕ, ◌+◌, ◌/◌, ◌%◌, ◌<◌, ◌==◌, ◌||◌, ◌&&◌, nat_eq, nat_le, Bool, true, false, List, [], ◌∷◌, length, map, Option, Some, None, slice_index, slice_index_or, take, ℤ, pos, if◌then◌else◌}
 use Rattle.std.specs.Int.{bit_at}
-use Rattle.std.specs.List.{list_all, range_with_len}
+use Rattle.std.specs.List.{list_all, prefix_len, range_with_len}
 use Rattle.bsi_ffi.specs.declared.columns.GivenColumn.{GivenColumn}
-use Rattle.bsi_schema.specs.Columns.{fits, NamedColumn}
-use Rattle.bsi_rows.specs.Rows.{Entries, FedRow}
+use Rattle.bsi_schema.specs.Columns.{column_at, fits, is_taken_by, NamedColumn}
+use Rattle.bsi_rows.specs.Rows.{entry_at, Entries, FedRow}
 
 -- a bitmap has bit r, the lowest digit of a byte first; one of no byte has each
 abbrev pub is_valid : List ℕ → ℕ → Bool
@@ -24,6 +24,10 @@ row_count (first ∷ rest) = length first.values.now
 -- there are so many columns, all of one length, with a bit for each number
 abbrev pub are_columns : ℕ → List GivenColumn → Bool
 are_columns count columns = nat_eq (length columns) count && list_all (has_rows (row_count columns)) columns
+
+-- the first column that an index of so many does not take: all before it are given, wanted, and of one length
+abbrev pub first_unlike : ℕ → List GivenColumn → ℕ
+first_unlike count columns = prefix_len (has_rows (row_count columns)) (take count columns)
 
 -- the entry of row r
 abbrev pub entry_of : ℕ → GivenColumn → Option ℤ
@@ -47,3 +51,8 @@ pub record IsFirstMisfit (declared : List NamedColumn) (columns : List GivenColu
   pub within : r < row_count columns
   pub before : AreTaken declared columns r
   pub misfit : fits declared (row_of columns r) ≡ false
+
+-- column c is the first that does not take its entry of a row
+pub record IsFirstRefusing (declared : List NamedColumn) (row : Entries) (c : ℕ) : Type 0 where
+  pub before : (k : ℕ) → k < c → is_taken_by (column_at declared k) (entry_at row k) ≡ true
+  pub refuses : is_taken_by (column_at declared c) (entry_at row c) ≡ false

@@ -1,6 +1,7 @@
 pub mod Calls
 pub mod Columns
 pub mod Groups
+pub mod Memory
 pub mod Numbers
 pub mod Opened
 pub mod Owned

@@ -8,7 +8,7 @@ ghost use Rattle.bsi_rows.specs.RowBlocks.{max_block_rows};
 ghost use Rattle.bsi_rows.specs.Table.{with_rows};
 ghost use Rattle.bsi_table.specs.Index.{table_of};
 
-use crate::columns::{GivenColumn, are_columns, count_rows, entry};
+use crate::columns::{GivenColumn, are_columns, count_rows, entry, first_unlike};
 use crate::fitting::first_misfit;
 use crate::refusal::Refusal;
 use bsi_table::{Block, Index, MAX_BLOCK_ROWS, NoMemory};
@@ -131,29 +131,34 @@ fn append_blocks(
     Ok(())
 }
 
-/// Tests whether all rows of the columns can be appended. It writes the first row that does not fit, if that is why
-/// not.
+/// Tests whether all rows of the columns can be appended. It writes the first row that does not fit, and the first column
+/// that is refused, if these are why not.
 fn check_rows(
     index: &Index,
     feeder: u32,
     columns: &[GivenColumn],
     row: &mut u64,
+    column: &mut usize,
 ) -> Result<(), Refusal>
-    requires { row.old ≡ 0 }
+    requires { (row.old ≡ 0) × (column.old ≡ 0) }
     ensures taken { OnOk result (AreAppendable (table_of index.now) feeder columns.now) }
-    ensures refused { IfErr result (IsRowsRefusal (table_of index.now) feeder columns.now row.new) }
+    ensures unmarked { OnOk result (column.new ≡ 0) }
+    ensures refused { IfErr result (IsRowsRefusal (table_of index.now) feeder columns.now row.new
+        column.new) }
 {
     if feeder >= index.feeders() {
         return Err(Refusal::BadFeeder);
     }
     let schema = index.schema();
     if !are_columns(columns, schema.columns()) {
+        *column = first_unlike(columns, schema.columns());
         return Err(Refusal::BadColumns);
     }
     let rows = count_rows(columns);
     let misfit = first_misfit(schema, columns, rows);
-    if misfit < rows {
-        *row = misfit as u64;
+    if misfit.row < rows {
+        *row = misfit.row as u64;
+        *column = misfit.column;
         return Err(Refusal::BadRow);
     }
     if rows as u64 > index.limit() - index.len() {
@@ -163,19 +168,21 @@ fn check_rows(
 }
 
 /// Appends all rows of the columns, and writes how many. If one does not fit, it writes the number of the first such
-/// row, and appends none. If memory is refused, it writes how many were appended.
+/// row, and appends none. If memory is refused, it writes how many were appended. It writes the first column that is
+/// refused.
 pub(crate) fn append_columns(
     alloc: Global,
     index: &mut Index,
     feeder: u32,
     columns: &[GivenColumn],
     row: &mut u64,
+    column: &mut usize,
 ) -> Result<(), Refusal>
-    requires { row.old ≡ 0 }
-    ensures { AppendsColumns (table_of index.old) feeder columns.now row.new (table_of index.new)
-        result }
+    requires { (row.old ≡ 0) × (column.old ≡ 0) }
+    ensures { AppendsColumns (table_of index.old) feeder columns.now row.new column.new
+        (table_of index.new) result }
 {
-    check_rows(index, feeder, columns, row)?;
+    check_rows(index, feeder, columns, row, column)?;
     append_blocks(alloc, index, feeder, columns, row)?;
     Ok(())
 }

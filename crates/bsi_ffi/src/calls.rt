@@ -3,6 +3,7 @@
 ghost use Rattle.std.specs.Prelude.{◌≡◌, ◌≢◌, None, drop, is_some, length, map, IfErr, OnErr, OnOk};
 ghost use Rattle.bsi_ffi.specs.Calls.{IsAppending, IsAsking, IsClosing, IsCounting, IsDescribing, IsKeeping, IsOpening, IsReopening, IsSelecting, IsSharing, LeavesRest, LeavesWords};
 ghost use Rattle.bsi_ffi.specs.Groups.{IsGrouping};
+ghost use Rattle.bsi_ffi.specs.Memory.{IsMeasuring};
 ghost use Rattle.bsi_ffi.specs.Numbers.{IsCountingDifferent, IsRanking};
 ghost use Rattle.bsi_ffi.specs.Pairs.{IsGroupingByTwo};
 ghost use Rattle.bsi_ffi.specs.States.{opened_in};
@@ -13,6 +14,7 @@ use crate::columns::GivenColumn;
 use crate::groups::{FlatGroup, reply_groups};
 use crate::held::{Handle, put, take};
 use crate::keeping::{fill, keep, open_bytes};
+use crate::memory::kept_bytes;
 use crate::numbers::{count_different, reply_ranks};
 use crate::pairs::{FlatEntry, FlatPair, reply_pairs};
 use crate::reading::open_text;
@@ -66,24 +68,27 @@ pub fn open(
 }
 
 /// Appends all rows of the columns, and writes how many. If one does not fit, it writes the number of the first such
-/// row, and appends none. If memory is refused, it writes how many were appended.
+/// row, and appends none. If memory is refused, it writes how many were appended. It writes the first column that is
+/// refused.
 pub fn append(
     alloc: Global,
     index: &mut Handle,
     feeder: u32,
     columns: &[GivenColumn],
     row: &mut u64,
+    column: &mut usize,
 ) -> Result<(), Refusal>
-    ensures ending { IsAppending index.old.held.value feeder columns.now row.new
+    ensures ending { IsAppending index.old.held.value feeder columns.now row.new column.new
         index.new.held.value result }
     ensures kept { IfErr result (λ why. why ≢ Refusal.NoMemory →
         index.new.held.value ≡ index.old.held.value) }
 {
     let Some(mut state) = take(index, alloc) else {
         *row = 0;
+        *column = 0;
         return Err(Refusal::Closed);
     };
-    let ending = state.append(alloc, feeder, columns, row);
+    let ending = state.append(alloc, feeder, columns, row, column);
     put(index, state);
     ending
 }
@@ -287,6 +292,26 @@ pub fn count(alloc: Global, index: &mut Handle, rows: &mut u64) -> Result<(), Re
     let ending = match state.opened() {
         Some(opened) => {
             *rows = opened.index().len();
+            Ok(())
+        }
+        None => Err(Refusal::Closed),
+    };
+    put(index, state);
+    ending
+}
+
+/// Writes how many bytes the index keeps of its rows.
+pub fn measure(alloc: Global, index: &mut Handle, bytes: &mut u64) -> Result<(), Refusal>
+    ensures ending { IsMeasuring (opened_in index.old.held.value) bytes.new result }
+    ensures kept { index.new.held.value ≡ index.old.held.value }
+    ensures left { OnErr result (bytes.new ≡ bytes.old) }
+{
+    let Some(state) = take(index, alloc) else {
+        return Err(Refusal::Closed);
+    };
+    let ending = match state.opened() {
+        Some(opened) => {
+            *bytes = kept_bytes(opened.index());
             Ok(())
         }
         None => Err(Refusal::Closed),

@@ -2,7 +2,7 @@
 
 ghost use Rattle.std.specs.Prelude.{◌≡◌, ◌<◌, true};
 ghost use Rattle.std.specs.List.{list_all};
-ghost use Rattle.bsi_ffi.specs.Columns.{are_columns, entry_of, has_rows, row_count};
+ghost use Rattle.bsi_ffi.specs.Columns.{are_columns, entry_of, first_unlike, has_rows, row_count};
 ghost use Rattle.bsi_schema.specs.Columns.{is_between};
 
 use bsi_schema::Limits;
@@ -48,6 +48,17 @@ pub(crate) fn are_columns(columns: &[GivenColumn], count: u32) -> bool
     ensures { result ≡ are_columns count columns.now }
 {
     columns.len() == count as usize && have_rows(columns, count_rows(columns))
+}
+
+/// Returns the first column that an index of so many columns does not take: how many of the first so many have the number
+/// of rows of the first one, and a bit for each.
+pub(crate) fn first_unlike(columns: &[GivenColumn], count: u32) -> usize
+    ensures { result ≡ first_unlike count columns.now }
+{
+    let rows = count_rows(columns);
+    let wanted = &columns[..(count as usize).min(columns.len())];
+    let unlike = wanted.iter().position(|column| !has_rows(column, rows));
+    unlike.unwrap_or(wanted.len())
 }
 
 /// Returns the entry of row `r`.

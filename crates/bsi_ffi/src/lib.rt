@@ -11,6 +11,7 @@ mod fitting;
 mod groups;
 mod held;
 mod keeping;
+mod memory;
 mod numbers;
 mod opened;
 mod pairs;
@@ -22,7 +23,7 @@ mod tops;
 
 pub use answers::{COUNT, FlatAnswer, Place, ROWS, SUM, VALUE};
 pub use calls::{
-    append, ask, close, count, describe, different, first_rows, group, group_pairs, open,
+    append, ask, close, count, describe, different, first_rows, group, group_pairs, measure, open,
     open_kept, ranked, save, select, share,
 };
 pub use columns::GivenColumn;

@@ -80,11 +80,13 @@ impl Opened {
         feeder: u32,
         columns: &[GivenColumn],
         row: &mut u64,
+        column: &mut usize,
     ) -> Result<(), Refusal>
-        requires { row.old ≡ 0 }
+        requires { (row.old ≡ 0) × (column.old ≡ 0) }
         ensures text { self.new ≡ with_table self.old self.new.table }
-        ensures rows { AppendsColumns self.old.table feeder columns.now row.new self.new.table result }
+        ensures rows { AppendsColumns self.old.table feeder columns.now row.new column.new
+            self.new.table result }
     {
-        append_columns(alloc, &mut self.index, feeder, columns, row)
+        append_columns(alloc, &mut self.index, feeder, columns, row, column)
     }
 }

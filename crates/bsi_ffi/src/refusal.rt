@@ -30,7 +30,7 @@ pub enum Refusal {
     Shared,
     /// The fields ask no query, or spell no predicate.
     BadQuery,
-    /// The caller's room is too small, or, for the words of a mask, of another size.
+    /// The caller's room is too small.
     NoRoom,
     /// The schema text has more than 1,000,000 records.
     BadText,

@@ -42,12 +42,15 @@ impl State {
         feeder: u32,
         columns: &[GivenColumn],
         row: &mut u64,
+        column: &mut usize,
     ) -> Result<(), Refusal>
-        ensures { IsAppending (Some self.old) feeder columns.now row.new (Some self.new) result }
+        ensures { IsAppending (Some self.old) feeder columns.now row.new column.new (Some self.new)
+            result }
     {
         *row = 0;
+        *column = 0;
         match self {
-            State::Alone(opened) => opened.append(alloc, feeder, columns, row),
+            State::Alone(opened) => opened.append(alloc, feeder, columns, row, column),
             State::Shared(_) => Err(Refusal::Shared),
             State::Moved => Err(Refusal::Closed),
         }

@@ -1,62 +1,90 @@
-use Rattle.std.proofs.Common.{◌≡◌, ◌<◌, ◌≤◌, ◌+◌, ℕ, Bool, true, false, List, length, map, None, sym, ap, ap₂, ◌∙◌, arith, get_or, below_more, subst, inl, inr, rules}
-use Rattle.std.proofs.Math.Nat.{eq-or-lt_of_le, min-eq_left}
-use Rattle.std.proofs.lemmas.List.{get_or-map, length-map, length_push}
-use Rattle.std.proofs.lemmas.Slice.Zip.{zip_end, zip_turn}
+use Rattle.std.proofs.Common.{◌≡◌, ◌<◌, ◌≤◌, ◌+◌, ℕ, Bool, true, false, List, length, map, None, sym, ap, ◌∙◌, arith, get_or, below_more, subst, inl, inr}
+use Rattle.std.proofs.Math.Nat.{eq-or-lt_of_le}
+use Rattle.std.proofs.lemmas.List.{get_or-map, length-map}
 use Rattle.bsi_schema.specs.Limits.{limits_of}
 use Rattle.bsi_schema.specs.declared.limits.Limits.{Limits}
-use Rattle.bsi_schema.specs.Columns.{column_at, fits, is_between, is_taken_by, NamedColumn}
+use Rattle.bsi_schema.specs.Columns.{column_at, is_between, is_taken_by, NamedColumn}
 use Rattle.bsi_rows.specs.Rows.{entry_at}
-use Rattle.bsi_schema.proofs.Fitting.{fits-each, limits_at, limits_long, misfit-at}
-use Rattle.bsi_ffi.specs.Columns.{entry_of, row_of}
+use Rattle.bsi_schema.proofs.Fitting.{fits-each, limits_at, misfit-at}
+use Rattle.bsi_ffi.specs.Columns.{entry_of, row_of, IsFirstRefusing}
 use Rattle.bsi_ffi.specs.declared.columns.GivenColumn.{GivenColumn}
+use Rattle.bsi_ffi.specs.declared.fitting.Misfit.{Misfit}
 use Rattle.bsi_ffi.proofs.fitting.first_misfit.Goals as goal
 
 -- whether a column takes the entry of a row
 taken_at : (declared : List NamedColumn) (columns : List GivenColumn) (limits : List Limits) → limits ≡ map limits_of declared
-    → (k r : ℕ) (own : Limits) (column : GivenColumn) (taken : Bool) → k < length declared → k < length columns
-    → own ≡ get_or limits k own → column ≡ get_or columns k column
-    → is_between own.least own.size (entry_of r column) ≡ taken
+    → (k r : ℕ) (l : Limits) (g : GivenColumn) (taken : Bool) → k < length declared → k < length columns
+    → is_between (get_or limits k l).least (get_or limits k l).size (entry_of r (get_or columns k g)) ≡ taken
     → is_taken_by (column_at declared k) (entry_at (row_of columns r) k) ≡ taken
-taken_at declared columns limits are k r own column taken here within own_is column_is is =
-    ap (λ entry. is_taken_by (column_at declared k) entry) (get_or-map (entry_of r) columns k column None within)
-    ∙ sym (limits_at declared limits are k own (entry_of r (get_or columns k column)) here)
-    ∙ ap₂ (λ (l : Limits) (c : GivenColumn). is_between l.least l.size (entry_of r c)) (sym own_is) (sym column_is) ∙ is
+taken_at declared columns limits are k r l g taken here within is =
+    ap (λ entry. is_taken_by (column_at declared k) entry) (get_or-map (entry_of r) columns k g None within)
+    ∙ sym (limits_at declared limits are k l (entry_of r (get_or columns k g)) here) ∙ is
+
+-- what the first columns have found
+record IsSoFar (declared : List NamedColumn) (columns : List GivenColumn) (rows n : ℕ) (misfit : Misfit) : Type 0 where
+  within : misfit.row ≤ rows
+  taken : (k : ℕ) → k < n → (r : ℕ) → r < misfit.row → is_taken_by (column_at declared k) (entry_at (row_of columns r) k) ≡ true
+  before : misfit.row < rows → misfit.column < n
+  refused : misfit.row < rows → IsFirstRefusing declared (row_of columns misfit.row) misfit.column
+
+module _ (declared : List NamedColumn) (columns : List GivenColumn) (rows n : ℕ) (misfit : Misfit) (so : IsSoFar declared columns rows n misfit)
+    (row : ℕ) (within : row ≤ misfit.row)
+    (taken : (r : ℕ) → r < row → is_taken_by (column_at declared n) (entry_at (row_of columns r) n) ≡ true)
+    (refused : row < misfit.row → is_taken_by (column_at declared n) (entry_at (row_of columns row) n) ≡ false) where
+  each : (k : ℕ) → k < n + 1 → (r : ℕ) → r < row → is_taken_by (column_at declared k) (entry_at (row_of columns r) k) ≡ true
+  each = below_more _ _ (λ k before r at. so.taken k before r (omega (arith, at, within))) taken
+
+  -- of one column more
+  one_more : (next : Misfit) → (misfit.row ≤ row → next ≡ misfit) → (row < misfit.row → next ≡ record { row = row; column = n })
+      → IsSoFar declared columns rows (n + 1) next
+  one_more next kept replaced = elim (eq-or-lt_of_le within) [
+    | inl same ↦ subst (IsSoFar declared columns rows (n + 1)) (sym (kept (omega (arith, same)))) (record {
+      within = so.within;
+      taken = λ k below r at. each k below r (omega (arith, at, same));
+      before = λ is_row. omega (arith, so.before is_row);
+      refused = so.refused;
+    })
+    | inr earlier ↦ subst (IsSoFar declared columns rows (n + 1)) (sym (replaced earlier)) (record {
+      within = omega (arith, within, so.within);
+      taken = each;
+      before = λ is_row. omega arith;
+      refused = λ is_row. record { before = λ k below. so.taken k below row earlier; refuses = refused earlier };
+    })
+  ]
 
 pub columns-preserved : goal.columns-preserved
 columns-preserved c =
     let declared = c.args.schema.now.columns in
     let columns = c.args.columns.now in
-    let limits = c.limits.result.now in
-    let are = c.limits.ensures.limits in
-    let n = length c.columns.yielded in
-    let column = c.in-Some.column.now in
-    let own = c.in-Some.limits.now in
-    let turn = zip_turn columns limits c.columns.yielded c.into_iter-column-iterator.result c.columns.column-iterator c.next.new.self _ (search rules) (search rules)
-    c.columns.yielded_by (c.in-Some.column, c.in-Some.limits) c.in-Some.is c.next.ensures.steps in
-    let here : n < length declared = omega (arith, turn.1, limits_long declared limits are) in
-    let next = c.first_refused-first in
-    let tests : (r : ℕ) (taken : Bool) → is_between own.least own.size (entry_of r column) ≡ taken → is_taken_by (column_at declared n) (entry_at (row_of columns r) n) ≡ taken =
-    λ r taken. taken_at declared columns limits are n r own column taken here turn.0 (turn.3 own) (turn.2 column) in
-    let each : (k : ℕ) → k < n + 1 → (r : ℕ) → r < next.result → is_taken_by (column_at declared k) (entry_at (row_of columns r) k) ≡ true =
-    below_more _ _ (λ k before r at. c.columns.invariant.taken k before r (omega (arith, at, next.ensures.within)))
-    (λ r at. tests r true (next.ensures.taken r at)) in
-    record {
-      within = omega (arith, next.ensures.within, c.columns.invariant.within);
-      taken = λ k below. each k (omega (arith, below, length_push c.columns.yielded (c.in-Some.column, c.in-Some.limits)));
-      misfit = λ is_row.
-          elim (eq-or-lt_of_le next.ensures.within) [
-            | inl same ↦ subst (λ (r : ℕ). fits declared (row_of columns r) ≡ false) (sym same) (c.columns.invariant.misfit (omega (arith, is_row, same)))
-            | inr before ↦ sym (misfit-at declared (row_of columns next.result) n here (tests next.result false (next.ensures.refused before)))
-          ];
-    }
+    let limits = c.limits-limits.result.now in
+    let are = c.limits-limits.ensures.limits in
+    let n = c.columns.c in
+    let next = c.first_refused-row in
+    let within : n < length columns = omega (arith, c.columns-test.true) in
+    let here : n < length declared = omega (arith, within, c.requires.many) in
+    let so : IsSoFar declared columns c.args.rows n c.columns.misfit = record {
+      within = c.columns.invariant.within;
+      taken = c.columns.invariant.taken;
+      before = c.columns.invariant.before;
+      refused = c.columns.invariant.refused;
+    } in
+    let more = one_more declared columns c.args.rows n c.columns.misfit so next.result next.ensures.within
+    (λ r at. taken_at declared columns limits are n r _ _ true here within (next.ensures.taken r at))
+    (λ earlier. taken_at declared columns limits are n next.result _ _ false here within (next.ensures.refused earlier))
+    c.earlier-misfit.result c.earlier-misfit.ensures.kept c.earlier-misfit.ensures.replaced in
+    record { within = more.within; taken = more.taken; before = more.before; refused = more.refused }
 
 pub returns-clause-taken : goal.returns-clause-taken
 returns-clause-taken c = λ r before.
     let declared = c.args.schema.now.columns in
     let columns = c.args.columns.now in
-    let limits = c.limits.result.now in
-    let long : length columns ≤ length limits = omega (arith, c.requires.many, limits_long declared limits c.limits.ensures.limits) in
-    let all = zip_end columns limits c.columns.yielded c.into_iter-column-iterator.result c.columns.column-iterator c.next.new.self _ (search rules) (search rules)
-    c.columns.yielded_by c.in-None.is c.next.ensures.steps ∙ min-eq_left long in
     fits-each declared (row_of columns r) (length-map columns (entry_of r) ∙ c.requires.many)
-    (λ k within. c.columns.invariant.taken k (omega (arith, within, all, c.requires.many)) r before)
+    (λ k within. c.columns.invariant.taken k (omega (arith, within, c.requires.many, c.columns-test.false)) r before)
+
+-- a row that a column does not take does not fit
+pub returns-clause-misfit : goal.returns-clause-misfit
+returns-clause-misfit c = λ is_row.
+    let declared = c.args.schema.now.columns in
+    let m = c.columns.misfit in
+    let here : m.column < length declared = omega (arith, c.columns.invariant.before is_row, c.requires.many, c.columns.invariant.before is_row) in
+    sym (misfit-at declared (row_of c.args.columns.now m.row) m.column here (c.columns.invariant.refused is_row).refuses)

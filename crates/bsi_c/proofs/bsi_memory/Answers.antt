@@ -1,0 +1,8 @@
+use Rattle.bsi_ffi.proofs.Telling.{where_refused}
+use Rattle.bsi_c.proofs.bsi_memory.Goals as goal
+
+pub returns-clause-told : goal.returns-clause-told
+returns-clause-told c = (c.measure.result, c.status_of.ensures, c.measure.ensures.ending)
+
+pub returns-clause-left : goal.returns-clause-left
+returns-clause-left c = where_refused _ c.measure.result _ c.status_of.ensures c.measure.ensures.left
