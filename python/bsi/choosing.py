@@ -13,14 +13,14 @@ import numpy as np
 from .errors import BadColumns, BadRow, BadSchema, Error, several
 from .forms import LEAST, MOST, Form, narrowest
 from .kinds import Kind, Misfit, Texts, Whole, first_misfit, shown
-from .narrowing import MAX_TEXTS, encode, joined, narrow, recode, too_many_texts
+from .narrowing import MAX_TEXTS, encode, factor_of, joined, narrow, recode, too_many_texts
+from .packing import Packed, packed
 from .values import NO_TEXTS, Values, columns_of, values_of
 
 # The numbers of each column, and which of them are valid.
 Entered = List[Tuple[np.ndarray, np.ndarray]]
-# How many numbers a column takes at most, and how far those of so many bytes go.
+# How many numbers a column takes at most.
 SPAN = 1 << 63
-SIZES = {np.int8: 1 << 7, np.int16: 1 << 15, np.int32: 1 << 31, np.int64: 1 << 63}
 
 
 class Block(NamedTuple):
@@ -32,6 +32,20 @@ class Block(NamedTuple):
     valid: np.ndarray
     row: int = 0
 
+    @property
+    def rows(self) -> int:
+        """How many rows there are."""
+        return len(self.valid)
+
+    @property
+    def ends(self) -> Optional[Tuple[int, int]]:
+        """The least and the greatest of the valid numbers, or None where there is none."""
+        return ends_of(self.numbers, self.valid) if self.valid.any() else None
+
+    def plain(self) -> "Block":
+        """Returns the block as it is."""
+        return self
+
     def value(self, row: int) -> Any:
         """Returns what a number of the block stands for."""
         return (self.kind or Whole()).decode(int(self.numbers[row]))
@@ -41,15 +55,61 @@ class Block(NamedTuple):
         return self._replace(numbers=self.numbers[start:end], valid=self.valid[start:end])
 
 
+class PackedBlock(NamedTuple):
+    """The same as a block that takes as few bits as its numbers need: these times a factor, or those that stand at their
+    places in a list."""
+
+    kind: Optional[Kind]
+    packed: Packed
+    row: int
+    ends: Optional[Tuple[int, int]]
+    factor: int = 1
+    listed: Optional[np.ndarray] = None
+
+    @classmethod
+    def of(cls, block: Block) -> "PackedBlock":
+        """Packs a block."""
+        found = packed(block.numbers, block.valid)
+        return cls(block.kind, found, block.row, found.ends)
+
+    @property
+    def rows(self) -> int:
+        """How many rows there are."""
+        return self.packed.rows
+
+    def plain(self) -> Block:
+        """Returns the block unpacked."""
+        numbers = self.packed.numbers
+        numbers = numbers if self.listed is None else self.listed[numbers]
+        return Block(self.kind, numbers if self.factor == 1 else numbers * self.factor, self.packed.valid, self.row)
+
+    def meaning(self, kind: Kind, listed: np.ndarray) -> "PackedBlock":
+        """Returns the block with what stands at the places in a list that its numbers are."""
+        found = self._replace(kind=kind, listed=listed)
+        return found._replace(ends=found.plain().ends)
+
+    def scaled(self, kind: Optional[Kind]) -> Optional["PackedBlock"]:
+        """Returns the block under a kind that keeps what it keeps, or None where a number leaves 63 bits. It has no
+        texts."""
+        factor = factor_of(self.kind, kind)
+        low, high = (end * factor for end in self.ends or (0, 0))
+        fits = -SPAN < low and high < SPAN
+        ends = None if self.ends is None else (low, high)
+        return self._replace(kind=kind, factor=self.factor * factor, ends=ends) if fits else None
+
+
+AnyBlock = Union[Block, PackedBlock]
+
+
 class Chosen(NamedTuple):
     """The forms of columns, and the blocks of each, which have the same rows."""
 
     forms: Dict[str, Form]
-    columns: List[List[Block]]
+    columns: List[List[Any]]
 
     def rows(self) -> int:
         """Returns how many rows there are."""
-        return sum(len(block.valid) for block in self.columns[0])
+        return sum(block.rows for block in self.columns[0])
 
     def taken(self, most: int) -> Iterator[Entered]:
         """Yields the numbers of all columns in runs of at most so many rows. What is yielded is not kept."""
@@ -58,12 +118,12 @@ class Chosen(NamedTuple):
         while columns[0]:
             taken, rows = [[] for _ in columns], 0  # type: Tuple[List[List[Block]], int]
             while columns[0] and rows < most:
-                size = min(len(columns[0][0].valid), most - rows)
+                size = min(columns[0][0].rows, most - rows)
                 for blocks, parts in zip(columns, taken):
-                    block = blocks.popleft()
+                    block = blocks.popleft().plain()
                     parts.append(block.part(0, size))
-                    if size < len(block.valid):
-                        blocks.appendleft(block.part(size, len(block.valid)))
+                    if size < block.rows:
+                        blocks.appendleft(block.part(size, block.rows))
                 rows += size
             if rows:
                 yield [_joined(parts) for parts in taken]
@@ -74,15 +134,6 @@ def _joined(blocks: List[Block]) -> Tuple[np.ndarray, np.ndarray]:
         return blocks[0].numbers.astype(np.int64, copy=False), blocks[0].valid
     numbers = np.concatenate([block.numbers for block in blocks], dtype=np.int64, casting="unsafe")
     return numbers, np.concatenate([block.valid for block in blocks])
-
-
-def slim(numbers: np.ndarray) -> np.ndarray:
-    """Returns numbers in as few bytes as they need."""
-    if not len(numbers):
-        return numbers
-    least, most = int(numbers.min()), int(numbers.max())
-    small = next(size for size, end in SIZES.items() if -end <= least and most < end)
-    return numbers.astype(small, copy=False)
 
 
 def wanted_of(columns: Optional[Iterable[str]], names: List[str], drop: Iterable[str] = ()) -> List[str]:
@@ -202,7 +253,7 @@ def too_far(kind: Kind, low: int, high: int) -> str:
     return f"from {kind.show(low)} to {kind.show(high)} are more than the 2^63 values that a column takes"
 
 
-def kind_of(name: str, blocks: Iterable[Block], most: Optional[int] = MAX_TEXTS) -> Optional[Kind]:
+def kind_of(name: str, blocks: Iterable[AnyBlock], most: Optional[int] = MAX_TEXTS) -> Optional[Kind]:
     """Returns the kind that keeps what all blocks keep, with at most so many texts."""
     kind: Optional[Kind] = None
     blocks = list(blocks)
@@ -211,16 +262,17 @@ def kind_of(name: str, blocks: Iterable[Block], most: Optional[int] = MAX_TEXTS)
         try:
             kind = joined(before, block.kind)
         except TypeError as why:
-            row = int(block.valid.argmax())
-            raise BadRow(name, block.row + row, block.value(row), str(why)) from None
+            given = block.plain()
+            row = int(given.valid.argmax())
+            raise BadRow(name, given.row + row, given.value(row), str(why)) from None
         if isinstance(kind, Texts) and kind not in (before, block.kind) and most and len(kind.values) > most:
-            raise _too_many_texts(name, dict.fromkeys(getattr(before, "values", ())), block)
+            raise _too_many_texts(name, dict.fromkeys(getattr(before, "values", ())), block.plain())
     return kind or next((block.kind for block in blocks if block.kind is not None), None)
 
 
-def _has_no_text(block: Block) -> bool:
+def _has_no_text(block: AnyBlock) -> bool:
     """Returns whether a block says that its column has texts, and has none."""
-    return block.kind == NO_TEXTS and not block.valid.any()
+    return block.kind == NO_TEXTS and block.ends is None
 
 
 def _too_many_texts(name: str, found: Dict[str, None], block: Block) -> Error:
@@ -232,33 +284,36 @@ def _too_many_texts(name: str, found: Dict[str, None], block: Block) -> Error:
     return BadColumns(f"column {name!r} has more than {MAX_TEXTS:,} different texts; leave it out")
 
 
-def settled(name: str, blocks: List[Block], wishes: Wishes) -> Tuple[Form, List[Block]]:
-    """Returns the form of a column, and its blocks under one kind. Refuses those that a form which was given does not
-    take."""
+def settled(name: str, blocks: List[Any], wishes: Wishes) -> Form:
+    """Returns the form of a column, and puts its blocks under one kind. Refuses those that a form which was given does
+    not take."""
     kind = kind_of(name, blocks, None if wishes.kinds.get(name) is Texts else MAX_TEXTS)
-    blocks = [recoded(name, block, kind) for block in blocks]
-    ends = [ends_of(block.numbers, block.valid) for block in blocks if block.valid.any()]
+    for place, block in enumerate(blocks):
+        blocks[place] = recoded(name, block, kind)
+    ends = [block.ends for block in blocks if block.ends is not None]
     low, high = min((low for low, _ in ends), default=0), max((high for _, high in ends), default=0)
     if high - low >= SPAN and name not in wishes.forms:
-        raise _first_too_far(name, kind or Whole(), *_joined(blocks))
+        raise _first_too_far(name, kind or Whole(), *_joined([block.plain() for block in blocks]))
     form = wishes.form(name, kind, low, high)
     if name in wishes.forms:
-        for block in blocks:
+        for block in (block.plain() for block in blocks):
             refuse_misfit(name, form, block.numbers, block.valid, block.row)
-    return form, blocks
+    return form
 
 
-def recoded(name: str, block: Block, kind: Optional[Kind]) -> Block:
+def recoded(name: str, block: AnyBlock, kind: Optional[Kind]) -> AnyBlock:
     """Returns a block under a kind that keeps what it keeps."""
     if block.kind is None or block.kind == kind:
         return block
     if _has_no_text(block):
         return block._replace(kind=kind)
+    if isinstance(block, PackedBlock) and (scaled := block.scaled(kind)) is not None:
+        return scaled
+    given = block.plain()
     try:
-        numbers = recode(block.numbers.astype(np.int64, copy=False), block.valid, block.kind, kind)
-        return block._replace(kind=kind, numbers=slim(numbers))
+        return given._replace(kind=kind, numbers=recode(given.numbers, given.valid, given.kind, kind))
     except Misfit as why:
-        raise BadRow(name, block.row + why.row, block.value(why.row), why.reason) from None
+        raise BadRow(name, given.row + why.row, given.value(why.row), why.reason) from None
 
 
 def _first_too_far(name: str, kind: Kind, numbers: np.ndarray, valid: np.ndarray) -> BadRow:
@@ -274,7 +329,7 @@ def _first_too_far(name: str, kind: Kind, numbers: np.ndarray, valid: np.ndarray
 def joined_blocks(name: str, blocks: List[Block]) -> Tuple[Optional[Kind], Tuple[np.ndarray, np.ndarray]]:
     """Returns the kind of a column, and its numbers of all blocks under it."""
     kind = kind_of(name, blocks)
-    return kind, _joined([recoded(name, block, kind) for block in blocks])
+    return kind, _joined([recoded(name, block, kind).plain() for block in blocks])
 
 
 def ends_of(numbers: np.ndarray, valid: np.ndarray) -> Tuple[int, int]:
@@ -322,8 +377,7 @@ def chosen_of(
         rows += _length({name: len(found[-1].numbers) for name, found in blocks.items()})
     if wishes is None:
         raise BadColumns("there is no frame")
-    found = of_each(wishes.names, lambda name: settled(name, blocks.pop(name), wishes))
-    return Chosen({name: form for name, (form, _) in found.items()}, [kept for _, kept in found.values()])
+    return Chosen(of_each(wishes.names, lambda name: settled(name, blocks[name], wishes)), list(blocks.values()))
 
 
 def of_each(names: Iterable[str], call: Callable[[str], Any]) -> Dict[str, Any]:

@@ -197,17 +197,20 @@ def joined(one: Optional[Kind], other: Optional[Kind]) -> Optional[Kind]:
     raise TypeError(f"{other.takes} stand below {one.takes}")
 
 
+def factor_of(old: Optional[Kind], new: Optional[Kind]) -> int:
+    """Returns what numbers are multiplied by for a kind that keeps what the old one keeps, none of them texts."""
+    if isinstance(old, Times) and isinstance(new, Times):
+        return NANOSECONDS[old.unit] // NANOSECONDS[new.unit]
+    return 10 ** (new.places - getattr(old, "places", 0)) if isinstance(new, Decimals) else 1
+
+
 def recode(found: np.ndarray, valid: np.ndarray, old: Optional[Kind], new: Optional[Kind]) -> np.ndarray:
     """Returns the numbers under a kind that keeps what the old one keeps. The first that leaves 63 bits is a Misfit."""
     if old is None or old == new:
         return found
-    factor = 1
     if isinstance(old, Texts) and isinstance(new, Texts):
         return np.where(valid, np.array([new.places[text] for text in old.values], np.int64)[found], 0)
-    if isinstance(old, Times) and isinstance(new, Times):
-        factor = NANOSECONDS[old.unit] // NANOSECONDS[new.unit]
-    elif isinstance(new, Decimals):
-        factor = 10 ** (new.places - getattr(old, "places", 0))
+    factor = factor_of(old, new)
     most = (2**63 - 1) // factor
     first_misfit((found > most) | (found < -most), found, f"leaves 63 bits as one of {new}")
     return found * factor

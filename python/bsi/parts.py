@@ -164,6 +164,9 @@ class Parts(Table):
         found = chosen_of([frame], columns, kinds, forms, drop=drop, round=round, spare=spare)
         return cls(n, found.forms, limit=limit)._filled(found, progress)
 
+    def _block(self) -> int:
+        return super()._block() * len(self._store.handles)
+
     def _append(self, encoded: Any) -> int:
         self._refuse_misfits(encoded)
         return super()._append(encoded)

@@ -10,12 +10,12 @@ import csv
 from collections import Counter, deque
 from concurrent.futures import ThreadPoolExecutor
 from contextlib import ExitStack
-from typing import Any, Callable, Collection, Deque, Dict, Iterable, List, Mapping, NamedTuple, Optional
+from typing import Any, Callable, Collection, Deque, Dict, Iterable, List, Mapping, NamedTuple, Optional, Set
 from typing import Tuple, Type, Union
 
 import numpy as np
 
-from .choosing import Block, Chosen, Wishes, by_column, misfits, refuse_no_kind, settled, slim, wanted_of
+from .choosing import Chosen, PackedBlock, Wishes, by_column, misfits, refuse_no_kind, settled, wanted_of
 from .errors import BadColumns, BadRow, Error, Skipped, several
 from .fields import Fields, Lines, Records, read_each, split
 from .files import Path, Run, Runs, Source, name_of, opened, size_of
@@ -23,6 +23,7 @@ from .forms import Form
 from .index import Index
 from .kinds import FAR, Kind, Texts, Whole
 from .narrowing import too_many_texts
+from .packing import Packed, Room, all_of, packed
 from .parts import Parts, refuse_no_parts
 from .progress import Progress, told
 from .spelling import THOUSANDS, Bad, Meaning, Options, Reader, TextReader, misread, reader_for
@@ -158,17 +159,26 @@ def _is_file(path: Any) -> bool:
 
 
 class _Rows(NamedTuple):
-    """Where the rows of a run stand: in which file, from which row and line on, and each one's line where they are not
-    one a line."""
+    """Where the rows of a run stand: in which file, from which row and line on, and how many lines each one is behind
+    the one before where they are not one a line."""
 
     name: str
     row: int
     line: int
-    lines: Optional[np.ndarray]
+    steps: Optional[Packed]
+
+    @classmethod
+    def of(cls, name: str, row: int, line: int, lines: Optional[np.ndarray]) -> "_Rows":
+        """Returns the rows of these lines, counted from the first line of the run."""
+        return cls(name, row, line, None if lines is None else packed(np.diff(lines, prepend=0), all_of(len(lines))))
+
+    def lines(self, rows: int) -> np.ndarray:
+        """Returns the lines of so many rows, counted from the first line of the run."""
+        return np.arange(rows) if self.steps is None else np.cumsum(self.steps.numbers)
 
     def place(self, row: int) -> str:
         """Returns where a row stands."""
-        return f" (line {self.line + (row if self.lines is None else int(self.lines[row]))} of {self.name})"
+        return f" (line {self.line + int(self.lines(row + 1)[row])} of {self.name})"
 
     def bad(self, column: str, row: int, text: str, reason: str) -> BadRow:
         """Returns the refusal of a field."""
@@ -176,23 +186,13 @@ class _Rows(NamedTuple):
 
 
 class _Piece(NamedTuple):
-    """Fields of a column in a run: which are valid, their kind and numbers, and which are not read with their texts;
-    or the fields themselves, where nothing said before how the column is read."""
+    """Fields of a column in a run: their kind and numbers, and which are not read with their texts; or the fields
+    themselves, where nothing said before how the column is read."""
 
-    valid: np.ndarray
+    packed: Packed
     kind: Optional[Kind] = None
-    numbers: Optional[np.ndarray] = None
     bad: Dict[int, Tuple[str, str]] = {}
     fields: Optional[Fields] = None
-
-
-_all = np.ones(RUN, bool)
-_all.flags.writeable = False
-
-
-def all_of(rows: int) -> np.ndarray:
-    """Returns that so many rows are valid, in memory that all such share."""
-    return _all[:rows] if rows <= len(_all) else np.ones(rows, bool)
 
 
 class _Column:
@@ -201,7 +201,7 @@ class _Column:
     def __init__(self, name: str, place: int, options: Options):
         self.name, self.place, self.options = name, place, options
         self.reader: Optional[Reader] = None
-        self.blocks: List[Block] = []
+        self.blocks: List[PackedBlock] = []
         self.refusal: Optional[Error] = None
         self.form: Any = None
 
@@ -212,8 +212,9 @@ class _Column:
         for text in self.options.nulls:
             found = stripped.equal(text)
             valid = valid & ~found if found.any() else valid
-        if self.reader is None:
-            return _Piece(valid, fields=fields if valid.any() else None)
+        if self.reader is None or not valid.any():
+            nothing = packed(np.zeros(len(valid), np.int8), np.zeros(len(valid), bool))
+            return _Piece(nothing, fields=fields if valid.any() else None)
         return self.read(stripped, valid)
 
     def _is_stripped(self) -> bool:
@@ -230,8 +231,6 @@ class _Column:
     def read(self, fields: Fields, valid: np.ndarray) -> _Piece:
         """Reads the fields that are valid."""
         assert self.reader is not None
-        if not valid.any():
-            return _Piece(valid)
         places = None if valid.all() else np.flatnonzero(valid)
         there = fields if places is None else fields.taken(places)
         kind, numbers, bad = self.reader.read(there)
@@ -242,7 +241,7 @@ class _Column:
             spread = np.zeros(len(valid), numbers.dtype)
             spread[places] = numbers
             numbers = spread
-        return _Piece(valid, kind, slim(numbers), told)
+        return _Piece(packed(numbers, valid), kind, told)
 
     def meaning(self) -> Tuple[Optional[Meaning], Bad, bool]:
         """Returns what the places of texts stand for, which of them stand for nothing, and whether the column is
@@ -250,7 +249,7 @@ class _Column:
         if not isinstance(self.reader, TextReader) or not self.reader.distinct.texts:
             return None, {}, False
         texts, counts = self.reader.distinct.texts, np.zeros(len(self.reader.distinct.texts), np.int64)
-        for block in self.blocks:
+        for block in (block.plain() for block in self.blocks):
             counts += np.bincount(block.numbers[block.valid], minlength=len(texts))
         if self.reader.is_exact and self.options.kind is None and (bad := misread(texts, counts, self.options)):
             return None, bad, True
@@ -260,8 +259,7 @@ class _Column:
     def apply(self, meaning: Meaning) -> None:
         """Puts what the places of texts stand for in their place."""
         for at, block in enumerate(self.blocks):
-            found = np.where(block.valid, meaning.numbers[block.numbers], 0)
-            self.blocks[at] = block._replace(kind=meaning.kind, numbers=slim(found))
+            self.blocks[at] = block.meaning(meaning.kind, meaning.numbers)
 
 
 # The records of a run, and its columns: None where a column is refused already.
@@ -284,6 +282,7 @@ class _Reader:
         self._header: List[str] = []
         self._columns: List[_Column] = []
         self._rows: List[_Rows] = []
+        self._room = Room()
         self._count = self._bytes = self._line = 0
         self.skipped = Skipped()
 
@@ -385,7 +384,7 @@ class _Reader:
 
     def _keep(self, records: Records, pieces: List[Optional[_Piece]], name: str) -> None:
         """Keeps the numbers of a run, or refuses what does not fit."""
-        rows = _Rows(name, self._count, self._line, records.places)
+        rows = _Rows.of(name, self._count, self._line, records.places)
         self._refuse_odd(records, name)
         left: Dict[int, BadRow] = {}
         for column, piece in zip(self._columns, pieces):
@@ -393,8 +392,8 @@ class _Reader:
                 continue
             if piece.fields is not None:
                 piece = column.choose(piece.fields) if column.reader is None else column.piece(piece.fields)
-            numbers = np.broadcast_to(np.int8(0), records.rows) if piece.numbers is None else piece.numbers
-            column.blocks.append(Block(piece.kind, numbers, piece.valid, self._count))
+            moved = self._room.moved(piece.packed)
+            column.blocks.append(PackedBlock(piece.kind, moved, self._count, moved.ends))
             for row, (text, reason) in piece.bad.items():
                 left.setdefault(row, rows.bad(column.name, row, text, reason))
                 if not self._skips:
@@ -426,36 +425,30 @@ class _Reader:
         taken = [column for column in self._columns if not column.refusal]
         if not left or not taken:
             return
-        keep = np.ones(len(taken[0].blocks[place].valid), bool)
+        keep = np.ones(taken[0].blocks[place].rows, bool)
         keep[list(left)] = False
         rows = self._rows[place]
-        lines = np.arange(len(keep)) if rows.lines is None else rows.lines
-        self._rows[place] = rows._replace(lines=lines[keep])
+        self._rows[place] = _Rows.of(rows.name, rows.row, rows.line, rows.lines(len(keep))[keep])
         for column in taken:
-            block = column.blocks[place]
-            column.blocks[place] = block._replace(numbers=block.numbers[keep], valid=block.valid[keep])
+            block = column.blocks[place].plain()
+            kept = block._replace(numbers=block.numbers[keep], valid=block.valid[keep])
+            column.blocks[place] = PackedBlock.of(kept)
 
     def _refuse_many_texts(self, column: _Column) -> None:
         """Refuses a column that has more different texts than are taken unasked, by the first one too many."""
         reader = column.reader
         if column.refusal or not isinstance(reader, TextReader) or len(reader.distinct.texts) <= (reader.most or FAR):
             return
-        codes = np.concatenate([np.where(block.valid, block.numbers, -1) for block in column.blocks])
-        found, firsts = np.unique(codes, return_index=True)
-        firsts = np.sort(firsts[found >= 0])
-        if len(firsts) > (reader.most or FAR):
-            at = int(firsts[reader.most])
-            reason = too_many_texts(reader.distinct.texts[int(codes[at])], "dates= tells how to read it")
-            column.refusal = self._bad(column, at, reason)
-
-    def _bad(self, column: _Column, at: int, reason: str) -> BadRow:
-        """Returns the refusal of a row of all that were kept, in a column of texts."""
-        for block, rows in zip(column.blocks, self._rows):
-            if at < len(block.valid):
-                text = column.reader.distinct.texts[int(block.numbers[at])]  # type: ignore[union-attr]
-                return rows.bad(column.name, at, text, reason)
-            at -= len(block.valid)
-        raise AssertionError("there is no such row")
+        seen: Set[int] = set()
+        for block, rows in zip((block.plain() for block in column.blocks), self._rows):
+            codes, firsts = np.unique(np.where(block.valid, block.numbers, -1), return_index=True)
+            for first, code in sorted(zip(firsts.tolist(), codes.tolist())):
+                seen |= {code} - {-1}
+                if len(seen) > (reader.most or FAR):
+                    text = reader.distinct.texts[code]
+                    reason = too_many_texts(text, "dates= tells how to read it")
+                    column.refusal = rows.bad(column.name, first, text, reason)
+                    return
 
     # ---- The end ----
 
@@ -469,7 +462,7 @@ class _Reader:
             if self._skips and column.name in self._wishes.forms:
                 self._leave_misfits(column)
             try:
-                column.form, column.blocks = settled(column.name, column.blocks, self._wishes)
+                column.form = settled(column.name, column.blocks, self._wishes)
             except BadRow as why:
                 column.refusal = self._placed(why)
             except Error as why:
@@ -493,7 +486,7 @@ class _Reader:
         meaning, bad, is_refused = column.meaning()
         if bad:
             places = np.array(list(bad), np.int64)
-            for at, (block, rows) in enumerate(zip(column.blocks, self._rows)):
+            for at, (block, rows) in enumerate(zip(map(PackedBlock.plain, column.blocks), self._rows)):
                 found = np.flatnonzero(block.valid & np.isin(block.numbers, places)).tolist()
                 texts = column.reader.distinct.texts  # type: ignore[union-attr]
                 if found and (is_refused or not self._skips):
@@ -509,8 +502,8 @@ class _Reader:
     def _leave_misfits(self, column: _Column) -> None:
         """Leaves the rows out that a form which is given does not take."""
         for at, rows in enumerate(self._rows):
-            kind, block = column.blocks[at].kind, column.blocks[at]
-            form = self._wishes.forms[column.name].of(kind or column.options.kind or Whole())
+            block = column.blocks[at].plain()
+            form = self._wishes.forms[column.name].of(block.kind or column.options.kind or Whole())
             bad = np.flatnonzero(misfits(form, block.numbers, block.valid)).tolist()
             why = {row: form.misfit(column.name, rows.row + row, int(block.numbers[row])) for row in bad}
             self._leave({row: rows.bad(one.column, row, one.value, one.reason) for row, one in why.items()}, at)

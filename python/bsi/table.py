@@ -37,7 +37,9 @@ from .values import columns_of, values_of
 
 NAME = re.compile(r"[a-z][a-z0-9_]{0,31}")
 WORDS = {"all", "null", "and", "or", "not"}
-MAX_ROWS, MAX_COLUMNS, BLOCK = 1 << 32, 64, 1 << 18
+MAX_ROWS, MAX_COLUMNS = 1 << 32, 64
+# How many numbers of all columns are appended at once, and of how many rows at least.
+BLOCK, LEAST_ROWS = 1 << 18, 1 << 14
 # How many fields it takes that the rows lie on one side of a number besides.
 BOUND = 4
 # A part of rows from 0 to 1.
@@ -205,9 +207,13 @@ class Table:
         rows, done = chosen.rows(), 0
         self._refuse_full(rows)
         with told(progress, rows, "rows") as tell:
-            for encoded in chosen.taken(BLOCK):
+            for encoded in chosen.taken(self._block()):
                 done += self._append(encoded)
                 tell(done)
+
+    def _block(self) -> int:
+        """Returns how many rows are appended at once."""
+        return max(LEAST_ROWS, BLOCK // len(self._forms))
 
     def _refuse_full(self, more: int) -> None:
         """Refuses so many further rows where they leave the limit. The row that is named is that of the data given."""

@@ -42,10 +42,23 @@ def work(times):
     return resource.getrusage(resource.RUSAGE_SELF).ru_maxrss
 print(-work(300) + work(3000))
 """
+# How much more memory a process takes while it reads a file than before, in bytes, and how many its bitmaps have.
+READ = """
+import gc, io, sys
+import bsi
+def status(word):
+    return next(1024 * int(line.split()[1]) for line in open("/proc/self/status") if line.startswith(word))
+bsi.read_csv(io.StringIO("a,b\\n1,2\\n"))
+gc.collect()
+open("/proc/self/clear_refs", "w").write("5")
+before = status("VmRSS")
+index = bsi.read_csv(sys.argv[1])
+print(status("VmHWM") - before, sum(form.bitmaps for form in index.forms.values()) * len(index) // 8)
+"""
 
 
-def run(code):
-    ran = subprocess.run([sys.executable, "-c", code], capture_output=True, text=True, check=False)
+def run(code, *words):
+    ran = subprocess.run([sys.executable, "-c", code, *words], capture_output=True, text=True, check=False)
     assert ran.returncode == 0, ran.stderr
     return ran.stdout.strip()
 
@@ -56,3 +69,13 @@ def test_an_append_without_memory_says_what_stands():
 
 def test_memory_is_given_back():
     assert int(run(GIVEN_BACK)) < 3000
+
+
+def test_a_file_is_read_in_the_memory_of_its_index(tmp_path):
+    path, rows = tmp_path / "rows.csv", 1_000_000
+    days = [f"2026-01-{day:02}" for day in range(1, 32)]
+    lines = (f"{days[row % 31]},{row % 8},{'true' if row % 3 else 'false'},{'true' if row % 7 else ''}\n" for row in range(rows))
+    path.write_text("day,n,f,g\n" + "".join(lines))
+    peak, bitmaps = map(int, run(READ, str(path)).split())
+    # (the library's own room grows in steps, and some blocks of the file are read at once)
+    assert peak < 1.3 * bitmaps + (14 << 20), (peak, bitmaps)

@@ -582,3 +582,15 @@ def same(style, one, other):
     if style in ("number", "decimal"):
         return Decimal(one) == Decimal(other)
     return one == other if style in ("text", "date") else np.datetime64(one) == np.datetime64(other)
+
+
+def test_numbers_that_wait_are_those_that_came():
+    rng, room = np.random.default_rng(2), bsi.packing.Room()
+    for width in range(65):
+        for rows in (0, 1, 7, 8, 100):
+            least = -(1 << max(width - 1, 0)) if width > 62 else int(rng.integers(-(2**62), 2**62 - 1))
+            numbers = [least + int.from_bytes(rng.bytes(9), "little") % (1 << width) for _ in range(rows)]
+            given, valid = np.array(numbers, np.int64), rng.random(rows) < rng.choice([0.0, 0.7, 1.0])
+            found = room.moved(bsi.packing.packed(given, valid))
+            assert (found.valid == valid).all() and (found.numbers[valid] == given[valid]).all(), (width, rows)
+            assert found.places.nbytes <= width * -(-rows // 8)
