@@ -2,7 +2,9 @@
 
 from __future__ import annotations
 
+import functools
 import math
+import operator
 import threading
 from typing import Any, ContextManager, Dict, List, NamedTuple, Optional, Sequence, Tuple
 
@@ -10,50 +12,57 @@ import numpy as np
 
 from .errors import BadQuery
 from .predicates import MAX_FIELDS
-from .taking import Found
+from .taking import Found, Moments
 
 Fields = Sequence[bytes]
+# How many fields a comparison takes besides, and how many numbers a part gives at most for a rank.
+BOUND, FEW = 4, 1 << 12
+# A rank in a part, and the number that has it.
+Known = Tuple[int, Optional[int]]
 # The number of each column by which rows are grouped.
 Numbers = Tuple[int, ...]
 
 
 class _Left(NamedTuple):
-    """What is left for a median: from the one number to the other, how many numbers lie below the one and up to the
-    other, where that is known, and whether it is worth while to expect it between these two."""
+    """What is left for a rank: from the one number to the other, and of each part how many numbers lie below the one and
+    up to the other, or None where that is not known; and whether they lie there as evenly as was expected."""
 
     low: int
     high: int
-    below: Optional[int] = None
-    upto: Optional[int] = None
+    below: Any
+    upto: Any
     is_smooth: bool = True
 
-    def bounds(self, most: int, many: int) -> List[int]:
-        """Returns the numbers that are counted next."""
-        first, last = self.low, self.high - 1
-        if self.below is not None and self.upto is not None and self.is_smooth:
-            between = self.upto - self.below
-            wanted = first + (many - self.below) * (self.high - first) // between
-            # (numbers that lie there by chance are off by the root of how many they are)
-            off = (last - first) // max(1, math.isqrt(between)) + 1
-            first, last = max(first, min(wanted - off, last)), max(first, min(last, wanted + off))
-            return sorted({first + (last - first) * place // max(1, most - 1) for place in range(most)})
-        step = -(-(last + 1 - first) // (most + 1))
-        return list(range(first + step - 1, last + 1, step))
+    @property
+    def many(self) -> int:
+        """How many numbers are left."""
+        return int((self.upto - self.below).sum())
 
-    def after(self, bounds: List[int], counts: List[int], many: int) -> "_Left":
-        """Returns what is left when the numbers up to each bound are counted."""
-        under = sum(count < many for count in counts)
+    def expected(self, most: int, rank: int) -> List[int]:
+        """Returns numbers around the one that has the rank where all that are left lie evenly."""
+        first, last, many = self.low, self.high - 1, self.many
+        wanted = first + (rank + 1 - int(self.below.sum())) * (self.high - first) // many
+        # (numbers that lie there by chance are off by the root of how many they are)
+        off = (last - first) // max(1, math.isqrt(many)) + 1
+        first, last = max(first, min(wanted - off, last)), max(first, min(last, wanted + off))
+        return sorted({first + (last - first) * place // max(1, most - 1) for place in range(most)})
+
+    def after(self, bounds: List[int], counts: np.ndarray, rank: int) -> "_Left":
+        """Returns what is left when the numbers up to each bound are counted, of each part."""
+        under = int((counts.sum(axis=1) <= rank).sum())
         low, below = (bounds[under - 1] + 1, counts[under - 1]) if under else (self.low, self.below)
         high, upto = (bounds[under], counts[under]) if under < len(bounds) else (self.high, self.upto)
-        return _Left(low, high, below, upto, not self.is_smooth or 8 * (high - low) <= self.high - self.low)
+        left = _Left(low, high, below, upto)
+        return left._replace(is_smooth=self.is_smooth and 8 * left.many <= self.many)
 
 
 class Gathered:
     """A store whose rows lie in several parts.
 
-    A number of a rank, as a lower median is, is found by counts: it is the least with so many numbers at or below it. A
-    round asks for the counts at `bounds` numbers at once. These lie near where the counts at both ends let it be
-    expected, and evenly spread after a round that was of little use."""
+    A number of a rank, as a lower median is, lies between the numbers that have the same share of each part below them.
+    Where few do, the parts give them. Where many do, as in parts of rows in order, fewer are left after each round of
+    counts: at `bounds` numbers near the one that is expected, and after a round that was of little use at those in the
+    middle of what is left of each part."""
 
     def __init__(self, bounds: int):
         self._bounds = bounds
@@ -96,27 +105,30 @@ class Gathered:
             return (min if word == b"least" else max)(numbers, default=None)
 
     def _median(self, name: bytes, fields: Fields) -> Optional[int]:
-        """Halves what is left between the medians of the parts, since that of all lies between the least and the
-        greatest of them. A count of the numbers at or below a bound has four fields more than the predicate."""
-        if len(fields) + 4 > MAX_FIELDS:
-            rule = f"a median over several parts takes a predicate of at most {MAX_FIELDS - 4} fields"
+        """Finds the median between those of the parts."""
+        if len(fields) + BOUND > MAX_FIELDS:
+            rule = f"a median over several parts takes a predicate of at most {MAX_FIELDS - BOUND} fields"
             raise BadQuery(f"{rule}, and this one has {len(fields):,}")
-        found = [(number, count) for number, count in self._each("median_and_count", name, fields) if count]
-        if not found:
-            return None
-        left = _Left(min(number for number, _ in found), max(number for number, _ in found))
-        return self._narrowed(name, fields, left, (sum(count for _, count in found) + 1) // 2)
+        numbers, counts = zip(*self._each("median_and_count", name, fields))
+        known = [(max(0, count - 1) // 2, number) for number, count in zip(numbers, counts)]
+        return self._between(name, fields, known, (sum(counts) - 1) // 2) if any(counts) else None
 
     def ranked(self, name: bytes, rank: int, fields: Fields) -> Optional[int]:
-        """Returns the number of a rank among those in these rows, from 0. There are more of them than that. The predicate
-        has at most 996 fields."""
-        with self.alone():
-            low, high = self.value(b"least", name, fields), self.value(b"greatest", name, fields)
-            return None if low is None or high is None else self._narrowed(name, fields, _Left(low, high), rank + 1)
+        """Returns the number of a rank among those in these rows, from 0, or None past the last. The predicate has at most
+        996 fields."""
+        return self.ranks(name, [rank], fields)[0]
 
     def ranks(self, name: bytes, ranks: Sequence[int], fields: Fields) -> List[Optional[int]]:
         """Returns the numbers of some ranks, as `ranked` does each."""
-        return [self.ranked(name, rank, fields) for rank in ranks]
+        with self.alone():
+            counts = self._each("count", [*fields, name, b"null", b"not", b"and"])
+            total = sum(counts)
+            there = [rank for rank in ranks if rank < total]
+            of_parts = [[rank * count // total for rank in there] for count in counts]
+            numbers = self._each_of("ranks", [(name, asked, fields) for asked in of_parts]) if there else []
+            known = (list(zip(*one)) for one in zip(zip(*of_parts), zip(*numbers)))
+            found = {rank: self._between(name, fields, one, rank) for rank, one in zip(there, known)}
+        return [found.get(rank) for rank in ranks]
 
     def distinct(self, name: bytes, fields: Fields) -> int:
         """Returns how many different numbers the column has in these rows: those of the parts are joined."""
@@ -125,17 +137,41 @@ class Gathered:
             found, most = self.grouped((name,), [b"count", *fields], most), most << 4
         return len(found)
 
-    def _narrowed(self, name: bytes, fields: Fields, left: _Left, many: int) -> Optional[int]:
-        """Returns the least number of what is left that has so many numbers at or below it."""
+    def moments(self, columns: Sequence[Tuple[bytes, int, int]], fields: Fields, bitmaps: int) -> List[Moments]:
+        """Returns the moments of columns as a handle does."""
+        with self.alone():
+            parts = self._each("moments", columns, fields, bitmaps)
+        return [functools.reduce(operator.add, each) for each in zip(*parts)]
+
+    def _between(self, name: bytes, fields: Fields, known: Sequence[Known], rank: int) -> int:
+        """Returns the number of a rank that lies between numbers of which the ranks in their parts are known, or None in
+        a part that has none."""
+        numbers = [number for _, number in known if number is not None]
+        left = _Left(min(numbers), max(numbers), None, None)
         while left.low < left.high:
-            if left.below == many - 1:
-                return self.value(b"least", name, [*fields, name, b">=", b"%d" % left.low, b"and"])
-            if left.upto == many:
-                return self.value(b"greatest", name, [*fields, name, b"<=", b"%d" % left.high, b"and"])
-            bounds = left.bounds(self._bounds, many)
-            counts = self.counts([[*fields, name, b"<=", b"%d" % bound, b"and"] for bound in bounds])
-            left = left.after(bounds, counts, many)
+            if left.below is None or left.many <= FEW:
+                known = known if left.below is None else [(int(below), None) for below in left.below]
+                asked = [(name, left.low, left.high, FEW, fields, one) for one in known]
+                parts = self._each_of("near", asked)
+                below = np.array([part.below for part in parts])
+                if all(part.numbers is not None for part in parts):
+                    place = rank - int(below.sum())
+                    return int(np.partition(np.concatenate([part.numbers for part in parts]), place)[place])
+                left = _Left(left.low, left.high, below, below + [part.many for part in parts])
+            bounds = left.expected(self._bounds, rank) if left.is_smooth else self._middles(name, fields, left)
+            counted = self._each("counts", [[*fields, name, b"<=", b"%d" % bound, b"and"] for bound in bounds])
+            left = left.after(bounds, np.array(counted).T, rank)
         return left.low
+
+    def _middles(self, name: bytes, fields: Fields, left: _Left) -> List[int]:
+        """Returns some of the numbers in the middle of what is left of each part, in shares of all that is left."""
+        many, middles = left.upto - left.below, (left.below + left.upto) // 2
+        asked = [(name, [int(middle)] if any_ else [], fields) for middle, any_ in zip(middles, many)]
+        numbers = np.array([found[0] for found in self._each_of("ranks", asked) if found], np.int64)
+        order = np.argsort(numbers)
+        shares = (2 * np.arange(self._bounds) + 1) * left.many // (2 * self._bounds)
+        places = np.searchsorted(np.cumsum(many[many > 0][order]), shares, "right")
+        return sorted({min(int(numbers[order[place]]), left.high - 1) for place in places})
 
     def grouped(self, by: Tuple[bytes, ...], fields: Fields, most: int) -> Optional[Dict[Numbers, Optional[int]]]:
         """Returns the answers by numbers as a handle does, to a count, a sum, a least or a greatest number."""

@@ -13,15 +13,18 @@ import threading
 from array import array
 from ctypes import POINTER, Structure, byref, c_bool, c_int64, c_size_t, c_uint32, c_uint64, c_void_p
 from functools import lru_cache
-from typing import Any, Dict, List, Optional, Sequence, Tuple
+from typing import Any, Dict, List, NamedTuple, Optional, Sequence, Tuple
 
 import numpy as np
 
 from . import errors
-from .taking import Found, numbers_of
+from .predicates import MAX_FIELDS
+from .taking import Found, Moments, kept_of, numbers_of
 
 OK, BAD_SCHEMA, BAD_ROW, INDEX_FULL, NO_ROOM, NO_MEMORY = 0, 4, 8, 9, 12, 3
 MAX_NOTES = 1 << 16
+# Of how many numbers that a column may take the library counts each in one pass.
+MAX_TALLIES = 1 << 16
 COUNT, SUM = 1, 2
 # The numbers of one column, and an Arrow validity bitmap of them or none.
 Entries = Tuple[np.ndarray, Optional[np.ndarray]]
@@ -56,6 +59,18 @@ class _Entry(Structure):
 
 class _Pair(Structure):
     _fields_ = [("entries", _Entry * 2), ("answer", _Answer)]
+
+
+# A rank, and the number that has it, or None where that is the first from a number on.
+Known = Tuple[int, Optional[int]]
+
+
+class Near(NamedTuple):
+    """How many numbers lie below a span, how many within it, and these, or None where they are too many."""
+
+    below: int
+    many: int
+    numbers: Optional[np.ndarray]
 
 
 _CALLS: Dict[str, List[Any]] = {
@@ -188,11 +203,32 @@ class Handle:
 
     def top(self, name: bytes, most: int, least: bool, fields: Sequence[bytes]) -> np.ndarray:
         """Returns the rows with the greatest numbers of the column, or the least, at most so many, in this order."""
-        column, rows, count = np.frombuffer(name, np.uint8), np.empty((most, 2), np.uint64), c_size_t()
+        return self._top(name, most, least, fields)[:, 0]
+
+    def _top(self, name: bytes, most: int, least: bool, fields: Sequence[bytes]) -> np.ndarray:
+        """Returns these rows, each with its number."""
+        column, rows, count = np.frombuffer(name, np.uint8), np.empty((most, 2), np.int64), c_size_t()
         slices, length, _kept = _slices(tuple(fields))
         room = (_address(rows), most, byref(count))
         check(self._call("bsi_top", slices, length, _address(column), len(column), least, *room))
-        return rows[: count.value, 0].astype(np.int64)
+        return rows[: count.value]
+
+    def near(self, name: bytes, low: int, high: int, most: int, fields: Sequence[bytes], known: Known) -> Near:
+        """Returns how many numbers in these rows lie below one number, and how many from it up to another, which are
+        given where they are at most so many. Of one of these the rank is known, or that of the first. The predicate has at
+        most 996 fields."""
+        within = [*fields, name, b">=", b"%d" % low, b"and"]
+        if len(within) + 4 <= MAX_FIELDS:
+            within += [name, b"<=", b"%d" % high, b"and"]
+        numbers = self._top(name, most + 1, True, within)[:, 1]
+        numbers = numbers[: np.searchsorted(numbers, high, "right")]
+        rank, number = known
+        first, last = (0, 1) if number is None else (np.searchsorted(numbers, number, side) for side in ("left", "right"))
+        # (of equal numbers it is not known which one has the rank)
+        below = rank - int(first) if last == first + 1 else self.count([*fields, name, b"<", b"%d" % low, b"and"])
+        if len(numbers) <= most:
+            return Near(below, len(numbers), numbers)
+        return Near(below, self.count([*fields, name, b"<=", b"%d" % high, b"and"]) - below, None)
 
     def distinct(self, name: bytes, fields: Sequence[bytes]) -> int:
         """Returns how many different numbers the column has in these rows."""
@@ -225,6 +261,11 @@ class Handle:
 
     def _groups(self, call: str, room: Any, by: Tuple[bytes, ...], fields: Sequence[bytes]) -> Optional[List[Any]]:
         """Returns the groups of the rows, or None where there are more than this room has."""
+        count = self._grouped(call, room, by, fields)
+        return None if count is None else room[:count]
+
+    def _grouped(self, call: str, room: Any, by: Tuple[bytes, ...], fields: Sequence[bytes]) -> Optional[int]:
+        """Writes the groups of the rows, and returns how many they are, or None where this room has fewer."""
         slices, length, _kept = _slices(tuple(fields))
         count, names = c_size_t(), [np.frombuffer(name, np.uint8) for name in by]
         named = (word for name in names for word in (_address(name), len(name)))
@@ -232,7 +273,7 @@ class Handle:
         if status == NO_ROOM:
             return None
         check(status)
-        return room[: count.value]
+        return count.value
 
     def select(self, fields: Sequence[bytes]) -> Tuple[np.ndarray, int]:
         """Returns the words whose bits say which rows the predicate selects, and how many rows there are."""
@@ -249,6 +290,28 @@ class Handle:
         """Returns of each column the numbers in these rows, and which of them are valid, of an index whose file has so
         many bitmaps."""
         return numbers_of(self, names, rows, bitmaps)
+
+    def moments(self, columns: Sequence[Tuple[bytes, int, int]], fields: Sequence[bytes], bitmaps: int) -> List[Moments]:
+        """Returns of columns the moments of how far the numbers in these rows lie above the least one that their column
+        takes. A column comes with its name, this number, and how many it takes; bitmaps are those of a file."""
+        with self._lock:
+            most = min(MAX_TALLIES, 8 * self.rows())
+            found = {name: self._tallied(name, least, size, fields) for name, least, size in columns if size <= most}
+            if len(found) < len(columns):
+                words, kept = self.select(fields)[0], kept_of(self, bitmaps)
+                found.update({name: kept.moments(name, words) for name, _, _ in columns if name not in found})
+        return [found[name] for name, _, _ in columns]
+
+    def _tallied(self, name: bytes, least: int, size: int, fields: Sequence[bytes]) -> Moments:
+        """Returns the same of a column that takes few numbers, by how often each of them is there."""
+        room = (_Group * (size + 1))()
+        many = self._grouped("bsi_group_by", room, (name,), [b"count", *fields])
+        groups = np.frombuffer(room, np.dtype(_Group), many)
+        there = groups[groups["present"]]
+        counts, distances = there["answer"]["count"], (there["entry"] - least).astype(np.uint64)
+        # (within 64 bits: of at most 2^32 numbers each is below 2^16)
+        sums = (np.dot(counts, distances), np.dot(counts, distances * distances))
+        return Moments(int(counts.sum()), *map(int, sums))
 
     def rows(self) -> int:
         """Returns how many rows the index has."""

@@ -11,7 +11,9 @@ time of the call.
 from __future__ import annotations
 
 import itertools
-from typing import Any, Dict, List, NamedTuple, Optional, Sequence, Tuple
+import operator
+from fractions import Fraction
+from typing import Any, Dict, Iterator, List, NamedTuple, Optional, Sequence, Tuple
 
 import numpy as np
 
@@ -19,14 +21,20 @@ import numpy as np
 MAX_CUTS, MAX_ASKED = 250, 1000
 # Room for what stands before the bitmaps in the bytes that keep an index.
 SPARE = 1 << 17
+# How many words are squared at once, and the binary places of a digit: a sum of so many squares has 63 bits.
+CHUNK, PLACES = 1 << 12, 21
+BYTE = 8
+DIGIT = (1 << PLACES) - 1
 # The numbers of some rows of a column, and which of them are valid.
 Found = Tuple[np.ndarray, np.ndarray]
 
 
 def bits_at(words: np.ndarray, rows: np.ndarray) -> np.ndarray:
-    """Returns the bits of these rows in a bitmap of 64 rows a word, as an array of bool."""
+    """Returns the bits of these rows, which come in order, in a bitmap of 64 rows a word, as an array of bool."""
     if 8 * len(rows) > 64 * len(words):
-        return np.unpackbits(words.view(np.uint8), bitorder="little").view(np.bool_)[rows]
+        bits = np.unpackbits(words.view(np.uint8), bitorder="little").view(np.bool_)
+        is_run = rows[-1] - rows[0] == len(rows) - 1
+        return bits[rows[0] : rows[-1] + 1] if is_run else bits[rows]
     return (words[rows >> 6] >> (rows & 63).astype(np.uint64) & np.uint64(1)).astype(bool)
 
 
@@ -47,8 +55,13 @@ def numbers_of(handle: Any, names: Sequence[bytes], rows: np.ndarray, bitmaps: i
         found.append(one)
     if len(found) == len(names):
         return found
-    kept = KeptBitmaps(handle.save(b"", 8 * bitmaps * (handle.rows() // 64 + 1) + SPARE))
+    kept = kept_of(handle, bitmaps)
     return found + [kept.numbers(name, rows) for name in names[len(found) :]]
+
+
+def kept_of(handle: Any, bitmaps: int) -> KeptBitmaps:
+    """Returns the bitmaps of an index, whose file has so many, from the bytes that keep it."""
+    return KeptBitmaps(handle.save(b"", 8 * bitmaps * (handle.rows() // 64 + 1) + SPARE))
 
 
 def numbers_at(handle: Any, name: bytes, rows: np.ndarray) -> Optional[Found]:
@@ -92,6 +105,22 @@ def _halved(starts: np.ndarray, classes: np.ndarray, uppers: np.ndarray, place: 
     return halves[are_there], (np.cumsum(are_there) - 1)[places]
 
 
+class Moments(NamedTuple):
+    """How many numbers there are, their sum, and the sum of their squares."""
+
+    count: int
+    sum: int
+    squares: int
+
+    def __add__(self, other: "Moments") -> "Moments":  # type: ignore[override]
+        return Moments(*map(operator.add, self, other))
+
+    @property
+    def variance(self) -> Fraction:
+        """The exact variance of a sample of these numbers, which are two or more."""
+        return Fraction(self.count * self.squares - self.sum**2, self.count * (self.count - 1))
+
+
 class _Head(NamedTuple):
     """A column in the bytes that keep an index: its bases, the least significant first, its offset, and the word at
     which its bitmaps begin."""
@@ -133,10 +162,54 @@ class KeptBitmaps:
     def numbers(self, name: bytes, rows: np.ndarray) -> Found:
         """Returns the numbers of a column in these rows, 0 for a null, and which of them are valid."""
         head = self._heads[name]
-        bitmaps = (self._words[start : start + self._size] for start in itertools.count(head.start, self._size))
-        valid, found, weight = bits_at(next(bitmaps), rows), np.zeros(len(rows), np.int64), 1
-        for base in head.bases:
-            for place in range((base - 1).bit_length()):
-                found += bits_at(next(bitmaps), rows) * np.int64(weight << place)
-            weight *= base
-        return np.where(valid, found + head.offset, 0), valid
+        bitmaps = (bits_at(words, rows) for words in self._bitmaps(head))
+        valid = next(bitmaps)
+        return np.where(valid, _joined(head.bases, bitmaps, len(rows)) + head.offset, 0), valid
+
+    def moments(self, name: bytes, selected: np.ndarray) -> Moments:
+        """Returns the moments of how far the numbers of a column lie above the least one that it takes, in the rows that
+        these words select."""
+        head, found = self._heads[name], Moments(0, 0, 0)
+        for start in range(0, self._size, CHUNK):
+            here = slice(start, start + CHUNK)
+            bitmaps = (words[here] for words in self._bitmaps(head))
+            taken = selected[here] & next(bitmaps)
+            bits = (np.unpackbits((words & taken).view(np.uint8), bitorder="little") for words in bitmaps)
+            count = int(np.count_nonzero(np.unpackbits(taken.view(np.uint8))))
+            found += Moments(count, *sums_of(_joined(head.bases, bits, 64 * len(taken))))
+        return found
+
+    def _bitmaps(self, head: _Head) -> Iterator[np.ndarray]:
+        """Yields the words of the bitmaps of a column, that of its valid rows first."""
+        return (self._words[start : start + self._size] for start in itertools.count(head.start, self._size))
+
+
+def _joined(bases: Sequence[int], bitmaps: Iterator[np.ndarray], rows: int) -> np.ndarray:
+    """Returns the numbers of digits under some bases, of each of which there is a bitmap for each binary place. The bitmaps
+    are written over."""
+    found, weight = np.zeros(rows, np.int64), 1
+    for places, base in _digits(bases):
+        digit = np.zeros(rows, np.uint8 if places <= BYTE else np.uint16)
+        for place in range(places):
+            bits = next(bitmaps).view(np.uint8).astype(digit.dtype, copy=False)
+            bits <<= digit.dtype.type(place)
+            digit |= bits
+        found += digit.astype(np.int64) * weight
+        weight *= base
+    return found
+
+
+def _digits(bases: Sequence[int]) -> Iterator[Tuple[int, int]]:
+    """Yields the places and the base of each digit, of which up to eight that are bits make one."""
+    for is_bit, run in itertools.groupby(bases, lambda base: base == 2):
+        bits = len(list(run)) if is_bit else 0
+        yield from ((min(BYTE, bits - place), 1 << min(BYTE, bits - place)) for place in range(0, bits, BYTE))
+        yield from (((base - 1).bit_length(), base) for base in run)
+
+
+def sums_of(numbers: np.ndarray) -> Tuple[int, int]:
+    """Returns the exact sums of at most 2^20 whole numbers from 0 up, and of their squares."""
+    shifts = range(0, int(numbers.max(initial=0)).bit_length(), PLACES)
+    digits = [(shift, numbers >> shift & DIGIT) for shift in shifts]
+    squares = (int(np.dot(one, other)) << low + high for low, one in digits for high, other in digits)
+    return sum(int(digit.sum()) << shift for shift, digit in digits), sum(squares)

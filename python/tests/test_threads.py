@@ -155,9 +155,29 @@ def test_a_median_of_parts_takes_few_rounds(monkeypatch):
     for name, given in numbers.items():
         parts, rounds = bsi.Parts(4, {"a": bsi.slices(20)}), []
         parts.append({"a": given})
-        each = parts._store._each
-        monkeypatch.setattr(parts._store, "_each", lambda *asked: rounds.append(asked) or each(*asked))
-        assert parts.median("a") == np.sort(given)[(len(given) - 1) // 2] and len(rounds) <= 8, (name, len(rounds))
+        each = parts._store._each_of
+        monkeypatch.setattr(parts._store, "_each_of", lambda *asked: rounds.append(asked) or each(*asked))
+        assert parts.median("a") == np.sort(given)[(len(given) - 1) // 2]
+        assert len(rounds) <= (2 if name == "random" else 8), (name, [call for call, _ in rounds])
+
+
+@pytest.mark.parametrize("seed", range(6))
+def test_ranks_of_parts_where_few_numbers_are_given_at_once(seed, monkeypatch):
+    rng = np.random.default_rng(seed)
+    for few in (0, 1, 5, 1 << 12):
+        monkeypatch.setattr("bsi.gathered.FEW", few)
+        rows, most = int(rng.integers(1, 400)), int(rng.choice([2, 30, 1 << 20]))
+        given = rng.choice([np.sort, rng.permutation])(rng.integers(0, most, rows) ** 2 // most)
+        with bsi.Parts(int(rng.integers(1, 6)), FORMS) as parts:
+            for start in range(0, rows, 97):
+                there = rng.random(len(given[start : start + 97])) < 0.8
+                parts.append({"a": given[start : start + 97], "b": np.ma.MaskedArray(np.zeros(len(there), int), ~there)})
+            for where in (bsi.all_rows, col.b.notnull(), bsi.Predicate(["all"] + ["not"] * 994)):
+                found = np.sort(given[parts.rows(where)])
+                assert parts.median("a", where) == (found[(len(found) - 1) // 2] if len(found) else None)
+                ranks = [0, 0.3, 0.5, 0.99, 1]
+                wanted = np.quantile(found, ranks, method="lower").tolist() if len(found) else [None] * 5
+                assert parts.quantile("a", ranks, where) == wanted
 
 
 def test_a_median_of_parts_takes_four_fields_less():
