@@ -105,6 +105,10 @@ class Kind:
         values have none between them."""
         raise TypeError(f"{self.takes} have none between them")
 
+    def decode_deviation(self, variance: Fraction) -> Any:
+        """Returns what the root of a variance of numbers stands for, or raises TypeError where values have none."""
+        raise TypeError(f"{self.takes} have no standard deviation")
+
     def number(self, value: Any) -> int:
         """Returns the number that stands for a value, or raises TypeError or ValueError."""
         left, right = self.cut(value)
@@ -174,6 +178,9 @@ class Whole(Kind):
 
     def decode_between(self, number: Fraction) -> float:
         return float(number)
+
+    def decode_deviation(self, variance: Fraction) -> float:
+        return float(root_of(variance))
 
     def encode(self, values: np.ndarray, valid: np.ndarray) -> np.ndarray:
         if values.dtype.kind in "iub":
@@ -251,6 +258,9 @@ class Decimals(Kind):
             return self.decode(int(number))
         return Decimal(number.numerator) / (number.denominator * 10**self.places)
 
+    def decode_deviation(self, variance: Fraction) -> Decimal:
+        return +EXACT.scaleb(root_of(variance), -self.places)
+
     def encode(self, values: np.ndarray, valid: np.ndarray) -> np.ndarray:
         scale = 10**self.places
         if values.dtype.kind in "iub":
@@ -301,6 +311,11 @@ def _places_of_scale(scale: Any) -> int:
     except (ArithmeticError, ValueError):
         pass
     raise ValueError(f"{shown(scale)} is no number of places, as 2, and no scale, as '0.01'")
+
+
+def root_of(number: Fraction) -> Decimal:
+    """Returns the root of a number to 100 digits."""
+    return EXACT.sqrt(EXACT.divide(Decimal(number.numerator), Decimal(number.denominator)))
 
 
 def _decimal(number: int, places: int) -> Decimal:
@@ -463,6 +478,9 @@ class Flags(Kind):
 
     def decode_sum(self, total: int) -> int:
         return total
+
+    def decode_deviation(self, variance: Fraction) -> float:
+        return float(root_of(variance))
 
     def encode(self, values: np.ndarray, valid: np.ndarray) -> np.ndarray:
         return (

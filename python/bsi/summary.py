@@ -2,13 +2,14 @@
 
 from __future__ import annotations
 
-from decimal import Decimal
+from decimal import Context, Decimal
 from html import escape
 from typing import Any, Dict, List, Mapping
 
-
+# How many places a decimal of a column may have.
+MAX_PLACES = 18
 # The figures in the order of pandas.
-ORDER = ("count", "unique", "top", "freq", "mean", "min", "25%", "50%", "75%", "max")
+ORDER = ("count", "unique", "top", "freq", "mean", "std", "min", "25%", "50%", "75%", "max")
 
 
 class Summary(Mapping[str, Dict[str, Any]]):
@@ -68,5 +69,7 @@ def _shown(value: Any) -> str:
     if isinstance(value, float):
         return f"{value:.6g}"
     if isinstance(value, Decimal):
-        return f"{value:f}"
+        # (a mean may have no end: it gets six places, or six digits)
+        is_long = value.is_finite() and value.as_tuple().exponent < -MAX_PLACES  # type: ignore[operator]
+        return f"{Context(max(6, value.adjusted() + 7)).plus(value) if is_long else value:f}"
     return f"{value:,}" if type(value) is int else str(value).removesuffix(" 00:00:00")

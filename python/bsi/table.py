@@ -2,7 +2,7 @@
 on the other.
 
 A *store* is a `native.Handle`, or a `gathered.Gathered` of several. Both have the calls `count`, `counts`, `sum`,
-`value`, `ranked`, `ranks`, `distinct`, `grouped`, `select`, `numbers`, `rows` and `close`, and but for Dask `append`.
+`value`, `ranked`, `ranks`, `moments`, `distinct`, `grouped`, `select`, `numbers`, `rows` and `close`, and but for Dask `append`.
 """
 
 from __future__ import annotations
@@ -24,7 +24,7 @@ from .choosing import Chosen, of_each, refuse_misfit, refuse_no_kind
 from .errors import BadColumns, BadQuery, BadRow, BadSchema, Error, IndexFull, NoMemory, Skipped
 from .forms import Form
 from .groups import GroupBy, Groups, key_of, too_many
-from .kinds import Flags, Misfit, Texts, Times, shown
+from .kinds import Decimals, Flags, Misfit, Texts, Times, Whole, shown
 from .narrowing import encode
 from .native import BAD_ROW, INDEX_FULL, NO_MEMORY, Entries, Handle, check
 from .predicates import Column, Comparison, Predicate, Stored, all_rows
@@ -32,7 +32,7 @@ from .progress import Progress, told
 from .queries import Name, name_among, queries_of
 from .returning import column_of, frame_of, list_of
 from .summary import Summary, html_of
-from .taking import Found
+from .taking import Found, Moments
 from .values import columns_of, values_of
 
 NAME = re.compile(r"[a-z][a-z0-9_]{0,31}")
@@ -251,6 +251,29 @@ class Table:
         total = self.sum(name, where)
         return total / count if count else None
 
+    def std(self, column: Name, where: Predicate = all_rows) -> Any:
+        """Returns the standard deviation of the column's values in these rows as pandas has it, by one less than their
+        count: a float, or a Decimal for decimals, from the exact sums of their numbers and of the squares of these. None
+        where there are fewer than two values. A column that takes more than 65,536 numbers takes memory as `save` does."""
+        name = self._name(column)
+        return self._deviations([name], where)[name]
+
+    def _deviations(self, names: Sequence[str], where: Predicate) -> Dict[str, Any]:
+        """Returns the standard deviation of each column."""
+        for name in names:
+            try:
+                self._forms[name].kind.decode_deviation(Fraction(0))
+            except TypeError as why:
+                raise BadQuery(f"column {name!r}: {why}") from None
+        bitmaps = sum(1 + form.places for form in self._forms.values())
+        columns = [(self._within[name], self._forms[name].offset, self._forms[name].size) for name in names]
+        each = [self._store.moments(columns, fields, bitmaps) for fields in self._queries(where)] if names else []
+        found = {name: sum(moments, Moments(0, 0, 0)) for name, moments in zip(names, zip(*each))}
+        return {
+            name: self._forms[name].kind.decode_deviation(moments.variance) if moments.count > 1 else None
+            for name, moments in found.items()
+        }
+
     def min(self, column: Name, where: Predicate = all_rows) -> Any:
         """Returns the least value, as `least` does."""
         return self.least(column, where)
@@ -448,17 +471,25 @@ class Table:
         interpolation: str = "lower",
     ) -> Summary:
         """Returns the count, the mean, the ends and the quartiles of columns in these rows, with the names that pandas
-        gives them, and of texts and booleans how many different ones there are, the most frequent one and how frequent
-        it is. The quartiles are those of `quantile`, and those of texts and booleans always the lower ones."""
-        return Summary({name: self._figures(name, where, interpolation) for name in self._names(columns)})
+        gives them, the standard deviation of numbers as `std` does, and of texts and booleans how many different ones there
+        are, the most frequent one and how frequent it is. The quartiles are those of `quantile`, and those of texts and
+        booleans always the lower ones."""
+        names = self._names(columns)
+        are_numbers = [name for name in names if isinstance(self._forms[name].kind, (Whole, Decimals))]
+        deviations = self._deviations(are_numbers, where)
+        return Summary({name: self._figures(name, where, interpolation, deviations) for name in names})
 
-    def _figures(self, name: str, where: Predicate, interpolation: str) -> Dict[str, Any]:
+    def _figures(
+        self, name: str, where: Predicate, interpolation: str, deviations: Mapping[str, Any]
+    ) -> Dict[str, Any]:
         figures: Dict[str, Any] = {"count": self.count(name, where)}
         has_between = not isinstance(self._forms[name].kind, (Flags, Texts))
         if not has_between:
             figures.update(self._frequent(name, where))
         with contextlib.suppress(BadQuery):  # (texts have none)
             figures["mean"] = self.mean(name, where)
+        if name in deviations:
+            figures["std"] = deviations[name]
         middle = self.quantile(name, (0.25, 0.5, 0.75), where, interpolation if has_between else "lower")
         low, high = self.least(name, where), self.greatest(name, where)
         return {**figures, "min": low, **dict(zip(("25%", "50%", "75%"), middle)), "max": high}

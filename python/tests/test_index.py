@@ -4,7 +4,7 @@ import copy
 import datetime
 import zoneinfo
 import pickle
-from decimal import Decimal
+from decimal import Context, Decimal
 from fractions import Fraction
 
 import numpy as np
@@ -573,10 +573,11 @@ def test_a_summary():
     data = {"n": [1, 2, 4, None], "ok": [True, True, False, None], "t": ["b", "a", None, "<i>"]}
     index = bsi.Index.from_frame({**data, "day": np.array(["2026-01-31"] * 4, "M8[D]")})
     found = index.describe()
-    assert found["n"] == {"count": 3, "mean": 7 / 3, "min": 1, "25%": 1, "50%": 2, "75%": 2, "max": 4}
+    spread = float(deviation([1, 2, 4]))
+    assert found["n"] == {"count": 3, "mean": 7 / 3, "std": spread, "min": 1, "25%": 1, "50%": 2, "75%": 2, "max": 4}
     assert found["ok"]["mean"] == 2 / 3 and found["t"]["min"] == "<i>" and "mean" not in found["t"]
     lines = repr(index.describe(["n", "day"], col.n > 1)).splitlines()
-    assert lines[0].split() == ["n", "day"] and lines[-1].split() == ["max", "4", "2026-01-31"] and len(lines) == 8
+    assert lines[0].split() == ["n", "day"] and lines[-1].split() == ["max", "4", "2026-01-31"] and len(lines) == 9
     assert "<td>&lt;i&gt;</td>" in found._repr_html_() and "<td>equality(3)</td>" in index._repr_html_()
     pandas = pytest.importorskip("pandas")
     assert found.to_pandas().loc["max", "n"] == 4 and isinstance(found.to_pandas(), pandas.DataFrame)
@@ -594,7 +595,8 @@ def test_a_summary_beside_pandas():
     frame.loc[rng.random(90) < 0.2, "x"] = np.nan
     found = bsi.Index.from_frame(frame).describe(interpolation="linear")
     for name in frame:
-        wanted = {"count": frame[name].count(), "mean": frame[name].mean(), "min": frame[name].min()}
+        wanted = {"count": frame[name].count(), "mean": frame[name].mean()}
+        wanted.update({} if name == "day" else {"std": frame[name].std()}, min=frame[name].min())
         wanted.update({f"{part}%": frame[name].quantile(part / 100) for part in (25, 50, 75)}, max=frame[name].max())
         assert list(found[name]) == list(wanted)
         for word, figure in wanted.items():
@@ -617,7 +619,7 @@ def test_the_most_frequent():
         assert [found["f"][word] for word in ("unique", "top", "freq")] == [2, False, 2]
         assert list(found["t"])[:5] == ["count", "unique", "top", "freq", "min"] and "top" not in found["n"]
         assert table.describe("t", col.n > 9)["t"]["top"] is None and table.describe("t", col.n < 3)["t"]["top"] == "a"
-    words = ["count", "unique", "top", "freq", "mean", "min", "25%", "50%", "75%", "max"]
+    words = ["count", "unique", "top", "freq", "mean", "std", "min", "25%", "50%", "75%", "max"]
     assert [line.split()[0] for line in repr(index.describe(["n", "t"])).splitlines()[1:]] == words
     many = bsi.Index.from_frame({"t": [f"w{number:04}" for number in range(5000)]}, kinds={"t": bsi.Texts})
     assert many.describe()["t"]["unique"] == 5000 and "top" not in many.describe()["t"]
@@ -627,10 +629,53 @@ def test_the_most_frequent():
     assert (given.loc[list(wanted.index)] == wanted).all().all() and list(index.describe().to_pandas().index) == words
 
 
+def deviation(numbers):
+    """Returns the standard deviation of a sample, from exact sums, to 100 digits."""
+    exact, count = Context(100), len(numbers)
+    variance = Fraction(count * sum(number**2 for number in numbers) - sum(numbers) ** 2, count * (count - 1))
+    return exact.sqrt(exact.divide(variance.numerator, variance.denominator))
+
+
+@pytest.mark.parametrize("seed", range(6))
+def test_standard_deviations_beside_plain_python(seed, monkeypatch):
+    rng = np.random.default_rng(seed)
+    monkeypatch.setattr("bsi.taking.CHUNK", int(rng.choice([1, 2, 1 << 14])))
+    rows, far = int(rng.choice([0, 1, 2, 40, 700])), 1 << int(rng.choice([3, 17, 40, 61]))
+    forms = {"n": bsi.slices(63, offset=-(1 << 62)), "r": bsi.range(7, 300, 2, offset=-5), "e": bsi.equality(9, 900, 90)}
+    forms["d"] = bsi.slices(40, offset=-(1 << 39), kind=bsi.Decimals(3))
+    numbers = {"n": rng.integers(-far, far, rows), "r": rng.integers(-5, 4195, rows), "e": rng.integers(0, 729_000, rows)}
+    numbers["d"], there = rng.integers(-(1 << 39), 1 << 39, rows), rng.random(rows) < 0.8
+    data = {name: np.ma.MaskedArray(given, ~there) for name, given in numbers.items()}
+    data["d"] = [Decimal(int(one)).scaleb(-3) if valid else None for one, valid in zip(numbers["d"], there)]
+    for table in (bsi.Index(forms), bsi.Parts(3, forms)):
+        table.append(data)
+        for where, found in ((bsi.all_rows, there), (col.r < 900, there & (numbers["r"] < 900))):
+            figures = table.describe(where=where)
+            for name, given in numbers.items():
+                wanted = deviation([int(number) for number in given[found]]) if found.sum() > 1 else None
+                wanted = wanted if wanted is None else +wanted.scaleb(-3) if name == "d" else float(wanted)
+                assert figures[name]["std"] == table.std(name, where) == wanted, (name, where)
+
+
+def test_standard_deviations_that_are_none():
+    times = np.array(["2026-01-31", "2026-02-02"], "M8[D]")
+    index = bsi.Index.from_frame({"t": ["a", "b"], "d": times, "f": [True, False], "n": [7, 9]})
+    assert index.std("f") == pytest.approx(0.5**0.5, rel=1e-15) and index.std("n", col.n > 7) is None
+    for name, why in (("t", "texts have no standard deviation"), ("d", "times have no standard deviation")):
+        with pytest.raises(bsi.BadQuery, match=f"column '{name}': {why}"):
+            index.std(name)
+
+
 def test_zero_is_shown_without_a_power():
     index = bsi.Index.from_frame({"x": [Decimal("0.0000001"), Decimal("0E-7")]})
-    assert [line.split()[1] for line in repr(index.describe()).splitlines()[3:5]] == ["0.0000000", "0.0000000"]
+    assert [line.split()[1] for line in repr(index.describe()).splitlines()[4:6]] == ["0.0000000", "0.0000000"]
     assert "<td>0.0000000</td>" in index.describe()._repr_html_()
+
+
+def test_figures_without_an_end_are_shown_short():
+    index = bsi.Index.from_frame({"x": [Decimal("1234567.5"), Decimal("1234567.6"), Decimal("1234567.6")]})
+    shown = dict(line.split() for line in repr(index.describe()).splitlines()[1:])
+    assert (shown["mean"], shown["std"], shown["max"]) == ("1234567.566667", "0.0577350", "1234567.6")
 
 
 def test_no_row_was_left_out_where_none_could_be():
