@@ -243,8 +243,11 @@ class Wishes:
             return self.forms[name].of(kind)
         if high - low >= SPAN:
             raise BadSchema(f"column {name!r}: {too_far(kind, low, high)}")
-        if isinstance(kind, Texts) and not isinstance(given, Texts) and not kind.ordered and self.spare:
-            kind = replace(kind, grows=True)
+        if isinstance(kind, Texts):
+            # (a list that is given, or an order, has texts that no row has yet)
+            low, high = 0, len(kind.values) - 1
+            grows = not isinstance(given, Texts) and not kind.ordered and self.spare
+            kind = replace(kind, grows=True) if grows else kind
         return narrowest(kind, low, high, self.spare)
 
 

@@ -548,6 +548,59 @@ def test_room_to_grow(parts):
     assert index.greatest("t") == "w39" and index.least("t") == "new"
 
 
+@pytest.mark.parametrize("seed", range(4))
+def test_room_to_grow_of_decimals_and_times(seed):
+    rng, zone = np.random.default_rng(seed), zoneinfo.ZoneInfo("Europe/Paris")
+    start, count = datetime.datetime(2026, 1, 1), 30
+
+    def frame(far):
+        cents, days, seconds = (rng.integers(-far, far, count, endpoint=True).tolist() for _ in range(3))
+        # (each frame has a value of the last place, and the first one its ends)
+        cents[:3], days[:2], seconds[:2] = (1, -far, far), (-far, far), (-far, far)
+        moments = [start + datetime.timedelta(seconds=number) for number in seconds]
+        return {
+            "d": [Decimal(number).scaleb(-2) for number in cents],
+            "day": [start + datetime.timedelta(days=number) for number in days],
+            "at": moments,
+            "zone": [moment.replace(tzinfo=datetime.timezone.utc).astimezone(zone) for moment in moments],
+            "f": [number / 100 for number in cents],
+        }
+
+    # (three bits more keep numbers from about eight times as far below as above)
+    frames = [frame(100), *(frame(int(far)) for far in rng.integers(10, 800, 3))]
+    index, parts = bsi.Index.from_frame(frames[0], spare=3), bsi.Parts.from_frame(2, frames[0], spare=3)
+    for table in (index, parts):
+        assert [table.append(one) for one in frames[1:]] == [count] * 3
+        for name in frames[0]:
+            values = [value for one in frames for value in one[name]]
+            values = [Decimal(str(value)) for value in values] if name == "f" else values
+            cut = values[int(rng.integers(len(values)))]
+            below = sorted(value for value in values if value < cut)
+            where = col[name] < cut
+            assert table.count(where) == len(below) and [table.min(name), table.max(name)] == [min(values), max(values)]
+            assert table.median(name, where) == (below[(len(below) - 1) // 2] if below else None)
+    far = {**frames[0], "d": [Decimal(10**6)] * count, "at": [start + datetime.timedelta(days=900)] * count}
+    with pytest.raises(bsi.BadRow, match="(?s)column 'd', row 0: .* is not from .*column 'at', row 0: .* is not from"):
+        index.append(far)
+    assert len(index) == 4 * count
+
+
+def test_frames_of_an_ordered_category_follow_each_other():
+    pandas = pytest.importorskip("pandas")
+    dtype = pandas.CategoricalDtype(["low", "mid", "high"], ordered=True)
+    frames = [pandas.DataFrame({"x": pandas.Series(words, dtype=dtype)}) for words in (["low"], ["high", None], ["mid"])]
+    index = bsi.Index.from_frame(frames[0])
+    assert [index.append(frame) for frame in frames[1:]] == [2, 1] and index.rows(col.x > "low").tolist() == [1, 3]
+    more = pandas.DataFrame({"x": pandas.Series(["top"], dtype=pandas.CategoricalDtype([*dtype.categories, "top"], True))})
+    with pytest.raises(bsi.BadRow, match="column 'x', row 0: 'top' is none of the texts, whose order was given"):
+        index.append(more)
+
+
+def test_a_list_of_texts_that_is_given_is_taken_as_a_whole():
+    index = bsi.Index.from_frame({"x": ["b"]}, kinds={"x": bsi.Texts(["c", "a", "b", "d"])})
+    assert index.append({"x": ["d", "a", "c", "b"]}) == 4 and index.rows(col.x >= "c").tolist() == [1, 3]
+
+
 def test_a_frame_that_follows_without_spare_bits():
     index = bsi.Index.from_frame({"t": ["a", "b"], "n": [1, 2]})
     with pytest.raises(bsi.BadRow, match="column 't', row 1: 'c' is none of its 2 texts; spare= leaves room for more"):
