@@ -6,7 +6,9 @@ import re
 import subprocess
 import sys
 
+import numpy as np
 import pytest
+from producer import Arrow, Stream, texts
 
 TOP = os.path.dirname(os.path.dirname(os.path.dirname(os.path.abspath(__file__))))
 PAGE, EXAMPLES = os.path.join(TOP, "docs", "PYTHON.md"), os.path.join(TOP, "examples")
@@ -18,11 +20,20 @@ def blocks(language, path=PAGE):
         return re.findall(rf"^```{language}\n(.*?)^```$", page.read(), re.MULTILINE | re.DOTALL)
 
 
+def stream(*names, notes=True):
+    """Returns rows as an Arrow stream: a price, a name, and a note or none."""
+    prices = Arrow("l", len(names), [None, np.arange(len(names)) * 50 + 150 + 50 * (not notes)])
+    columns = {"price": prices, "who": texts(*names), **({"note": texts(*names)} if notes else {})}
+    rows = Arrow("+s", len(names), [None], children=columns)
+    return Stream(rows, rows)
+
+
 def test_the_page_prints_what_it_says(monkeypatch, tmp_path):
     pytest.importorskip("pandas")
     monkeypatch.chdir(EXAMPLES)
     lines = "\n".join(blocks("python"))
-    test = doctest.DocTestParser().get_doctest(lines, {"folder": tmp_path}, "PYTHON.md", PAGE, 0)
+    names = {"folder": tmp_path, "table": stream("Meyer", "Sato", "Ada"), "newer": stream("Okafor", "Ada", notes=False)}
+    test = doctest.DocTestParser().get_doctest(lines, names, "PYTHON.md", PAGE, 0)
     found = doctest.DocTestRunner(optionflags=doctest.REPORT_NDIFF).run(test)
     assert found.attempted > 15 and found.failed == 0
 
