@@ -15,7 +15,7 @@ FACTOR = np.uint64(0x9E37_79B9_7F4A_7C15)
 
 
 class Known(NamedTuple):
-    """Texts in the order of their keys, with their numbers, lengths and words."""
+    """Texts in the order of their keys, with their numbers, lengths and words, as many as the longest has."""
 
     keys: np.ndarray
     codes: np.ndarray
@@ -31,6 +31,9 @@ class Known(NamedTuple):
         for known, words in zip(self.words, asked.words):
             is_same &= known[places] == words
         return np.where(is_same, self.codes[places], -1)
+
+
+NONE = Known(np.zeros(0, np.uint64), np.zeros(0, np.int64), np.zeros(0, np.int64), np.zeros((0, 0), np.uint64))
 
 
 class Asked(NamedTuple):
@@ -65,8 +68,11 @@ class Distinct:
         self.texts: List[str] = []
         self._codes: Dict[str, int] = {}
         self._lock = threading.Lock()
-        none = np.zeros(0, np.int64)
-        self._known = Known(none.astype(np.uint64), none, none, np.zeros((WORDS, 0), np.uint64))
+        self._known = NONE
+
+    def end(self) -> None:
+        """Gives back the memory that finds texts: from then on none is asked for."""
+        self._known, self._codes = NONE, {}
 
     def codes(self, fields: Fields) -> np.ndarray:
         """Returns the number of each field's text, which is kept where it is new."""
@@ -96,15 +102,16 @@ class Distinct:
         first = short[np.sort(np.unique(asked.keys[short], return_index=True)[1])]
         first = first[~np.isin(asked.keys[first], self._known.keys)]
         codes = np.array([self._code(text) for text in fields.taken(first).texts()], np.int64)
-        words = np.zeros((WORDS, len(first)), np.uint64)
-        for place, word in enumerate(asked.words):
-            words[place] = word[first]
         known = self._known
         keys = np.concatenate([known.keys, asked.keys[first]])
+        words = np.zeros((max(len(known.words), len(asked.words)), len(keys)), np.uint64)
+        words[: len(known.words), : len(known.keys)] = known.words
+        for place, word in enumerate(asked.words):
+            words[place, len(known.keys) :] = word[first]
         order = np.argsort(keys)
         self._known = Known(
             keys[order],
             np.concatenate([known.codes, codes])[order],
             np.concatenate([known.lengths, asked.lengths[first]])[order],
-            np.concatenate([known.words, words], axis=1)[:, order],
+            words[:, order],
         )

@@ -296,7 +296,8 @@ class TextReader:
         return Read(None, self.distinct.codes(fields), {})
 
     def meaning(self) -> Meaning:
-        """Returns what the places stand for."""
+        """Returns what the places stand for, when all fields are read."""
+        self.distinct.end()
         return self._meaning(self.distinct.texts, self.options)
 
 

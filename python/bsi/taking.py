@@ -202,9 +202,11 @@ def _joined(bases: Sequence[int], bitmaps: Iterator[np.ndarray], rows: int) -> n
 def _digits(bases: Sequence[int]) -> Iterator[Tuple[int, int]]:
     """Yields the places and the base of each digit, of which up to eight that are bits make one."""
     for is_bit, run in itertools.groupby(bases, lambda base: base == 2):
-        bits = len(list(run)) if is_bit else 0
-        yield from ((min(BYTE, bits - place), 1 << min(BYTE, bits - place)) for place in range(0, bits, BYTE))
-        yield from (((base - 1).bit_length(), base) for base in run)
+        if is_bit:
+            bits = len(list(run))
+            yield from ((min(BYTE, bits - place), 1 << min(BYTE, bits - place)) for place in range(0, bits, BYTE))
+        else:
+            yield from (((base - 1).bit_length(), base) for base in run)
 
 
 def sums_of(numbers: np.ndarray) -> Tuple[int, int]:
