@@ -11,7 +11,7 @@ from typing import Iterator, NamedTuple, Optional, Tuple
 
 import numpy as np
 
-BYTE, WRAPPED = 8, 1 << 64
+BYTE = 8
 NOTHING = np.zeros(0, np.uint8)
 # How many bytes the system is asked for at once.
 SIZE = 1 << 20
@@ -53,9 +53,8 @@ class Packed(NamedTuple):
             found <<= found.dtype.type(count)
             found |= _spread(self.places[start:end], count)
             end = start
-        distances = found[: self.rows].astype(np.uint64, copy=False)
-        distances += np.uint64(least % WRAPPED)
-        return distances.view(np.int64)
+        distances = found[: self.rows] if width <= 32 else found[: self.rows].view(np.int64)
+        return np.add(distances, np.int64(least), dtype=np.int64)
 
 
 def packed(numbers: np.ndarray, valid: np.ndarray) -> Packed:
@@ -66,12 +65,16 @@ def packed(numbers: np.ndarray, valid: np.ndarray) -> Packed:
     width = (most - least).bit_length()
     left = np.zeros(_padded(rows), _type_of(width))
     # (a distance past 63 bits comes out right as a number without a sign)
-    distances = there.astype(np.int64, copy=False).view(np.uint64) - np.uint64(least % WRAPPED)
-    left[:rows][slice(None) if is_all else valid] = distances
+    if is_all:
+        np.subtract(there, np.int64(least), out=left[:rows], dtype=np.int64, casting="unsafe")
+    else:
+        left[:rows][valid] = np.subtract(there, np.int64(least), dtype=np.int64)
     parts = [NOTHING]
     for count in _counts(width):
         parts.append(_squeezed(left, count))
-        left >>= left.dtype.type(count)
+        width -= count
+        if width:
+            left >>= left.dtype.type(count)
     bits = None if is_all else np.packbits(valid, bitorder="little")
     return Packed(rows, (least, most) if len(there) else None, np.concatenate(parts), bits)
 
@@ -99,7 +102,8 @@ def _squeezed(numbers: np.ndarray, count: int) -> np.ndarray:
     if count == 16:
         return numbers.astype("<u2").view(np.uint8)
     bytes_ = numbers.astype(np.uint8)
-    bytes_ &= np.uint8((1 << count) - 1)
+    if count < BYTE:
+        bytes_ &= np.uint8((1 << count) - 1)
     if count == 1:
         return np.packbits(bytes_, bitorder="little")
     while count < BYTE:
