@@ -248,13 +248,19 @@ class _Column:
         refused for those: where its texts are no texts."""
         if not isinstance(self.reader, TextReader) or not self.reader.distinct.texts:
             return None, {}, False
-        texts, counts = self.reader.distinct.texts, np.zeros(len(self.reader.distinct.texts), np.int64)
-        for block in (block.plain() for block in self.blocks):
-            counts += np.bincount(block.numbers[block.valid], minlength=len(texts))
-        if self.reader.is_exact and self.options.kind is None and (bad := misread(texts, counts, self.options)):
+        is_chosen = self.reader.is_exact and self.options.kind is None
+        if is_chosen and (bad := misread(self.reader.distinct.texts, self._counts, self.options)):
             return None, bad, True
         meaning = self.reader.meaning()
         return meaning, meaning.bad, False
+
+    def _counts(self) -> np.ndarray:
+        """Returns how many rows have each of the texts."""
+        assert isinstance(self.reader, TextReader)
+        counts = np.zeros(len(self.reader.distinct.texts), np.int64)
+        for block in (block.plain() for block in self.blocks):
+            counts += np.bincount(block.numbers[block.valid], minlength=len(counts))
+        return counts
 
     def apply(self, meaning: Meaning) -> None:
         """Puts what the places of texts stand for in their place."""

@@ -419,9 +419,13 @@ def _dates(texts: Counter, options: Options) -> Reader:
     return TimeReader(options, False)
 
 
-def misread(texts: List[str], counts: np.ndarray, options: Options) -> Bad:
-    """Returns which of the texts stand among so many numbers or dates that they can't be meant as texts."""
+def misread(texts: List[str], count: Callable[[], np.ndarray], options: Options) -> Bad:
+    """Returns which of the texts stand among so many numbers or dates that they can't be meant as texts. Rows are counted
+    where a text looks like something else."""
     looks = [_look(text.strip(" \t"), options) for text in texts]
+    if set(looks) == {"text"}:
+        return {}
+    counts = count()
     total = {look: int(counts[[one == look for one in looks]].sum()) for look in set(looks)}
     there = sum(total.values()) - total.get("nothing", 0)
     for look, reason in (("number", "number"), ("date", "date or time")):
