@@ -223,3 +223,7 @@ class Gathered:
     def rows(self) -> int:
         with self.alone():
             return sum(self._each("rows"))
+
+    def nbytes(self) -> int:
+        with self.alone():
+            return sum(self._each("nbytes"))

@@ -84,6 +84,7 @@ _CALLS: Dict[str, List[Any]] = {
     "bsi_ranks": [c_void_p, c_size_t, c_void_p, c_size_t, c_void_p, c_size_t, c_void_p, c_size_t],
     "bsi_top": [c_void_p, c_size_t, c_void_p, c_size_t, c_bool, c_void_p, c_size_t, POINTER(c_size_t)],
     "bsi_rows": [POINTER(c_uint64)],
+    "bsi_memory": [POINTER(c_uint64)],
     "bsi_schema": [c_void_p, c_size_t, POINTER(c_size_t)],
     "bsi_save": [c_void_p, c_size_t, c_void_p, c_size_t, POINTER(c_size_t)],
     "bsi_open_kept": [c_void_p, c_size_t, c_void_p, c_size_t, POINTER(c_size_t), POINTER(c_uint64)],
@@ -318,6 +319,12 @@ class Handle:
         rows = c_uint64()
         check(self._call("bsi_rows", byref(rows)))
         return rows.value
+
+    def nbytes(self) -> int:
+        """Returns how many bytes the rows take."""
+        size = c_uint64()
+        check(self._call("bsi_memory", byref(size)))
+        return size.value
 
     def schema(self) -> bytes:
         """Returns the records of the schema."""

@@ -115,6 +115,11 @@ class Table:
         """The most rows that it takes."""
         return self._limit
 
+    @property
+    def nbytes(self) -> int:
+        """How many bytes of memory its rows take, without the room for more."""
+        return self._store.nbytes()
+
     def __len__(self) -> int:
         return self._store.rows()
 

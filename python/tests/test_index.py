@@ -958,3 +958,17 @@ def test_columns_of_many_rows_are_compared():
                     assert (index.mask(where) == (wanted & known)).all(), where
                     assert pickle.loads(pickle.dumps(where)) == where != col[one]._compared(sign, other)
     assert repr(~(col.low < col.high)) == "~(col.low < col.high)"
+
+
+def test_how_many_bytes_an_index_takes():
+    index = bsi.Index({"a": bsi.slices(20), "b": bsi.range(10, 10)})
+    assert index.nbytes == 0
+    index.append({"a": list(range(1000)), "b": [7] * 1000})
+    # (16 words a bitmap: 20 slices, nine digits and four places for each base, and the nulls of both; and a byte a row)
+    assert index.nbytes == 16 * 8 * ((20 + 1) + (2 * (9 + 4) + 1)) + 1000
+    with bsi.Parts(2, {"a": bsi.slices(20)}) as parts:
+        parts.append({"a": list(range(128))})
+        assert parts.nbytes == 2 * 8 * 21 + 128
+    index.close()
+    with pytest.raises(bsi.Closed):
+        index.nbytes
