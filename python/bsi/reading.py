@@ -31,6 +31,8 @@ from .spelling import THOUSANDS, Bad, Meaning, Options, Reader, TextReader, misr
 # How many bytes say what columns hold, how many are read at once of four columns, and up to how many columns these are
 # more for more columns.
 FIRST, RUN, WIDE = 1 << 16, 1 << 19, 32
+# How many runs stay where they were read too.
+LAST = 4
 
 
 def read_csv(
@@ -289,6 +291,8 @@ class _Reader:
         self._columns: List[_Column] = []
         self._rows: List[_Rows] = []
         self._room = Room()
+        # (without these the system takes the memory of a run back behind it, and the next run asks for it again)
+        self._last: Deque[List[Packed]] = deque(maxlen=LAST)
         self._count = self._bytes = self._line = 0
         self.skipped = Skipped()
 
@@ -391,6 +395,7 @@ class _Reader:
     def _keep(self, records: Records, pieces: List[Optional[_Piece]], name: str) -> None:
         """Keeps the numbers of a run, or refuses what does not fit."""
         rows = _Rows.of(name, self._count, self._line, records.places)
+        self._last.append([piece.packed for piece in pieces if piece is not None])
         self._refuse_odd(records, name)
         left: Dict[int, BadRow] = {}
         for column, piece in zip(self._columns, pieces):
@@ -460,6 +465,7 @@ class _Reader:
 
     def chosen(self) -> Chosen:
         """Returns the forms of the columns and their blocks, or raises all that does not fit."""
+        self._last.clear()
         for column in self._columns:
             if not column.refusal:
                 self._mean(column)
