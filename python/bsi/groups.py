@@ -50,12 +50,12 @@ class GroupBy:
         if isinstance(column, Predicate):
             column, where = None, column if where is all_rows else column & where
         if column is None:
-            return self._at_once(b"count", None, where) or self._each(where, self._table.count)
+            return self._answers(b"count", None, where, self._table.count)
         return self._each(where, lambda one: self._table.count(column, one))
 
     def sum(self, column: "Name", where: Predicate = all_rows) -> Groups:
         """Returns the sum of a column in the rows of each value."""
-        return self._at_once(b"sum", column, where) or self._each(where, lambda one: self._table.sum(column, one))
+        return self._answers(b"sum", column, where, lambda one: self._table.sum(column, one))
 
     def mean(self, column: "Name", where: Predicate = all_rows) -> Groups:
         """Returns the mean of a column in the rows of each value."""
@@ -63,24 +63,22 @@ class GroupBy:
 
     def median(self, column: "Name", where: Predicate = all_rows) -> Groups:
         """Returns the lower median of a column in the rows of each value."""
-        found = self._at_once(b"median", column, where)
-        return found or self._each(where, lambda one: self._table.median(column, one))
+        return self._answers(b"median", column, where, lambda one: self._table.median(column, one))
 
     def least(self, column: "Name", where: Predicate = all_rows) -> Groups:
         """Returns the least value of a column in the rows of each value."""
-        return self._at_once(b"least", column, where) or self._each(where, lambda one: self._table.least(column, one))
+        return self._answers(b"least", column, where, lambda one: self._table.least(column, one))
 
     def greatest(self, column: "Name", where: Predicate = all_rows) -> Groups:
         """Returns the greatest value of a column in the rows of each value."""
-        found = self._at_once(b"greatest", column, where)
-        return found or self._each(where, lambda one: self._table.greatest(column, one))
+        return self._answers(b"greatest", column, where, lambda one: self._table.greatest(column, one))
 
     min, max = least, greatest
 
-    def _at_once(self, word: bytes, column: Optional["Name"], where: Predicate) -> Optional[Groups]:
-        """Returns the answers where the library has them at once."""
+    def _answers(self, word: bytes, column: Optional["Name"], where: Predicate, ask: Callable[[Predicate], Any]) -> Groups:
+        """Returns the answers that the library has at once, or asks for each value."""
         found = self._table.grouped(self._columns, word, column, where, MAX_GROUPS)
-        return None if found is None else Groups(self._columns, found)
+        return self._each(where, ask) if found is None else Groups(self._columns, found)
 
     def _each(self, where: Predicate, ask: Callable[[Predicate], Any]) -> Groups:
         answers: Dict[Any, Any] = {}

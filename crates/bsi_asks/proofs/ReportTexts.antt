@@ -1,5 +1,5 @@
 -- The lines of reports.
-use Rattle.std.proofs.Common.{◌≡◌, ℕ, List, [], ◌++◌, None, Result, Ok, Err, length, map, ap, ◌∙◌}
+use Rattle.std.proofs.Common.{◌≡◌, ◌≤◌, ℕ, List, [], ◌++◌, None, Result, Ok, Err, length, map, ap, ◌∙◌}
 use Rattle.bsi_groups.specs.Groups.{missing_grouped, selected_by, AreGroups, IsGroupRefusal}
 use Rattle.bsi_groups.specs.declared.grouping.Group.{Group}
 use Rattle.bsi_groups.specs.declared.grouping.GroupError.{GroupError}
@@ -18,8 +18,8 @@ use Rattle.bsi_asks.specs.declared.reports.Report.TheVariants.{Groups, Top}
 
 module _ (schema : Declared) (rows : List FedRow) (query : Query) (by : ℕ) (before line : List ℕ) (empty : before ≡ []) where
   pub groups_told : (groups : List Group) → missing_grouped (length schema.columns) query by ≡ None → AreGroups query.total (selected_by query rows) by rows groups
-      → line ≡ before ++ groups_line (Ok groups) → IsReportLine schema rows (Groups query by) line
-  groups_told groups there are is = (Ok groups, (there, are), is ∙ ap (λ b. b ++ groups_line (Ok groups)) empty)
+      → length groups ≤ max_groups → line ≡ before ++ groups_line (Ok groups) → IsReportLine schema rows (Groups query by) line
+  groups_told groups there are few is = (Ok groups, (there, are, few), is ∙ ap (λ b. b ++ groups_line (Ok groups)) empty)
 
   pub no_groups_told : (why : GroupError) → IsGroupRefusal schema rows query by max_groups why → line ≡ before ++ groups_line (Err why)
       → IsReportLine schema rows (Groups query by) line

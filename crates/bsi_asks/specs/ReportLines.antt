@@ -1,5 +1,5 @@
 -- The line that answers a report.
-use Rattle.std.specs.Prelude.{◌≡◌, ◌<◌, ℕ, ℤ, All, List, [], ◌++◌, Option, Some, None, Result, Ok, Err, codes, decimal, length, map, slice_index}
+use Rattle.std.specs.Prelude.{◌≡◌, ◌<◌, ◌≤◌, ℕ, ℤ, All, List, [], ◌++◌, Option, Some, None, Result, Ok, Err, codes, decimal, length, map, slice_index}
 use Rattle.std.specs.Fmt.{signed_decimal}
 use Rattle.std.specs.List.{flat_map}
 use Rattle.std.specs.Ordering.{int_eq}
@@ -71,6 +71,7 @@ count_line (Err refused) = ask_line (Err refused)
 abbrev pub IsGrouped : Declared → List FedRow → Query → ℕ → Result (List Group) GroupError → Type 0
 IsGrouped schema rows query by (Ok groups) =
     (missing_grouped (length schema.columns) query by ≡ None) × AreGroups query.total (selected_by query rows) by rows groups
+    × (length groups ≤ max_groups)
 IsGrouped schema rows query by (Err why) = IsGroupRefusal schema rows query by max_groups why
 
 -- the line has the reply to this report over these rows

@@ -14,6 +14,7 @@ returns-in-Ok c =
     on_ok c.write_groups.result
     (λ is. subst (λ (r : Report). IsReportLine schema rows r line) (sym c.in-Groups.is)
     (groups_told schema rows c.in-Groups.query c.in-Groups.by before line c.clear.ensures.items c.in-Ok.groups.items c.in-Ok.ensures.there c.in-Ok.ensures.groups
+    c.in-Ok.ensures.few
     (is ∙ ap (λ gs. before ++ groups_line (Ok gs)) c.deref.ensures.value)))
     c.write_groups.ensures
 
