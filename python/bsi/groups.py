@@ -6,7 +6,8 @@ from __future__ import annotations
 from typing import TYPE_CHECKING, Any, Callable, Dict, Iterator, Optional, Tuple, Union
 
 from .errors import BadQuery
-from .predicates import Predicate, Stored, all_rows
+from .kinds import Times
+from .predicates import Column, Predicate, Stored, all_rows
 
 if TYPE_CHECKING:
     from .table import Name, Table
@@ -51,7 +52,10 @@ class GroupBy:
             column, where = None, column if where is all_rows else column & where
         if column is None:
             return self._answers(b"count", None, where, self._table.count)
-        return self._each(where, lambda one: self._table.count(column, one))
+        self._table.count(column, where)  # a column that can't be counted is refused
+        name = column if isinstance(column, str) else column.name
+        there = self.count(where=Column(name).notnull() & where)
+        return Groups(self._columns, {value: there.get(value, 0) for value in self.count(where=where)})
 
     def sum(self, column: "Name", where: Predicate = all_rows) -> Groups:
         """Returns the sum of a column in the rows of each value."""
@@ -59,7 +63,11 @@ class GroupBy:
 
     def mean(self, column: "Name", where: Predicate = all_rows) -> Groups:
         """Returns the mean of a column in the rows of each value."""
-        return self._each(where, lambda one: self._table.mean(column, one))
+        name = column if isinstance(column, str) else column.name
+        if name not in self._table.forms or isinstance(self._table.forms[name].kind, Times):
+            return self._each(where, lambda one: self._table.mean(column, one))
+        totals, counts = self.sum(name, where), self.count(name, where)
+        return Groups(self._columns, {value: total / counts[value] if counts[value] else None for value, total in totals.items()})
 
     def median(self, column: "Name", where: Predicate = all_rows) -> Groups:
         """Returns the lower median of a column in the rows of each value."""

@@ -99,6 +99,10 @@ def check_groups(index, table, names, name):
         if word != "sum" or table.answers(name, rows)[0] is not None:
             found = getattr(asked, word)(name, where)
             assert found == {key: one[place] for key, one in figures.items()}, (names, word, name, where)
+    there = {key: int(table.columns[name][2][found].sum()) for key, found in wanted.items()}
+    assert asked.count(name, where) == there, (names, name, where)
+    if table.answers(name, rows)[0] is not None:
+        assert asked.mean(name, where) == {key: one[0] / there[key] if there[key] else None for key, one in figures.items()}
     if len(names) == 1:
         assert list(index.value_counts(names[0], where).items()) == sorted(counts, key=lambda one: -one[1])
         assert index.distinct(names[0], where) == len(wanted)
