@@ -110,8 +110,8 @@ enum {
     BSI_BAD_ROW = 8,        /* a row has a number that its column does not take */
     BSI_INDEX_FULL = 9,     /* there would be more rows than the limit */
     BSI_SHARED = 10,        /* a shared index takes no rows */
-    BSI_BAD_QUERY = 11,     /* the fields ask no query, or spell no predicate, or are over 1,000 for the predicate; in
-                               bsi_group_by and bsi_group_by_two also no such column */
+    BSI_BAD_QUERY = 11,     /* the fields ask no query, or spell no predicate, or are over 1,000 for the predicate; or
+                               there is no column of a name that the call takes */
     BSI_NO_ROOM = 12,       /* there is too little room */
     BSI_BAD_TEXT = 13,      /* the schema has more than 1,000,000 records */
     BSI_LONG_NOTES = 14,    /* there are more than BSI_MAX_NOTES bytes of notes */
