@@ -17,8 +17,8 @@ use Rattle.bsi_orders.specs.Orders.{IsGreatestBy, IsLeastBy}
 use Rattle.bsi_orders.specs.WholeNumbers.{signed_order, signed_sum, IsSignedGreatestOf, IsSignedLeastOf}
 use Rattle.bsi_shift.specs.Shifted.{number_of, shifted_entries, shifted_size, OffsetColumn}
 use Rattle.bsi_shift.proofs.Relating.{word_bit}
-use Rattle.bsi_groups.specs.Entries.{is_entry}
-use Rattle.bsi_groups.specs.Tallies.{entries_or_nulls, entry_of, numbers_of, rows_having, tallied, AreTallies, IsPlace, IsTally}
+use Rattle.bsi_groups.specs.Entries.{is_entry, rows_having}
+use Rattle.bsi_groups.specs.Tallies.{entries_or_nulls, entry_of, numbers_of, tallied, AreTallies, IsPlace, IsTally}
 use Rattle.bsi_groups.specs.declared.tally.Tally.{Tally}
 use Rattle.bsi_groups.proofs.Order.{entry_is, is_itself}
 

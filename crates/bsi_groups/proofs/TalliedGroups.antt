@@ -17,9 +17,9 @@ use Rattle.bsi_rows.specs.declared.query.Total.{Total}
 use Rattle.bsi_rows.specs.declared.query.Total.TheVariants.{Count, Sum, Least, Greatest, Median, Rank, Rows}
 use Rattle.bsi_table.specs.Totals.{IsTotalAt}
 use Rattle.bsi_shift.specs.Shifted.{number_of, shifted_entries, shifted_size, IsInRange, OffsetColumn}
-use Rattle.bsi_groups.specs.Entries.{comes_before, is_entry}
+use Rattle.bsi_groups.specs.Entries.{comes_before, is_entry, rows_having}
 use Rattle.bsi_groups.specs.Groups.{entries_at, keys_of, rows_with, AreGroups, AreMore, Rise}
-use Rattle.bsi_groups.specs.Tallies.{column_read, entries_or_nulls, entry_of, rows_having, AreTallies, IsTally, IsTotalOf}
+use Rattle.bsi_groups.specs.Tallies.{column_read, entries_or_nulls, entry_of, AreTallies, IsTally, IsTotalOf}
 use Rattle.bsi_groups.specs.declared.grouping.Group.{Group}
 use Rattle.bsi_groups.specs.declared.tally.Tally.{Tally}
 use Rattle.bsi_groups.proofs.FirstEntries.{entries_counted}

@@ -1,7 +1,8 @@
 -- The rows at the places of set bits.
 use Rattle.std.proofs.Common.{◌≡◌, ◌≢◌, ◌+◌, ◌<◌, ◌≤◌, ◌++◌, ◌∷◌, [], ℕ, zero, suc, ℤ, pos, Bool, true, false, true≢false, cond, List, Option, Some, None, All, Contains, length, map, map-id, filter, take, get_or, inl, inr, refl, ap, sym, subst, zero-add, ◌∙◌, arith}
-use Rattle.std.specs.Prelude.{◌⊎◌, ◌&&◌, AllPairs, IfSome, IsSome, unwrap_or, count_by}
+use Rattle.std.specs.Prelude.{◌⊎◌, ◌&&◌, AllPairs, IfSome, IsSome, is_some, unwrap_or, count_by}
 use Rattle.std.specs.List.{range_with_len}
+use Rattle.std.specs.Simd.Lanes.{zip2}
 use Rattle.std.proofs.lemmas.Bool.{and_parts, and_right, cases_eq, cases_lt}
 use Rattle.std.proofs.lemmas.List.{get_or_past, length-map, map-append, take_more}
 use Rattle.std.proofs.lemmas.List.Elements.{filter_passes, All-cons, All-nil, All-weaker, Contains-append_right}
@@ -102,6 +103,18 @@ numbers_count (false ∷ found) (e ∷ entries) same numbers =
 numbers_count (true ∷ found) (None ∷ entries) same numbers = absurd (true≢false (sym (numbers 0 refl)))
 numbers_count (true ∷ found) (Some n ∷ entries) same numbers =
     ap suc (numbers_count found entries (omega arith) (λ r. numbers (suc r))) ∙ omega (arith, sum_by-cons (λ b. cond b 1 0) true found)
+
+-- as many found rows with a number as numbers
+pub numbered_count : (found : List Bool) (entries : List (Option ℤ)) → count_by (λ b. b) (zip2 ◌&&◌ found (map is_some entries)) ≡ length (values_at found entries)
+numbered_count [] [] = refl
+numbered_count [] (e ∷ entries) = refl
+numbered_count (f ∷ found) [] = refl
+numbered_count (false ∷ found) (e ∷ entries) = count_clear (zip2 ◌&&◌ found (map is_some entries)) ∙ numbered_count found entries
+numbered_count (true ∷ found) (None ∷ entries) = count_clear (zip2 ◌&&◌ found (map is_some entries)) ∙ numbered_count found entries
+numbered_count (true ∷ found) (Some n ∷ entries) =
+    let others = zip2 ◌&&◌ found (map is_some entries) in
+    let one_more : count_by (λ b. b) (true ∷ others) ≡ suc (count_by (λ b. b) others) = omega (arith, sum_by-cons (λ b. cond b 1 0) true others) in
+    one_more ∙ ap suc (numbered_count found entries)
 
 -- as many places as bits that are set
 pub places_count : (bits : List Bool) → length (set_places bits) ≡ count_by (λ b. b) bits

@@ -1,5 +1,6 @@
 -- The entries by which rows are grouped, and their order.
-use Rattle.std.specs.Prelude.{◌≡◌, ℤ, Bool, true, false, not, List, [], Option, Some, None, MatchOption, All, Contains, int_lt, is_none, IsTrue}
+use Rattle.std.specs.Prelude.{◌≡◌, ◌&&◌, ℤ, Bool, true, false, not, List, [], Option, Some, None, MatchOption, All, Contains, int_lt, is_none, map, IsTrue}
+use Rattle.std.specs.Simd.Lanes.{zip2}
 use Rattle.bsi_orders.specs.declared.op.Op.TheVariants.{Eq}
 use Rattle.bsi_orders.specs.WholeNumbers.{signed_selects}
 
@@ -22,3 +23,7 @@ pub record IsFirst (entries : List (Option ℤ)) (first : Option ℤ) : Type 0 w
 -- the first entry, or none where there is no entry
 abbrev pub IsFirstOf : List (Option ℤ) → Option (Option ℤ) → Type 0
 IsFirstOf entries answer = MatchOption answer (entries ≡ []) (IsFirst entries)
+
+-- those rows of a found set that have this entry, where these are the entries of a column
+abbrev pub rows_having : List (Option ℤ) → List Bool → Option ℤ → List Bool
+rows_having entries found entry = zip2 ◌&&◌ (map (is_entry entry) entries) found

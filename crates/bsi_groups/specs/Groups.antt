@@ -1,14 +1,14 @@
 -- The groups of the rows of a found set, and the reply to a query for groups.
-use Rattle.std.specs.Prelude.{◌≡◌, ◌&&◌, ◌<◌, ◌++◌, ◌∷◌, [], ℕ, ℤ, Bool, List, Option, Some, None, All, Contains, IsTrue, length, map}
+use Rattle.std.specs.Prelude.{◌≡◌, ◌<◌, ◌++◌, ◌∷◌, [], ℕ, ℤ, Bool, List, Option, Some, None, All, Contains, IsTrue, length, map}
 use Rattle.std.specs.List.{items_where_true, AllPairs}
-use Rattle.std.specs.Simd.Lanes.{zip2}
 use Rattle.bsi_schema.specs.Columns.{Declared}
 use Rattle.bsi_rows.specs.Answers.{columns_of_pred, columns_of_total, missing_of}
-use Rattle.bsi_rows.specs.Rows.{column_of, holds, row_entries, FedRow}
+use Rattle.bsi_rows.specs.Rows.{column_of, FedRow}
 use Rattle.bsi_rows.specs.declared.query.Query.{Query}
 use Rattle.bsi_rows.specs.declared.query.Total.{Total}
 use Rattle.bsi_table.specs.Totals.{IsTotalAt}
-use Rattle.bsi_groups.specs.Entries.{comes_before, is_entry}
+use Rattle.bsi_groups.specs.Entries.{comes_before, rows_having}
+use Rattle.bsi_groups.specs.Replies.{selected}
 use Rattle.bsi_groups.specs.declared.grouping.Group.{Group}
 use Rattle.bsi_groups.specs.declared.grouping.GroupError.{GroupError}
 use Rattle.bsi_groups.specs.declared.grouping.GroupError.TheVariants.{BadColumn, TooMany, NoMemory}
@@ -19,7 +19,7 @@ entries_at found by rows = items_where_true found (column_of rows by)
 
 -- those rows of a found set that have this entry there
 abbrev pub rows_with : List Bool → ℕ → List FedRow → Option ℤ → List Bool
-rows_with found by rows entry = zip2 ◌&&◌ (map (is_entry entry) (column_of rows by)) found
+rows_with found by rows entry = rows_having (column_of rows by) found entry
 
 -- the entries of groups
 abbrev pub keys_of : List Group → List (Option ℤ)
@@ -55,7 +55,7 @@ missing_grouped count query by = missing_of count ((columns_of_total query.total
 
 -- for each row whether the query selects it
 abbrev pub selected_by : Query → List FedRow → List Bool
-selected_by query rows = map (λ row. holds query.pred (row_entries row)) rows
+selected_by query rows = selected query.pred rows
 
 -- why the rows that a query selects are not put in groups: the first column that is not there, else as above
 abbrev pub IsGroupRefusal : Declared → List FedRow → Query → ℕ → ℕ → GroupError → Type 0

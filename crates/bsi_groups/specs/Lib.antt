@@ -1,6 +1,7 @@
 pub mod Entries
 pub mod Groups
 pub mod Pairs
+pub mod Quantiles
 pub mod Replies
 pub mod Tallies
 pub mod Tops

@@ -1,5 +1,5 @@
 -- The replies to calls that read a column of the rows that a predicate selects.
-use Rattle.std.specs.Prelude.{◌≡◌, ℕ, zero, suc, ℤ, [], ◌∷◌, ◌++◌, ◌<◌, List, Option, Some, None, Result, Ok, Err, length, map, slice_index, slice_index_or}
+use Rattle.std.specs.Prelude.{◌≡◌, ℕ, zero, suc, ℤ, Bool, [], ◌∷◌, ◌++◌, ◌<◌, List, Option, Some, None, Result, Ok, Err, length, map, slice_index, slice_index_or}
 use Rattle.std.specs.List.{filter_map}
 use Rattle.bsi_orders.specs.Ranks.{IsSignedRankOf}
 use Rattle.bsi_orders.specs.Orders.{values_at}
@@ -21,9 +21,13 @@ IsReplyOn schema c pred Is (Ok answer) = (missing_on schema c pred ≡ None) × 
 IsReplyOn schema c pred Is (Err (BadColumn missing)) = missing_on schema c pred ≡ Some missing
 IsReplyOn schema c pred Is (Err NoMemory) = missing_on schema c pred ≡ None
 
+-- for each row whether a predicate selects it
+abbrev pub selected : Pred → List FedRow → List Bool
+selected pred rows = map (λ row. holds pred (row_entries row)) rows
+
 -- the numbers of a column at the rows that a predicate selects, in order; a null is none
 abbrev pub selected_numbers : ℕ → Pred → List FedRow → List ℤ
-selected_numbers c pred rows = values_at (map (λ row. holds pred (row_entries row)) rows) (column_of rows c)
+selected_numbers c pred rows = values_at (selected pred rows) (column_of rows c)
 
 -- for each rank the number that has it, or none where it is past the last
 pub record AreRanked (ranks : List ℕ) (numbers : List ℤ) (answers : List (Option ℤ)) : Type 0 where

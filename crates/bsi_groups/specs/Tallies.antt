@@ -1,7 +1,6 @@
 -- Tallies of the rows of a found set by their entries in a column.
-use Rattle.std.specs.Prelude.{◌≡◌, ◌<◌, ◌+◌, ◌*◌, ◌^◌, ◌&&◌, ◌≤ℤ◌, ◌+ℤ◌, ℕ, ℤ, pos, Bool, List, Option, Some, None, length, map, nat_lt, slice_index_or, take, if◌then◌else◌}
+use Rattle.std.specs.Prelude.{◌≡◌, ◌<◌, ◌+◌, ◌*◌, ◌^◌, ◌≤ℤ◌, ◌+ℤ◌, ℕ, ℤ, pos, Bool, List, Option, Some, None, length, map, nat_lt, slice_index_or, take, if◌then◌else◌}
 use Rattle.std.specs.List.{filter_map, items_where_true}
-use Rattle.std.specs.Simd.Lanes.{zip2}
 use Rattle.bsi_orders.specs.WholeNumbers.{signed_sum, IsSignedLeastOf, IsSignedGreatestOf}
 use Rattle.bsi_rows.specs.Answers.{IsValue}
 use Rattle.bsi_rows.specs.declared.query.Answer.{Answer}
@@ -9,7 +8,7 @@ use Rattle.bsi_rows.specs.declared.query.Answer.TheVariants.{Count as count_answ
 use Rattle.bsi_rows.specs.declared.query.Total.{Total}
 use Rattle.bsi_rows.specs.declared.query.Total.TheVariants.{Count, Sum, Least, Greatest, Median, Rank, Rows}
 use Rattle.bsi_shift.specs.Shifted.{number_of, shifted_entries, shifted_size, OffsetColumn}
-use Rattle.bsi_groups.specs.Entries.{is_entry}
+use Rattle.bsi_groups.specs.Entries.{rows_having}
 use Rattle.bsi_groups.specs.declared.tally.Tally.{Tally}
 
 -- the numbers among entries
@@ -62,10 +61,6 @@ entry_of offset size k = if nat_lt k size then Some (number_of offset k) else No
 abbrev pub IsPlace : ℤ → ℕ → Option ℤ → ℕ → Type 0
 IsPlace offset size (Some n) k = (k < size) × (n ≡ number_of offset k)
 IsPlace offset size None k = k ≡ size
-
--- the rows of a found set that have this entry
-abbrev pub rows_having : List (Option ℤ) → List Bool → Option ℤ → List Bool
-rows_having keys found entry = zip2 ◌&&◌ (map (is_entry entry) keys) found
 
 -- the entries of a second column at those of the first n rows
 abbrev pub tallied : OffsetColumn → List (Option ℤ) → List Bool → ℕ → ℕ → List (Option ℤ)

@@ -1,9 +1,10 @@
-//! What reports ask of the rows that a query selects: groups (O'Neil and Quass 1997), ranks, different numbers, and the first rows.
+//! What reports ask of the rows that a query selects: groups (O'Neil and Quass 1997), ranks, quantiles, different numbers, and the first rows.
 #![tactic(auto)]
 
 mod differing;
 mod grouping;
 mod pairs;
+mod quantiles;
 mod ranking;
 mod selecting;
 mod taking;
@@ -14,5 +15,6 @@ mod tops;
 pub use differing::distinct;
 pub use grouping::{Group, GroupError, group_by};
 pub use pairs::{PairGroup, group_by_two};
+pub use quantiles::{Share, quantile};
 pub use ranking::ranks;
 pub use tops::{End, TopRow, top};

@@ -1,8 +1,7 @@
 //! The rows that a predicate selects, for a call that reads a column of them.
 
-ghost use Rattle.std.specs.Prelude.{◌≡◌, map};
-ghost use Rattle.bsi_rows.specs.Rows.{holds, row_entries};
-ghost use Rattle.bsi_groups.specs.Replies.{IsReplyOn};
+ghost use Rattle.std.specs.Prelude.{◌≡◌};
+ghost use Rattle.bsi_groups.specs.Replies.{selected, IsReplyOn};
 
 use bsi_bits::Bits;
 use bsi_table::{AskError, Index, Pred};
@@ -11,7 +10,7 @@ use bsi_table::{AskError, Index, Pred};
 /// predicate's.
 pub(crate) fn select_for(index: &Index, c: u32, pred: &Pred) -> Result<Bits, AskError>
     ensures { IsReplyOn index.now.schema c pred.now (λ found. found.bits
-        ≡ map (λ row. holds pred.now (row_entries row)) index.now.rows) result }
+        ≡ selected pred.now index.now.rows) result }
 {
     if c >= index.schema().columns() {
         return Err(AskError::BadColumn(c));

@@ -1,12 +1,12 @@
-//! The rows with the greatest or the least numbers of a column, by a bound and one list: the best number of a sample or, where
-//! that misleads, the number of a rank (Rinfret, O'Neil and O'Neil 2001).
+//! The rows with the greatest or the least numbers of a column, by a bound and one list: a number of a sample or, where that
+//! misleads, the number of a rank (Rinfret, O'Neil and O'Neil 2001).
 
-ghost use Rattle.std.specs.Prelude.{◌≡◌, ◌<◌, ◌≤◌, ◌-◌, ◌++◌, count_by, length, map, take, slice_index_or, None, IfOk, IfSome, OnOk};
+ghost use Rattle.std.specs.Prelude.{◌≡◌, ◌<◌, ◌≤◌, ◌-◌, ◌++◌, count_by, length, take, slice_index_or, None, IfOk, IfSome, OnOk};
 ghost use Rattle.std.specs.Ordering.{is_lt};
 ghost use Rattle.bsi_bits.specs.BitList.{set_places};
-ghost use Rattle.bsi_rows.specs.Rows.{column_of, holds, row_entries};
+ghost use Rattle.bsi_rows.specs.Rows.{column_of};
 ghost use Rattle.bsi_shift.specs.Shifted.{shifted_entries};
-ghost use Rattle.bsi_groups.specs.Replies.{IsReplyOn};
+ghost use Rattle.bsi_groups.specs.Replies.{selected, IsReplyOn};
 ghost use Rattle.bsi_groups.specs.Tops.{compared, is_ahead, op_beyond, rows_at, AreFirst, AreTop, HaveNumbers, IsBoundRank, IsRead};
 
 use crate::selecting::select_for;
@@ -46,19 +46,6 @@ struct ReadBlock {
     numbers: [i64; MAX_BLOCK],
 }
 
-/// What the blocks of a sample have, in numbers that are turned, so that the greatest are the nearest to the end.
-#[derive(Drop)]
-struct Sample {
-    /// The nearest number.
-    near: i64,
-    /// The farthest one of its block.
-    far: i64,
-    /// The nearest one of the other blocks.
-    other: i64,
-    /// Whether its block is the first or the last, and has more than `most` rows.
-    is_outer: bool,
-}
-
 /// Returns the `most` rows with the greatest numbers in column `c`, or the least, among the rows that a predicate
 /// selects, the greatest first; rows of one number come by position. A null has no number. There are fewer where fewer
 /// rows have one. The first column that is not there is told: `c`, else one of the predicate's. It passes over the
@@ -72,7 +59,7 @@ pub fn top(
     pred: &Pred,
 ) -> Result<Vec<TopRow>, AskError>
     ensures { IsReplyOn index.now.schema c pred.now (λ listed. AreTop end most
-        (map (λ row. holds pred.now (row_entries row)) index.now.rows) (column_of index.now.rows c)
+        (selected pred.now index.now.rows) (column_of index.now.rows c)
         listed.items) result }
 {
     let found = select_for(index, c, pred)?;
@@ -119,38 +106,34 @@ fn first_rows(
 }
 
 /// Returns a bound that few rows of a found set of no nulls are beyond, and more than `most` where the sample does not
-/// mislead, or none where a sample would save no time. Whatever it is, the rows that are listed by it are the first.
+/// mislead, or none where a sample would save no time. It is the nearest number of the second best of the blocks that are
+/// read, so that one block of alike numbers does not mislead. Whatever it is, the rows that are listed by it are the first.
 fn sampled_bound(column: &Shifted, found: &Bits, most: usize, end: End) -> Option<i64>
     requires { length (shifted_entries column.now) ≡ length found.now.bits }
 {
     let words = found.words();
     let mut block = [0; MAX_BLOCK];
-    let mut sample = Sample {
-        near: i64::MIN,
-        far: i64::MIN,
-        other: i64::MIN,
-        is_outer: false,
-    };
+    let (mut best, mut second) = (i64::MIN, i64::MIN);
     // A smaller sample saves no time.
     let least = rows_per_read(column) as usize / 32;
     'sample: for k in 0..sample_size(words.len(), most, least) {
         let at = sampled_block(k, words.len());
         if words[at] != 0 {
             column.read_block(at, &mut block);
-            let is_outer = k < 2 && words[at].count_ones() as usize > most;
-            sample.add(outermost(end, words[at], &block), is_outer);
+            let near = nearest(end, words[at], &block);
+            second = second.max(best.min(near));
+            best = best.max(near);
         }
     }
-    let bound = sample.bound()?;
-    Some(turned(end, bound))
+    (second != i64::MIN).then_some(turned(end, second))
 }
 
 /// Returns how many of so many blocks are read as a sample: about as many as the rows beyond its bound, which are to be
-/// several times `most`, or none where they are fewer than `least`.
+/// several times `most`, or none where that are fewer than `least`.
 fn sample_size(blocks: usize, most: usize, least: usize) -> usize
     ensures { result ≤ blocks }
 {
-    let size = blocks.isqrt().min(blocks / 8 / most.max(1));
+    let size = (2 * (blocks / 2).isqrt()).min(blocks / 4 / most.max(1));
     if size < least { 0 } else { size }
 }
 
@@ -164,14 +147,15 @@ fn rows_per_read(column: &Shifted) -> u64
     }
 }
 
-/// Returns which of so many blocks is read at turn `k`: the last, the first, and then blocks in between.
+/// Returns which of so many blocks is read at turn `k`: two near the end and two near the start, which have the first rows
+/// of an ordered column, and then blocks in between.
 fn sampled_block(k: usize, blocks: usize) -> usize
     requires { 0 < blocks }
     ensures { result < blocks }
 {
     match k {
-        0 => blocks - 1,
-        1 => 0,
+        0 | 1 => blocks.saturating_sub(k + 2),
+        2 | 3 => (k - 1) % blocks,
         _ => k.wrapping_mul(SPREAD) % blocks,
     }
 }
@@ -184,46 +168,15 @@ fn turned(end: End, number: i64) -> i64 {
     }
 }
 
-/// Returns the nearest and the farthest number of a block, both turned, among those at the ones of a word.
-fn outermost(end: End, rows: u64, block: &[i64; MAX_BLOCK]) -> (i64, i64) {
-    let (mut near, mut far) = (i64::MIN, i64::MAX);
+/// Returns the nearest number of a block, turned, among those at the ones of a word.
+fn nearest(end: End, rows: u64, block: &[i64; MAX_BLOCK]) -> i64 {
+    let mut near = i64::MIN;
     'rows: for r in 0..MAX_BLOCK {
         if rows >> r & 1 == 1 {
-            let number = turned(end, block[r]);
-            near = near.max(number);
-            far = far.min(number);
+            near = near.max(turned(end, block[r]));
         }
     }
-    (near, far)
-}
-
-impl Sample {
-    /// Adds a block: its nearest and its farthest number, and whether it is one of the outer blocks.
-    fn add(&mut self, numbers: (i64, i64), is_outer: bool) {
-        let (near, far) = numbers;
-        if near <= self.near {
-            self.other = self.other.max(near);
-            return;
-        }
-        self.other = self.near;
-        self.near = near;
-        self.far = far;
-        self.is_outer = is_outer;
-    }
-
-    /// Returns the nearest number. Where the whole block comes before the others, neighbours are alike: then many more
-    /// rows may come before it, but for the first or the last block of an ordered column, whose farthest number serves.
-    fn bound(&self) -> Option<i64> {
-        if self.near == i64::MIN {
-            return None;
-        }
-        let is_apart = self.other < self.far && self.far < self.near;
-        match (is_apart, self.is_outer) {
-            (false, _) => Some(self.near),
-            (true, true) => Some(self.far),
-            (true, false) => None,
-        }
-    }
+    near
 }
 
 /// Lists the same by a bound, which may be any number: where enough rows are beyond it, only those are looked at, and
