@@ -169,6 +169,12 @@ uint32_t bsi_select(bsi_index *index, const bsi_text *fields, size_t fields_len,
 uint32_t bsi_distinct(bsi_index *index, const bsi_text *fields, size_t fields_len, const uint8_t *name, size_t name_len,
                       uint64_t *count);
 
+/* Writes the number at the end of `part` parts of `whole` of those that the column of a name has at such rows, or none where
+ * there is no number: of n numbers that of the rank (n - 1) * part / whole, from 0 and rounded down, so 1 and 2 give the
+ * lower median. A whole of 0 or below the part is BSI_BAD_QUERY. */
+uint32_t bsi_quantile(bsi_index *index, const bsi_text *fields, size_t fields_len, const uint8_t *name, size_t name_len,
+                      uint64_t part, uint64_t whole, bsi_entry *number);
+
 /* Writes for each rank, from 0, the number that has it among those that the column of a name has at such rows, or none past
  * the last: as "rank" is answered, but the rows are selected once. At BSI_NO_ROOM there are more ranks than numbers. */
 uint32_t bsi_ranks(bsi_index *index, const bsi_text *fields, size_t fields_len, const uint8_t *name, size_t name_len,

@@ -178,6 +178,13 @@ static void numbers(bsi_index *index, int column) {
     }
     snprintf(text, sizeof text, "%s: the numbers of ranks are those of a loop", names[column]);
     check(right, text);
+    right = true;
+    for (size_t part = 0; part <= 20; part++) {
+        right &= !quantile(index, "b < 12", names[column], part, 20, at) && at->present;
+        right &= at->number == plain[column][rows[many - 1 - (many - 1) * part / 20]];
+    }
+    snprintf(text, sizeof text, "%s: quantiles are those of a loop", names[column]);
+    check(right, text);
     right = !top(index, "b < 12", names[column], false, found, 1000, &listed) && listed == (many < 1000 ? many : 1000);
     for (size_t k = 0; k < listed; k++) right &= found[k].row == rows[k] && found[k].number == plain[column][rows[k]];
     right &= !top(index, "b < 12", names[column], true, found, ROWS, &listed) && listed == many;

@@ -53,6 +53,12 @@ static inline uint32_t distinct(bsi_index *index, const char *text, const char *
     return bsi_distinct(index, of.at, of.len, (const uint8_t *)name, strlen(name), count);
 }
 
+static inline uint32_t quantile(bsi_index *index, const char *text, const char *name, uint64_t part, uint64_t whole,
+                                bsi_entry *number) {
+    fields of = fields_of(text);
+    return bsi_quantile(index, of.at, of.len, (const uint8_t *)name, strlen(name), part, whole, number);
+}
+
 static inline uint32_t ranks(bsi_index *index, const char *text, const char *name, const uint64_t *wanted, size_t len,
                              bsi_entry *numbers, size_t room) {
     fields of = fields_of(text);

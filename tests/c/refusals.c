@@ -136,12 +136,28 @@ static void numbers_of_both(bsi_index *index, uint64_t rows) {
     wrong += !listed || first[0].row != greatest || first[0].number != a[greatest];
 }
 
+/* Asks for the greatest number of a, by its rank and as a quantile. */
+static void greatest(bsi_index *index, uint64_t rows) {
+    bsi_entry by_rank, by_share;
+    uint64_t last = rows - 1, row = 0;
+    uint32_t status = ranks(index, "all", "a", &last, 1, &by_rank, 1);
+    wrong += !is_fair(status);
+    if (is_to_repeat(status)) wrong += (status = ranks(index, "all", "a", &last, 1, &by_rank, 1)) != BSI_OK;
+    uint32_t ending = quantile(index, "all", "a", 1, 1, &by_share);
+    wrong += !is_fair(ending);
+    if (is_to_repeat(ending)) wrong += (ending = quantile(index, "all", "a", 1, 1, &by_share)) != BSI_OK;
+    for (uint64_t other = 1; other < rows; other++) row = a[other] > a[row] ? other : row;
+    wrong += !status && (by_rank.present != !!rows || (rows && by_rank.number != a[row]));
+    wrong += !ending && (by_share.present != !!rows || (rows && by_share.number != a[row]));
+}
+
 /* Asks an index of the first rows, and sees that each answer that is given is right. */
 static void question(bsi_index *index, uint64_t rows) {
     list_below_100(index, rows);
     groups_below_100(index, rows);
     pairs_below_30(index, rows);
     numbers_of_both(index, rows);
+    greatest(index, rows);
     median(index, rows);
     select_below_100(index, rows);
 }

@@ -47,6 +47,7 @@ static void of_a_closed_handle(void) {
     check(group_by_two(&closed, "count all", "x", "y", pairs, 1, &size) == BSI_CLOSED, "group_by_two: a closed handle");
     check(distinct(&closed, "all", "x", &number) == BSI_CLOSED, "distinct: a closed handle");
     check(ranks(&closed, "all", "x", words, 1, entries, 1) == BSI_CLOSED, "ranks: a closed handle");
+    check(quantile(&closed, "all", "x", 1, 2, entries) == BSI_CLOSED, "quantile: a closed handle");
     check(top(&closed, "all", "x", false, rows, 1, &size) == BSI_CLOSED, "top: a closed handle");
     check(selects(&closed, "all", words, 0) == BSI_CLOSED, "select: a closed handle");
     check(bsi_rows(&closed, &number) == BSI_CLOSED, "rows: a closed handle");
@@ -142,6 +143,12 @@ static void of_numbers(void) {
     check(ranks(&open_one, "all", "y", wanted, 3, entries, 4) == BSI_OK && entries[0].present && entries[0].number == 0
               && !entries[1].present && entries[2].present && entries[2].number == -50,
           "ranks: one past the last has no number");
+    check(quantile(&open_one, "all", "z", 1, 2, entries) == BSI_BAD_QUERY, "quantile: no such column");
+    check(quantile(&open_one, "all", "y", 3, 2, entries) == BSI_BAD_QUERY && entries[0].number == 0, "quantile: more than the whole");
+    check(quantile(&open_one, "all", "y", 0, 0, entries) == BSI_BAD_QUERY && entries[0].number == 0, "quantile: a whole of no parts");
+    check(quantile(&open_one, "all", "y", 1, 2, entries) == BSI_OK && entries[0].present && entries[0].number == -50,
+          "quantile: the half is the lower median");
+    check(quantile(&open_one, "y null", "y", 1, 2, entries) == BSI_OK && !entries[0].present, "quantile: of no number there is none");
     check(top(&open_one, "nothing", "y", false, rows, 4, &listed) == BSI_BAD_QUERY && listed == 77, "top: no predicate");
     check(top(&open_one, "all", "y", false, rows, 4, &listed) == BSI_OK && listed == 2 && rows[0].row == 2 && rows[0].number == 0
               && rows[1].row == 0 && rows[1].number == -50,
@@ -262,6 +269,7 @@ static void of_null_pointers_to_bytes(bsi_index *index) {
     check(bsi_append(index, 0, NULL, 0, &row, &refused) == BSI_BAD_COLUMNS && refused == 0, "append: null and no column");
     check(bsi_ask(index, &nothing, 1, &answer, NULL, 0) == BSI_BAD_QUERY, "ask: a field of null and no byte");
     check(bsi_distinct(index, NULL, 0, NULL, 0, &row) == BSI_BAD_QUERY, "distinct: null and no field, null and no name");
+    check(bsi_quantile(index, NULL, 0, NULL, 0, 1, 2, entries) == BSI_BAD_QUERY, "quantile: null and no field, null and no name");
     check(bsi_schema(index, NULL, 0, &size) == BSI_NO_ROOM && size > 0, "schema: null and no room");
     check(bsi_save(index, NULL, 0, NULL, 0, &size) == BSI_NO_ROOM && size > 0, "save: null and no note, null and no room");
     check(bsi_open_kept(&closed, NULL, 0, NULL, 0, &notes_len, &row) == BSI_NOT_KEPT, "open_kept: null and no byte");

@@ -7,7 +7,7 @@ ghost use Rattle.bsi_ffi.specs.Calls.{IsAppending, IsAsking, IsClosing, IsCounti
 ghost use Rattle.bsi_ffi.specs.Groups.{IsGrouping};
 ghost use Rattle.bsi_ffi.specs.Memory.{IsMeasuring};
 ghost use Rattle.bsi_ffi.specs.Pairs.{IsGroupingByTwo};
-ghost use Rattle.bsi_ffi.specs.Numbers.{IsCountingDifferent, IsRanking};
+ghost use Rattle.bsi_ffi.specs.Numbers.{IsCountingDifferent, IsFindingQuantile, IsRanking};
 ghost use Rattle.bsi_ffi.specs.States.{opened_in};
 ghost use Rattle.bsi_ffi.specs.Statuses.{status_of, Tells};
 ghost use Rattle.bsi_ffi.specs.Tops.{end_of, IsTopping};
@@ -16,7 +16,7 @@ ghost use Rattle.bsi_ffi.specs.declared.refusal.Refusal.TheVariants.{NoMemory, N
 use bsi_ffi::{
     FlatAnswer, FlatEntry, FlatGroup, FlatPair, FlatRow, GivenColumn, Handle, Place, append, ask,
     close, count, describe, different, first_rows, group, group_pairs, measure, open, open_kept,
-    ranked, save, select, share, status_of,
+    quantile, ranked, save, select, share, status_of,
 };
 use std::alloc::Global;
 
@@ -174,6 +174,26 @@ pub extern "C" fn bsi_ranks(
         ≡ drop (length ranks.now) numbers.old }
 {
     status_of(ranked(alloc, index, fields, name, ranks, numbers))
+}
+
+/// Writes the number at the end of `part` parts of `whole` of those that the column of this name has at the rows of the
+/// predicate that the fields spell: of n numbers that of the rank (n - 1) * part / whole, from 0 and rounded down.
+#[unsafe(no_mangle)]
+pub extern "C" fn bsi_quantile(
+    alloc: Global,
+    index: &mut Handle,
+    fields: &[&[u8]],
+    name: &[u8],
+    part: u64,
+    whole: u64,
+    number: &mut FlatEntry,
+) -> u32
+    ensures told { Tells result (IsFindingQuantile (opened_in index.old.held.value)
+        (map (λ f. f.now) fields.now) name.now part whole number.new) }
+    ensures kept { index.new.held.value ≡ index.old.held.value }
+    ensures left { result ≢ 0 → number.new ≡ number.old }
+{
+    status_of(quantile(alloc, index, fields, name, part, whole, number))
 }
 
 /// Writes the rows with the greatest numbers, or the least, that the column of this name has at the rows of the predicate

@@ -3,12 +3,12 @@ use Rattle.std.specs.Prelude.{◌≡◌, ℕ, ◌+◌, ◌*◌, ◌%◌, ◌<◌
 use Rattle.std.specs.Int.{cast_unsigned, w128}
 use Rattle.bsi_bits.specs.BitList.{word_count}
 use Rattle.bsi_bits.specs.Packed.{bit_of, end_of_u64}
+use Rattle.bsi_groups.specs.Replies.{selected}
 use Rattle.bsi_records.specs.Numbers.{Field}
 use Rattle.bsi_records.specs.Predicates.{IsPredicate}
 use Rattle.bsi_records.specs.Questions.{IsQuestion}
 use Rattle.bsi_rows.specs.Answers.{IsAnswer}
 use Rattle.bsi_rows.specs.RowBlocks.{max_block_rows}
-use Rattle.bsi_rows.specs.Rows.{holds, row_entries}
 use Rattle.bsi_rows.specs.Table.{max_feeders, no_rows, with_rows, Table}
 use Rattle.bsi_rows.specs.declared.query.Answer.{Answer}
 use Rattle.bsi_rows.specs.declared.query.Answer.TheVariants.{Count as count_answer, Sum as sum_answer, Value as value_answer, Rows as rows_answer}
@@ -189,7 +189,7 @@ IsAsking held fields answer places ending =
 -- bit i of the words says whether the predicate holds of row i; past the last row it is clear
 pub record IsMask (table : Table) (pred : Pred) (words : List ℕ) : Type 0 where
   pub long : length words ≡ word_count (length table.rows)
-  pub bits : (i : ℕ) → bit_of words i ≡ slice_index_or (map (λ row. holds pred (row_entries row)) table.rows) i false
+  pub bits : (i : ℕ) → bit_of words i ≡ slice_index_or (selected pred table.rows) i false
 
 abbrev pub IsMasked : Opened → List Field → List ℕ → Ending → Type 0
 IsMasked opened fields words (Ok done) =

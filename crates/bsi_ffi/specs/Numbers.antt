@@ -1,8 +1,9 @@
 -- Numbers of a column as C has them, and the calls for them.
-use Rattle.std.specs.Prelude.{◌≡◌, ℕ, ℤ, ◌<◌, ◌≤◌, List, Option, Some, Ok, Err, length, take}
+use Rattle.std.specs.Prelude.{◌≡◌, ◌⊎◌, ℕ, ℤ, ◌<◌, ◌≤◌, List, Option, Some, None, Ok, Err, length, take}
 use Rattle.std.specs.List.{AllZip}
 use Rattle.std.specs.Ordering.{int_eq}
 use Rattle.std.specs.Set.{distinct_count}
+use Rattle.bsi_groups.specs.Quantiles.{share_of, IsQuantileOf, Share}
 use Rattle.bsi_groups.specs.Replies.{selected_numbers, AreRanked}
 use Rattle.bsi_records.specs.Numbers.{Field}
 use Rattle.bsi_records.specs.Predicates.{IsPredicate}
@@ -42,6 +43,16 @@ AreRankedBy opened fields name ranks numbers (Ok done) =
 AreRankedBy opened fields name ranks numbers (Err NoRoom) = length numbers < length ranks
 AreRankedBy opened fields name ranks numbers (Err why) = IsUnasked opened.table fields name why
 
+-- the number at the end of a share of the numbers; none is written where there is no number
+abbrev pub HasQuantile : Opened → List Field → Field → ℕ → ℕ → FlatEntry → Ending → Type 0
+HasQuantile opened fields name part whole number (Ok done) =
+    (pred : Pred) × (c : ℕ) × (share : Share) × (found : Option ℤ) × IsAskedOn opened.table fields name pred c
+    × (share_of part whole ≡ Some share) × IsQuantileOf share (selected_numbers c pred opened.table.rows) found
+    × IsWrittenEntry found number
+HasQuantile opened fields name part whole number (Err BadQuery) =
+    (share_of part whole ≡ None) ⊎ IsUnasked opened.table fields name BadQuery
+HasQuantile opened fields name part whole number (Err why) = IsUnasked opened.table fields name why
+
 abbrev pub IsCountingDifferent : Option Opened → List Field → Field → ℕ → Ending → Type 0
 IsCountingDifferent held fields name count ending =
     WhereOpen held (λ opened ending. HasDifferent opened fields name count ending) ending
@@ -49,3 +60,7 @@ IsCountingDifferent held fields name count ending =
 abbrev pub IsRanking : Option Opened → List Field → Field → List ℕ → List FlatEntry → Ending → Type 0
 IsRanking held fields name ranks numbers ending =
     WhereOpen held (λ opened ending. AreRankedBy opened fields name ranks numbers ending) ending
+
+abbrev pub IsFindingQuantile : Option Opened → List Field → Field → ℕ → ℕ → FlatEntry → Ending → Type 0
+IsFindingQuantile held fields name part whole number ending =
+    WhereOpen held (λ opened ending. HasQuantile opened fields name part whole number ending) ending

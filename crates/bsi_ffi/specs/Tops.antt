@@ -1,12 +1,13 @@
 -- The first rows by the numbers of a column as C has them, and the call for them.
-use Rattle.std.specs.Prelude.{◌≡◌, ℕ, Bool, true, false, List, Option, Ok, Err, length, map, take}
+use Rattle.std.specs.Prelude.{◌≡◌, ℕ, Bool, true, false, List, Option, Ok, Err, length, take}
 use Rattle.std.specs.List.{AllZip}
+use Rattle.bsi_groups.specs.Replies.{selected}
 use Rattle.bsi_groups.specs.Tops.{AreTop}
 use Rattle.bsi_groups.specs.declared.tops.End.{End}
 use Rattle.bsi_groups.specs.declared.tops.End.TheVariants.{Greatest, Least}
 use Rattle.bsi_groups.specs.declared.tops.TopRow.{TopRow}
 use Rattle.bsi_records.specs.Numbers.{Field}
-use Rattle.bsi_rows.specs.Rows.{column_of, holds, row_entries}
+use Rattle.bsi_rows.specs.Rows.{column_of}
 use Rattle.bsi_rows.specs.declared.query.Pred.{Pred}
 use Rattle.bsi_ffi.specs.Calls.{WhereOpen}
 use Rattle.bsi_ffi.specs.Numbers.{IsAskedOn, IsUnasked}
@@ -27,7 +28,7 @@ IsWrittenRow row flat = (flat.row ≡ row.row) × (flat.number ≡ row.number)
 abbrev pub AreTopBy : Opened → List Field → Field → End → List FlatRow → ℕ → Ending → Type 0
 AreTopBy opened fields name end rows count (Ok done) =
     (pred : Pred) × (c : ℕ) × (listed : List TopRow) × IsAskedOn opened.table fields name pred c
-    × AreTop end (length rows) (map (λ row. holds pred (row_entries row)) opened.table.rows) (column_of opened.table.rows c) listed
+    × AreTop end (length rows) (selected pred opened.table.rows) (column_of opened.table.rows c) listed
     × (count ≡ length listed) × AllZip IsWrittenRow listed (take count rows)
 AreTopBy opened fields name end rows count (Err why) = IsUnasked opened.table fields name why
 

@@ -4,7 +4,7 @@ ghost use Rattle.std.specs.Prelude.{◌≡◌, ◌≢◌, None, drop, is_some, l
 ghost use Rattle.bsi_ffi.specs.Calls.{IsAppending, IsAsking, IsClosing, IsCounting, IsDescribing, IsKeeping, IsOpening, IsReopening, IsSelecting, IsSharing, LeavesRest, LeavesWords};
 ghost use Rattle.bsi_ffi.specs.Groups.{IsGrouping};
 ghost use Rattle.bsi_ffi.specs.Memory.{IsMeasuring};
-ghost use Rattle.bsi_ffi.specs.Numbers.{IsCountingDifferent, IsRanking};
+ghost use Rattle.bsi_ffi.specs.Numbers.{IsCountingDifferent, IsFindingQuantile, IsRanking};
 ghost use Rattle.bsi_ffi.specs.Pairs.{IsGroupingByTwo};
 ghost use Rattle.bsi_ffi.specs.States.{opened_in};
 ghost use Rattle.bsi_ffi.specs.Tops.{end_of, IsTopping};
@@ -15,7 +15,7 @@ use crate::groups::{FlatGroup, reply_groups};
 use crate::held::{Handle, put, take};
 use crate::keeping::{fill, keep, open_bytes};
 use crate::memory::kept_bytes;
-use crate::numbers::{count_different, reply_ranks};
+use crate::numbers::{count_different, reply_quantile, reply_ranks};
 use crate::pairs::{FlatEntry, FlatPair, reply_pairs};
 use crate::reading::open_text;
 use crate::refusal::Refusal;
@@ -221,6 +221,32 @@ pub fn ranked(
     };
     let ending = match state.opened() {
         Some(opened) => reply_ranks(alloc, opened, fields, name, wanted, numbers),
+        None => Err(Refusal::Closed),
+    };
+    put(index, state);
+    ending
+}
+
+/// Writes the number at the end of `part` parts of `whole` of those that the column of this name has at such rows.
+pub fn quantile(
+    alloc: Global,
+    index: &mut Handle,
+    fields: &[&[u8]],
+    name: &[u8],
+    part: u64,
+    whole: u64,
+    number: &mut FlatEntry,
+) -> Result<(), Refusal>
+    ensures ending { IsFindingQuantile (opened_in index.old.held.value)
+        (map (λ f. f.now) fields.now) name.now part whole number.new result }
+    ensures kept { index.new.held.value ≡ index.old.held.value }
+    ensures left { OnErr result (number.new ≡ number.old) }
+{
+    let Some(state) = take(index, alloc) else {
+        return Err(Refusal::Closed);
+    };
+    let ending = match state.opened() {
+        Some(opened) => reply_quantile(alloc, opened, fields, name, part, whole, number),
         None => Err(Refusal::Closed),
     };
     put(index, state);

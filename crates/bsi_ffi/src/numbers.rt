@@ -1,15 +1,16 @@
-//! Numbers of a column at the rows that a predicate selects: those of some ranks, and how many different ones there are.
+//! Numbers of a column at the rows that a predicate selects: those of some ranks, that of a quantile, and how many
+//! different ones there are.
 
 ghost use Rattle.std.specs.Prelude.{◌≡◌, ◌≤◌, ◌<◌, drop, length, map, take, IfErr, IfOk, OnErr, OnOk};
 ghost use Rattle.std.specs.List.{AllZip};
-ghost use Rattle.bsi_ffi.specs.Numbers.{AreRankedBy, HasDifferent, IsAskedOn, IsUnasked};
+ghost use Rattle.bsi_ffi.specs.Numbers.{AreRankedBy, HasDifferent, HasQuantile, IsAskedOn, IsUnasked};
 ghost use Rattle.bsi_ffi.specs.Pairs.{IsWrittenEntry};
 
 use crate::opened::Opened;
 use crate::pairs::{FlatEntry, flat_entry};
 use crate::refusal::Refusal;
 use crate::selection::read_predicate;
-use bsi_groups::{distinct, ranks};
+use bsi_groups::{Share, distinct, quantile, ranks};
 use bsi_table::{AskError, Pred};
 use std::alloc::Global;
 
@@ -56,6 +57,33 @@ pub(crate) fn reply_ranks(
     match ranks(alloc, opened.index(), c, wanted, &pred) {
         Ok(made) => {
             write_numbers(&made, numbers);
+            Ok(())
+        }
+        Err(refused) => Err(refusal_of(refused)),
+    }
+}
+
+/// Writes the number at the end of `part` parts of `whole` of the numbers that the column of a name has at such rows.
+pub(crate) fn reply_quantile(
+    alloc: Global,
+    opened: &Opened,
+    fields: &[&[u8]],
+    name: &[u8],
+    part: u64,
+    whole: u64,
+    number: &mut FlatEntry,
+) -> Result<(), Refusal>
+    ensures found { HasQuantile opened.now (map (λ f. f.now) fields.now) name.now part whole
+        number.new result }
+    ensures left { OnErr result (number.new ≡ number.old) }
+{
+    let Some(share) = Share::new(part, whole) else {
+        return Err(Refusal::BadQuery);
+    };
+    let (pred, c) = read_asked(alloc, opened, fields, name)?;
+    match quantile(opened.index(), c, share, &pred) {
+        Ok(found) => {
+            *number = flat_entry(found);
             Ok(())
         }
         Err(refused) => Err(refusal_of(refused)),
