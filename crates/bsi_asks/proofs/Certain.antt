@@ -3,6 +3,7 @@ use Rattle.std.proofs.Common.{◌≡◌, ◌≢◌, ℕ, List, [], ◌∷◌, �
 use Rattle.std.specs.Prelude.{codes}
 use Rattle.std.specs.List.Sorted.{IsPermutation}
 use Rattle.std.proofs.lemmas.List.Elements.{All-nil, All-head, All-tail}
+use Rattle.std.proofs.lemmas.Option.{none-some, same_Some}
 use Rattle.bsi_records.proofs.Spelling.{query_is_there, same_query}
 use Rattle.bsi_records.specs.Lines.{answer_line, ask_line, no_memory_line, rows_text}
 use Rattle.bsi_records.specs.Numbers.{Field}
@@ -36,15 +37,12 @@ OneReading = (bytes : List ℕ) → (a b : List (List Field)) → AreAllRecords 
 
 -- ---- the schema file
 
-some_same : {X : Type 0} (x y : X) → Some x ≡ Some y → x ≡ y
-some_same x y is = cc (is)
-
 one_table : OneReading → (bytes : List ℕ) (a b : DeclaredTable) → Declares bytes a → Declares bytes b → a ≡ b
 one_table reading bytes a b one two =
-    some_same a b (sym one.declared_is ∙ (ap (λ records. table_declared undeclared_table records) (reading bytes one.records two.records one.all two.all) ∙ two.declared_is))
+    same_Some a b (sym one.declared_is ∙ (ap (λ records. table_declared undeclared_table records) (reading bytes one.records two.records one.all two.all) ∙ two.declared_is))
 
 named_all : (before after : DeclaredTable) (records : List (List Field)) → AreNamed before.schema.columns → table_declared before records ≡ Some after → AreNamed after.schema.columns
-named_all before after [] named is = subst (λ (d : DeclaredTable). AreNamed d.schema.columns) (some_same before after is) named
+named_all before after [] named is = subst (λ (d : DeclaredTable). AreNamed d.schema.columns) (same_Some before after is) named
 named_all before after (fields ∷ records) named is =
     by (table_after before fields) (table_named before fields named) is (λ next now rest. named_all next after records now rest)
   where
@@ -81,9 +79,6 @@ one_files reading schema (text ∷ texts) (x ∷ a) (y ∷ b) one two =
 
 -- ---- the answers
 
-none_is_some : {P : Type 0} (c : ℕ) → None ≡ Some c → P
-none_is_some c is = cc is
-
 abbrev IsFound : List ℕ → Type 0
 IsFound line = line ≢ no_memory_line
 
@@ -96,7 +91,7 @@ module _ (schema : Declared) (rows : List FedRow) where
   shown : (query : Query) (r : Result Answer AskError) → missing_column (length schema.columns) query ≡ None → IsArrangedReply schema rows query r
       → ask_line r ≢ no_memory_line → (answer : Answer) × (r ≡ Ok answer) × IsArrangedAnswer query rows answer
   shown query (Ok answer) there is found = (answer, refl, is.1)
-  shown query (Err (ask.BadColumn c)) there is found = none_is_some c (sym there ∙ is.0)
+  shown query (Err (ask.BadColumn c)) there is found = absurd (none-some c (sym there ∙ is.0))
   shown query (Err ask.NoMemory) there is found = absurd (found refl)
 
   module _ (p q : Query) (totals : p.total ≡ q.total) (same : (row : Entries) → holds p.pred row ≡ holds q.pred row) where

@@ -1,6 +1,8 @@
 -- Which records ask for a report.
-use Rattle.std.proofs.Common.{◌≡◌, ℕ, ◌+◌, ◌-◌, ◌<◌, ◌≤◌, true, false, List, [], ◌∷◌, ◌++◌, drop, get_or, length, take, arith, Option, Some, None, option_map, refl, ap, sym, subst, ◌∙◌, codes}
+use Rattle.std.proofs.Common.{◌≡◌, ◌≢◌, ℕ, ◌+◌, ◌-◌, ◌<◌, ◌≤◌, true, false, List, [], ◌∷◌, ◌++◌, drop, get_or, length, take, arith, Option, Some, None, option_and_then, refl, ap, sym, subst, ◌∙◌, codes}
 use Rattle.std.proofs.lemmas.List.{append_assoc, get_or-drop, length-drop, take_more}
+use Rattle.std.proofs.lemmas.Option.{none-some, same_Some}
+use Rattle.std.proofs.lemmas.Slice.Eq.{bytes_eq-Decides}
 use Rattle.std.specs.Prelude.{MatchOption}
 use Rattle.std.specs.Str.{bytes_eq}
 use Rattle.csv.specs.Records.{field_at}
@@ -13,66 +15,21 @@ use Rattle.bsi_records.specs.Reading.{IsReadAs}
 use Rattle.bsi_rows.specs.declared.query.Pred.{Pred}
 use Rattle.bsi_rows.specs.declared.query.Query.{Query}
 use Rattle.bsi_rows.specs.declared.query.Total.{Total}
-use Rattle.bsi_rows.specs.declared.query.Total.TheVariants as total
+use Rattle.bsi_rows.specs.declared.query.Total.TheVariants.{Median, Rank, Rows}
 use Rattle.bsi_schema.specs.Columns.{Declared, position_of}
-use Rattle.bsi_asks.specs.Reports.{asked_fields, grouped, of_groups, of_median, of_rank, reported, shaped, shaped_by, IsReport}
+use Rattle.bsi_asks.specs.Reports.{end_word, IsReport}
 use Rattle.bsi_asks.specs.declared.reports.Report.{Report}
-use Rattle.bsi_asks.specs.declared.reports.Shape.{Shape}
-use Rattle.bsi_asks.specs.declared.reports.Shape.TheVariants.{Groups, Top, Distinct}
+use Rattle.bsi_asks.specs.declared.reports.Report.TheVariants.{Groups, Top, Distinct}
 
-some_same : {X : Type 0} (a b : X) → Some a ≡ Some b → a ≡ b
-some_same a b is = cc (is)
+-- what was read is so, and nothing is where nothing was read
+module _ {T : Type 0} (Is : T → Type 0) (o : Option T) (is : IsReadAs Is o) where
+  pub is_so : (x : T) → o ≡ Some x → Is x
+  is_so x at = subst (IsReadAs Is) at is
 
-none_is_some : {X : Type 0} (x : X) → None ≡ Some x → ⊥
-none_is_some x is = cc (is)
+  pub none_is : o ≡ None → (x : T) → Is x → ⊥
+  none_is at = subst (IsReadAs Is) at is
 
--- ---- the first word
-
-pub no_word : (schema : Declared) (fields : List Field) → None ≡ field_at fields 0 → None ≡ shaped schema fields
-unfolding field_at
-no_word schema [] none = refl
-no_word schema (word ∷ fields) none = absurd (none_is_some word none)
-
-pub with_word : (schema : Declared) (fields : List Field) (word : Field) → Some word ≡ field_at fields 0 → shaped_by schema word (drop 1 fields) ≡ shaped schema fields
-unfolding field_at
-with_word schema [] word at = absurd (none_is_some word (sym at))
-with_word schema (f ∷ fields) word at = ap (λ w. shaped_by schema w fields) (some_same word f at)
-
-module _ (schema : Declared) (word : Field) (rest : List Field) where
-  pub by_word : bytes_eq word (codes "by") ≡ true → grouped schema rest ≡ shaped_by schema word rest
-  by_word met = rw met refl
-
-  module _ (not_by : bytes_eq word (codes "by") ≡ false) where
-    pub top_word : bytes_eq word (codes "top") ≡ true → Some (Top Greatest, asked_fields (Top Greatest) rest) ≡ shaped_by schema word rest
-    top_word met = rw not_by (rw met refl)
-
-    module _ (not_top : bytes_eq word (codes "top") ≡ false) where
-      pub bottom_word : bytes_eq word (codes "bottom") ≡ true → Some (Top Least, asked_fields (Top Least) rest) ≡ shaped_by schema word rest
-      bottom_word met = rw not_by (rw not_top (rw met refl))
-
-      module _ (not_bottom : bytes_eq word (codes "bottom") ≡ false) where
-        pub distinct_word : bytes_eq word (codes "distinct") ≡ true → Some (Distinct, asked_fields Distinct rest) ≡ shaped_by schema word rest
-        distinct_word met = rw not_by (rw not_top (rw not_bottom (rw met refl)))
-
-        pub other_word : bytes_eq word (codes "distinct") ≡ false → None ≡ shaped_by schema word rest
-        other_word apart = rw not_by (rw not_top (rw not_bottom (rw apart refl)))
-
--- ---- the column of groups
-
-pub no_name : (schema : Declared) (fields : List Field) → None ≡ field_at fields 1 → None ≡ grouped schema (drop 1 fields)
-unfolding field_at
-no_name schema [] none = refl
-no_name schema (f ∷ []) none = refl
-no_name schema (f ∷ name ∷ fields) none = absurd (none_is_some name none)
-
-pub named : (schema : Declared) (fields : List Field) (name : Field) → Some name ≡ field_at fields 1
-    → option_map (λ by. (Groups by, drop 2 fields)) (position_of schema.columns name) ≡ grouped schema (drop 1 fields)
-unfolding field_at
-named schema [] name at = absurd (none_is_some name (sym at))
-named schema (f ∷ []) name at = absurd (none_is_some name (sym at))
-named schema (f ∷ g ∷ fields) name at = ap (λ n. option_map (λ by. (Groups by, fields)) (position_of schema.columns n)) (some_same name g at)
-
--- ---- the question
+-- ---- the fields of a question
 
 -- the fields so far, after one more
 pub next_field : (fields word : List Field) (from place : ℕ) (now next : List Field) (begun field : Field) → from ≤ place → place < length fields
@@ -89,10 +46,7 @@ next_field fields word from place now next begun field le lt so_far pushed none 
     ∙ ap (λ g. word ++ (take n (drop from fields) ++ g ∷ [])) last ∙ ap (λ xs. word ++ xs) (sym (take_more (drop from fields) n [] within))
     ∙ ap (λ k. word ++ take k (drop from fields)) (sym one)
 
--- ---- the report
-
-abbrev AsksAs : Declared → Report → Shape × List Field → Type 0
-AsksAs schema asked (shape, question) = (query : Query) × IsQuestion schema question query × (reported shape query ≡ Some asked)
+-- ---- the total of a question
 
 abbrev IsTotalOf : Declared → Query → Total × List Field → Type 0
 IsTotalOf schema query (total, rest) = (query.total ≡ total) × IsPredicate schema rest query.pred
@@ -101,56 +55,147 @@ same_total : (schema : Declared) (o : Option (Total × List Field)) (x y : Query
 same_total schema None x y one two = absurd one
 same_total schema (Some found) x y one two = one.0 ∙ sym two.0
 
-no_groups : (t : Total) (p q : Pred) (by : ℕ) → None ≡ of_groups t p by → None ≡ of_groups t q by
-no_groups total.Rows p q by none = refl
-no_groups total.Count p q by none = absurd (cc (none))
-no_groups (total.Sum c) p q by none = absurd (cc (none))
-no_groups (total.Least c) p q by none = absurd (cc (none))
-no_groups (total.Greatest c) p q by none = absurd (cc (none))
-no_groups (total.Median c) p q by none = absurd (cc (none))
-no_groups (total.Rank c k) p q by none = absurd (cc (none))
+-- fields that are two questions have one total
+one_total : (schema : Declared) (fields : List Field) (x y : Query) → IsQuestion schema fields x → IsQuestion schema fields y → x.total ≡ y.total
+one_total schema fields x y one two = same_total schema (asked_total schema fields) x y one two
 
-no_rank : (t : Total) (p q : Pred) (end : End) → None ≡ of_rank t p end → None ≡ of_rank t q end
-no_rank total.Rows p q end none = refl
-no_rank total.Count p q end none = refl
-no_rank (total.Sum c) p q end none = refl
-no_rank (total.Least c) p q end none = refl
-no_rank (total.Greatest c) p q end none = refl
-no_rank (total.Median c) p q end none = refl
-no_rank (total.Rank c k) p q end none = absurd (cc (none))
+module _ (schema : Declared) (fields : List Field) (query : Query) (is : IsQuestion schema fields query) where
+  pub rank_read : (o : Option (ℕ × ℕ × Pred)) → IsReadAs (λ x. query ≡ record { total = Rank x.0 x.1; pred = x.2 }) o
+      → IsReadAs (λ x. IsQuestion schema fields (record { total = Rank x.0 x.1; pred = x.2 })) o
+  rank_read (Some x) same = subst (λ (q : Query). IsQuestion schema fields q) same is
+  rank_read None none = λ x other.
+      none (x.0, x.1, query.pred)
+      (ap (λ (t : Total). (let q : Query = record { total = t; pred = query.pred } in q)) (one_total schema fields query (record { total = Rank x.0 x.1; pred = x.2 }) is other))
 
-no_median : (t : Total) (p q : Pred) → None ≡ of_median t p → None ≡ of_median t q
-no_median total.Rows p q none = refl
-no_median total.Count p q none = refl
-no_median (total.Sum c) p q none = refl
-no_median (total.Least c) p q none = refl
-no_median (total.Greatest c) p q none = refl
-no_median (total.Median c) p q none = absurd (cc (none))
-no_median (total.Rank c k) p q none = refl
+  pub median_read : (o : Option (ℕ × Pred)) → IsReadAs (λ x. query ≡ record { total = Median x.0; pred = x.1 }) o
+      → IsReadAs (λ x. IsQuestion schema fields (record { total = Median x.0; pred = x.1 })) o
+  median_read (Some x) same = subst (λ (q : Query). IsQuestion schema fields q) same is
+  median_read None none = λ x other.
+      none (x.0, query.pred)
+      (ap (λ (t : Total). (let q : Query = record { total = t; pred = query.pred } in q)) (one_total schema fields query (record { total = Median x.0; pred = x.1 }) is other))
 
--- whether a question is a report of this shape is told by its total
-no_other : (shape : Shape) (t : Total) (p q : Pred) → None ≡ reported shape (record { total = t; pred = p }) → None ≡ reported shape (record { total = t; pred = q })
-no_other (Groups by) t p q none = no_groups t p q by none
-no_other (Top end) t p q none = no_rank t p q end none
-no_other Distinct t p q none = no_median t p q none
+-- ---- the word of a report
+
+abbrev report_word : Report → Field
+report_word (Groups query by) = codes "by"
+report_word (Top end c most pred) = end_word end
+report_word (Distinct c pred) = codes "distinct"
 
 module _ (schema : Declared) (fields : List Field) where
-  pub no_shape : None ≡ shaped schema fields → (asked : Report) → IsReport schema fields asked → ⊥
-  no_shape none asked is = subst (λ (o : Option (Shape × List Field)). MatchOption o ⊥ (AsksAs schema asked)) (sym none) is
+  begins : (asked : Report) → IsReport schema fields asked → field_at fields 0 ≡ Some (report_word asked)
+  unfolding field_at
+  begins (Groups query by) is = ap (λ fs. field_at fs 0) is.2
+  begins (Top end c most pred) is = ap (λ fs. field_at fs 0) is.1
+  begins (Distinct c pred) is = ap (λ fs. field_at fs 0) is.1
 
-  module _ (shape : Shape) (question : List Field) (at : Some (shape, question) ≡ shaped schema fields) where
-    parts : (asked : Report) → IsReport schema fields asked → AsksAs schema asked (shape, question)
-    parts asked is = subst (λ (o : Option (Shape × List Field)). MatchOption o ⊥ (AsksAs schema asked)) (sym at) is
+  pub no_word : None ≡ field_at fields 0 → (asked : Report) → IsReport schema fields asked → ⊥
+  no_word none asked is = none-some (report_word asked) (none ∙ begins asked is)
 
-    pub no_question : ((query : Query) → IsQuestion schema question query → ⊥) → (asked : Report) → IsReport schema fields asked → ⊥
-    no_question none asked is = let made = parts asked is in none made.0 made.1
+  module _ (word : Field) (at : Some word ≡ field_at fields 0) where
+    its_word : (asked : Report) → IsReport schema fields asked → word ≡ report_word asked
+    its_word asked is = same_Some word (report_word asked) (at ∙ begins asked is)
 
-    pub read_as : (query : Query) → IsQuestion schema question query → (o : Option Report) → o ≡ reported shape query → IsReadAs (IsReport schema fields) o
-    read_as query asks (Some asked) is =
-        subst (λ (o : Option (Shape × List Field)). MatchOption o ⊥ (AsksAs schema asked)) at (query, asks, sym is)
-    read_as query asks None is = λ asked other.
-        let made = parts asked other in
-        let same : query.total ≡ made.0.total = same_total schema (asked_total schema question) query made.0 asks made.1 in
-        let none : None ≡ reported shape (record { total = made.0.total; pred = query.pred }) =
-        subst (λ (t : Total). None ≡ reported shape (record { total = t; pred = query.pred })) same is in
-        none_is_some asked (no_other shape made.0.total query.pred made.0.pred none ∙ made.2)
+    pub other_word : word ≢ codes "by" → word ≢ codes "top" → word ≢ codes "bottom" → word ≢ codes "distinct" → (asked : Report) → IsReport schema fields asked → ⊥
+    other_word not_by not_top not_bottom not_distinct (Groups query by) is = not_by (its_word (Groups query by) is)
+    other_word not_by not_top not_bottom not_distinct (Top Greatest c most pred) is = not_top (its_word (Top Greatest c most pred) is)
+    other_word not_by not_top not_bottom not_distinct (Top Least c most pred) is = not_bottom (its_word (Top Least c most pred) is)
+    other_word not_by not_top not_bottom not_distinct (Distinct c pred) is = not_distinct (its_word (Distinct c pred) is)
+
+-- another word
+pub not_word : (word text other : Field) → false ≡ bytes_eq word text → text ≡ other → word ≢ other
+not_word word text other apart same is = cc (apart, (bytes_eq-Decides word text).1 (is ∙ sym same))
+
+-- the fields behind the word
+behind : (fields : List Field) (word : Field) → Some word ≡ field_at fields 0 → fields ≡ word ∷ drop 1 fields
+unfolding field_at
+behind [] word at = absurd (none-some word (sym at))
+behind (f ∷ fields) word at = ap (λ w. w ∷ fields) (sym (same_Some word f at))
+
+not_by : (end : End) → codes "by" ≢ end_word end
+not_by Greatest is = cc (is)
+not_by Least is = cc (is)
+
+not_distinct : (end : End) → codes "distinct" ≢ end_word end
+not_distinct Greatest is = cc (is)
+not_distinct Least is = cc (is)
+
+-- ---- groups
+
+by_question : (schema : Declared) (fields : List Field) → Some (codes "by") ≡ field_at fields 0
+    → (query : Query) (by : ℕ) → Some by ≡ option_and_then (position_of schema.columns) (field_at fields 1)
+    → IsQuestion schema (drop 2 fields) query → query.total ≢ Rows → IsReport schema fields (Groups query by)
+unfolding field_at
+by_question schema [] word query by at is not_rows = absurd (none-some (codes "by") (sym word))
+by_question schema (f ∷ []) word query by at is not_rows = absurd (none-some by (sym at))
+by_question schema (f ∷ name ∷ question) word query by at is not_rows =
+    (name, question, ap (λ w. w ∷ name ∷ question) (sym (same_Some (codes "by") f word)), sym at, is, not_rows)
+
+module _ (schema : Declared) (fields : List Field) (word : Some (codes "by") ≡ field_at fields 0) where
+  only_groups : ((query : Query) (by : ℕ) → IsReport schema fields (Groups query by) → ⊥) → (asked : Report) → IsReport schema fields asked → ⊥
+  only_groups none (Groups query by) is = none query by is
+  only_groups none (Top end c most pred) is = not_by end (its_word schema fields (codes "by") word (Top end c most pred) is)
+  only_groups none (Distinct c pred) is = cc (its_word schema fields (codes "by") word (Distinct c pred) is)
+
+  its_column : (query : Query) (by : ℕ) → IsReport schema fields (Groups query by) → option_and_then (position_of schema.columns) (field_at fields 1) ≡ Some by
+  unfolding field_at
+  its_column query by is = ap (λ fs. option_and_then (position_of schema.columns) (field_at fs 1)) is.2 ∙ is.3
+
+  its_question : (query : Query) (by : ℕ) → IsReport schema fields (Groups query by) → IsQuestion schema (drop 2 fields) query
+  its_question query by is = subst (λ (question : List Field). IsQuestion schema question query) (sym (ap (drop 2) is.2)) is.4
+
+  pub no_column : None ≡ option_and_then (position_of schema.columns) (field_at fields 1) → (asked : Report) → IsReport schema fields asked → ⊥
+  no_column none = only_groups (λ query by is. none-some by (none ∙ its_column query by is))
+
+  -- the question that was read behind the column
+  module _ (asked : List Field) (is_asked : asked ≡ drop 2 fields) (o : Option Query) (is : IsReadAs (IsQuestion schema asked) o) where
+    questions : IsReadAs (IsQuestion schema (drop 2 fields)) o
+    questions = subst (λ (fs : List Field). IsReadAs (IsQuestion schema fs) o) is_asked is
+
+    pub no_question : o ≡ None → (asked : Report) → IsReport schema fields asked → ⊥
+    no_question at = only_groups (λ query by told. none_is _ o questions at query (its_question query by told))
+
+    module _ (query : Query) (at : o ≡ Some query) where
+      pub a_list : query.total ≡ Rows → (asked : Report) → IsReport schema fields asked → ⊥
+      a_list rows =
+          only_groups (λ other by told. told.5
+          (one_total schema (drop 2 fields) other query (its_question other by told) (is_so _ o questions query at) ∙ rows))
+
+      pub groups_read : (by : ℕ) → Some by ≡ option_and_then (position_of schema.columns) (field_at fields 1) → query.total ≢ Rows
+          → IsReport schema fields (Groups query by)
+      groups_read by there not_rows = by_question schema fields word query by there (is_so _ o questions query at) not_rows
+
+-- ---- first rows, and different numbers
+
+-- the question that was read behind the word, the fields of a rank
+module _ (schema : Declared) (fields : List Field) (end : End) (word : Some (end_word end) ≡ field_at fields 0)
+    (asked : List Field) (is_asked : asked ≡ codes "rank" ∷ drop 1 fields)
+    (o : Option (ℕ × ℕ × Pred)) (is : IsReadAs (λ x. IsQuestion schema asked (record { total = Rank x.0 x.1; pred = x.2 })) o) where
+  ranks : IsReadAs (λ x. IsQuestion schema (codes "rank" ∷ drop 1 fields) (record { total = Rank x.0 x.1; pred = x.2 })) o
+  ranks = subst (λ (fs : List Field). IsReadAs (λ x. IsQuestion schema fs (record { total = Rank x.0 x.1; pred = x.2 })) o) is_asked is
+
+  pub top_read : (c most : ℕ) (pred : Pred) → o ≡ Some (c, most, pred) → IsReport schema fields (Top end c most pred)
+  top_read c most pred at = (drop 1 fields, behind fields (end_word end) word, is_so _ o ranks (c, most, pred) at)
+
+  pub no_top : o ≡ None → (asked : Report) → IsReport schema fields asked → ⊥
+  no_top none (Groups query by) is = not_by end (sym (its_word schema fields (end_word end) word (Groups query by) is))
+  no_top none (Top other c most pred) is =
+      none_is _ o ranks none (c, most, pred)
+      (subst (λ (rest : List Field). IsQuestion schema (codes "rank" ∷ rest) (record { total = Rank c most; pred = pred })) (sym (ap (drop 1) is.1)) is.2)
+  no_top none (Distinct c pred) is = not_distinct end (sym (its_word schema fields (end_word end) word (Distinct c pred) is))
+
+-- those of a median
+module _ (schema : Declared) (fields : List Field) (word : Some (codes "distinct") ≡ field_at fields 0)
+    (asked : List Field) (is_asked : asked ≡ codes "median" ∷ drop 1 fields)
+    (o : Option (ℕ × Pred)) (is : IsReadAs (λ x. IsQuestion schema asked (record { total = Median x.0; pred = x.1 })) o) where
+  medians : IsReadAs (λ x. IsQuestion schema (codes "median" ∷ drop 1 fields) (record { total = Median x.0; pred = x.1 })) o
+  medians = subst (λ (fs : List Field). IsReadAs (λ x. IsQuestion schema fs (record { total = Median x.0; pred = x.1 })) o) is_asked is
+
+  pub distinct_read : (c : ℕ) (pred : Pred) → o ≡ Some (c, pred) → IsReport schema fields (Distinct c pred)
+  distinct_read c pred at = (drop 1 fields, behind fields (codes "distinct") word, is_so _ o medians (c, pred) at)
+
+  pub none_distinct : o ≡ None → (asked : Report) → IsReport schema fields asked → ⊥
+  none_distinct none (Groups query by) is = cc (its_word schema fields (codes "distinct") word (Groups query by) is)
+  none_distinct none (Top end c most pred) is = not_distinct end (its_word schema fields (codes "distinct") word (Top end c most pred) is)
+  none_distinct none (Distinct c pred) is =
+      none_is _ o medians none (c, pred)
+      (subst (λ (rest : List Field). IsQuestion schema (codes "median" ∷ rest) (record { total = Median c; pred = pred })) (sym (ap (drop 1) is.1)) is.2)

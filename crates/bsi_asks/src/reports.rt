@@ -1,10 +1,12 @@
 //! The records that ask for a report: the total of each group, the rows with the greatest or the least numbers, or how many
 //! different numbers there are.
 
-ghost use Rattle.std.specs.Prelude.{◌≡◌, [], drop, option_map, IfOk, OnOk};
-ghost use Rattle.csv.specs.Records.{fields_of, partial_of};
+ghost use Rattle.std.specs.Prelude.{◌≡◌, ◌∷◌, ◌++◌, [], codes, drop, option_and_then, Some, IfOk, OnOk};
+ghost use Rattle.csv.specs.Records.{field_at, fields_of, partial_of};
+ghost use Rattle.bsi_records.specs.Questions.{IsQuestion};
 ghost use Rattle.bsi_records.specs.Reading.{IsReadAs};
-ghost use Rattle.bsi_asks.specs.Reports.{asked_fields, asked_word, grouped, reported, shaped, IsReport};
+ghost use Rattle.bsi_schema.specs.Columns.{position_of};
+ghost use Rattle.bsi_asks.specs.Reports.{end_word, IsReport};
 
 use crate::NoMemory;
 use bsi_groups::End;
@@ -24,17 +26,6 @@ pub enum Report {
     Distinct(u32, Pred),
 }
 
-/// What a report makes of the question that stands in its record.
-#[derive(Clone, Copy, Debug, PartialEq, Eq)]
-enum Shape {
-    /// Its total over the rows of each entry of a column.
-    Groups(u32),
-    /// In place of the number of a rank, that many rows from an end.
-    Top(End),
-    /// In place of a median, how many different numbers there are.
-    Distinct,
-}
-
 /// Reads a record as a report: `by`, a column, and a question that is no list; `top` or `bottom` and the fields of a rank
 /// behind its word; or `distinct` and those of a median. `None` stands for a record that is none of these.
 pub fn read_report(
@@ -44,88 +35,158 @@ pub fn read_report(
 ) -> Result<Option<Report>, NoMemory>
     ensures { IfOk result (IsReadAs (IsReport schema.now (fields_of fields.now))) }
 {
-    let Some((shape, from)) = read_shape(schema, fields) else {
+    let Some(word) = fields.get(0) else {
         return Ok(None);
     };
-    let asked = question_record(alloc, shape, fields, from)?;
+    if word == b"by".as_slice() {
+        return read_groups(alloc, schema, fields);
+    }
+    if word == b"top".as_slice() {
+        return read_top(alloc, schema, End::Greatest, fields);
+    }
+    if word == b"bottom".as_slice() {
+        return read_top(alloc, schema, End::Least, fields);
+    }
+    if word == b"distinct".as_slice() {
+        return read_distinct(alloc, schema, fields);
+    }
+    Ok(None)
+}
+
+/// Reads a record that begins with `by`.
+fn read_groups(
+    alloc: Global,
+    schema: &Schema,
+    fields: &ByteRecord,
+) -> Result<Option<Report>, NoMemory>
+    requires { Some (codes "by") ≡ field_at (fields_of fields.now) 0 }
+    ensures { IfOk result (IsReadAs (IsReport schema.now (fields_of fields.now))) }
+{
+    let Some(by) = read_column(schema, fields) else {
+        return Ok(None);
+    };
+    let mut asked = ByteRecord::new(alloc);
+    push_fields(fields, 2, &mut asked)?;
     let Some(query) = read_question(alloc, schema, &asked)? else {
         return Ok(None);
     };
-    Ok(report_of(shape, query))
+    if matches!(query.total, Total::Rows) {
+        return Ok(None);
+    }
+    Ok(Some(Report::Groups(query, by)))
 }
 
-/// Reads the shape of a report, and returns it with the place behind its words.
-fn read_shape(schema: &Schema, fields: &ByteRecord) -> Option<(Shape, usize)>
-    ensures { option_map (λ (shape, from). (shape, asked_fields shape (drop from (fields_of fields.now))))
-        result ≡ shaped schema.now (fields_of fields.now) }
-{
-    let word = fields.get(0)?;
-    if word == b"by".as_slice() {
-        return read_groups(schema, fields);
-    }
-    if word == b"top".as_slice() {
-        return Some((Shape::Top(End::Greatest), 1));
-    }
-    if word == b"bottom".as_slice() {
-        return Some((Shape::Top(End::Least), 1));
-    }
-    if word == b"distinct".as_slice() {
-        return Some((Shape::Distinct, 1));
-    }
-    None
-}
-
-/// Reads the column of groups, and returns it with the place behind it.
-fn read_groups(schema: &Schema, fields: &ByteRecord) -> Option<(Shape, usize)>
-    ensures { option_map (λ (shape, from). (shape, asked_fields shape (drop from (fields_of fields.now))))
-        result ≡ grouped schema.now (drop 1 (fields_of fields.now)) }
-{
-    let name = fields.get(1)?;
-    let by = schema.find(name)?;
-    Some((Shape::Groups(by), 2))
-}
-
-/// Makes the record of the question that stands in a report.
-fn question_record(
+/// Reads a record that begins with the word of the rows at this end.
+fn read_top(
     alloc: Global,
-    shape: Shape,
+    schema: &Schema,
+    end: End,
     fields: &ByteRecord,
-    from: usize,
-) -> Result<ByteRecord, NoMemory>
-    ensures { IfOk result (λ asked. fields_of asked
-        ≡ asked_fields shape (drop from (fields_of fields.now))) }
+) -> Result<Option<Report>, NoMemory>
+    requires { Some (end_word end) ≡ field_at (fields_of fields.now) 0 }
+    ensures { IfOk result (IsReadAs (IsReport schema.now (fields_of fields.now))) }
+{
+    let mut asked = begin_record(alloc, b"rank")?;
+    push_fields(fields, 1, &mut asked)?;
+    let Some((c, most, pred)) = read_rank(alloc, schema, &asked)? else {
+        return Ok(None);
+    };
+    Ok(Some(Report::Top(end, c, most, pred)))
+}
+
+/// Reads a record that begins with `distinct`.
+fn read_distinct(
+    alloc: Global,
+    schema: &Schema,
+    fields: &ByteRecord,
+) -> Result<Option<Report>, NoMemory>
+    requires { Some (codes "distinct") ≡ field_at (fields_of fields.now) 0 }
+    ensures { IfOk result (IsReadAs (IsReport schema.now (fields_of fields.now))) }
+{
+    let mut asked = begin_record(alloc, b"median")?;
+    push_fields(fields, 1, &mut asked)?;
+    let Some((c, pred)) = read_median(alloc, schema, &asked)? else {
+        return Ok(None);
+    };
+    Ok(Some(Report::Distinct(c, pred)))
+}
+
+/// Makes a record of one word.
+fn begin_record(alloc: Global, word: &[u8]) -> Result<ByteRecord, NoMemory>
+    ensures fields { IfOk result (λ asked. fields_of asked ≡ word.now ∷ []) }
+    ensures whole { IfOk result (λ asked. partial_of asked ≡ []) }
 {
     let mut asked = ByteRecord::new(alloc);
-    push_word(shape, &mut asked)?;
-    'fields: for place in from..fields.len() {
-        asked.push_field(field(fields, place))?;
-    }
+    asked.push_field(word)?;
     Ok(asked)
 }
 
-/// Puts the word of the question into an empty record, where it does not stand in the report.
-fn push_word(shape: Shape, asked: &mut ByteRecord) -> Result<(), NoMemory>
-    requires empty { fields_of asked.old ≡ [] }
-    requires whole { partial_of asked.old ≡ [] }
-    ensures word { OnOk result (fields_of asked.new ≡ asked_word shape) }
-    ensures whole { OnOk result (partial_of asked.new ≡ []) }
+/// Appends the fields from a place on to a record.
+fn push_fields(fields: &ByteRecord, from: usize, asked: &mut ByteRecord) -> Result<(), NoMemory>
+    requires { partial_of asked.old ≡ [] }
+    ensures { OnOk result (fields_of asked.new
+        ≡ fields_of asked.old ++ drop from (fields_of fields.now)) }
 {
-    match shape {
-        Shape::Groups(_) => Ok(()),
-        Shape::Top(_) => asked.push_field(b"rank"),
-        Shape::Distinct => asked.push_field(b"median"),
+    'fields: for place in from..fields.len() {
+        asked.push_field(field(fields, place))?;
+    }
+    Ok(())
+}
+
+/// Reads the column whose name stands behind the word of a record.
+fn read_column(schema: &Schema, fields: &ByteRecord) -> Option<u32>
+    ensures { result ≡ option_and_then (position_of schema.now.columns)
+        (field_at (fields_of fields.now) 1) }
+{
+    schema.find(fields.get(1)?)
+}
+
+/// Reads a question for a rank: its column, its number, and its predicate.
+fn read_rank(
+    alloc: Global,
+    schema: &Schema,
+    asked: &ByteRecord,
+) -> Result<Option<(u32, u64, Pred)>, NoMemory>
+    ensures { IfOk result (IsReadAs (λ (c, rank, pred).
+        IsQuestion schema.now (fields_of asked.now) (record { total = Total.Rank c rank; pred = pred }))) }
+{
+    match read_question(alloc, schema, asked)? {
+        Some(query) => Ok(rank_of(query)),
+        None => Ok(None),
     }
 }
 
-/// Returns the report that a question of this shape is, or none where it is none.
-fn report_of(shape: Shape, query: Query) -> Option<Report>
-    ensures { result ≡ reported shape query }
+/// Reads a question for a median: its column, and its predicate.
+fn read_median(
+    alloc: Global,
+    schema: &Schema,
+    asked: &ByteRecord,
+) -> Result<Option<(u32, Pred)>, NoMemory>
+    ensures { IfOk result (IsReadAs (λ (c, pred).
+        IsQuestion schema.now (fields_of asked.now) (record { total = Total.Median c; pred = pred }))) }
 {
-    match (shape, query.total) {
-        (Shape::Groups(_), Total::Rows) => None,
-        (Shape::Groups(by), _) => Some(Report::Groups(query, by)),
-        (Shape::Top(end), Total::Rank(c, most)) => Some(Report::Top(end, c, most, query.pred)),
-        (Shape::Distinct, Total::Median(c)) => Some(Report::Distinct(c, query.pred)),
+    match read_question(alloc, schema, asked)? {
+        Some(query) => Ok(median_of(query)),
+        None => Ok(None),
+    }
+}
+
+/// Returns what a query for a rank asks for, or none where it asks for another total.
+fn rank_of(query: Query) -> Option<(u32, u64, Pred)>
+    ensures { IsReadAs (λ (c, rank, pred). query ≡ record { total = Total.Rank c rank; pred = pred }) result }
+{
+    match query.total {
+        Total::Rank(c, rank) => Some((c, rank, query.pred)),
+        _ => None,
+    }
+}
+
+/// Returns what a query for a median asks for, or none where it asks for another total.
+fn median_of(query: Query) -> Option<(u32, Pred)>
+    ensures { IsReadAs (λ (c, pred). query ≡ record { total = Total.Median c; pred = pred }) result }
+{
+    match query.total {
+        Total::Median(c) => Some((c, query.pred)),
         _ => None,
     }
 }
