@@ -43,6 +43,17 @@ def rank(machine, name, rank, *fields):
     return b"".join(b"value %d" % number for number in numbers[int(rank) :][:1]) or b"none"
 
 
+def quantile(machine, name, part, whole, *fields):
+    """Returns the line of the number at the end of a share."""
+    share = [script_model.read_number(text) for text in (part, whole)]
+    asked = numbers_at(machine, name, fields) if None not in share and 0 < share[1] >= share[0] else None
+    if asked is None:
+        return files_model.BAD
+    place, rows = asked
+    numbers = sorted(row[place] for _, row in rows if row[place] is not None)
+    return b"value %d" % numbers[(len(numbers) - 1) * share[0] // share[1]] if numbers else b"none"
+
+
 def distinct(machine, name, *fields):
     """Returns the line that tells how many different numbers there are."""
     asked = numbers_at(machine, name, fields)
@@ -85,7 +96,7 @@ def groups(machine, name, *query):
     return b"".join([b"groups", *told])
 
 
-REPORTS = {b"rank": rank, b"distinct": distinct, b"top": first_rows(1), b"bottom": first_rows(-1), b"by": groups}
+REPORTS = {b"rank": rank, b"quantile": quantile, b"distinct": distinct, b"top": first_rows(1), b"bottom": first_rows(-1), b"by": groups}
 # Where the predicate begins in a query, if not behind a column.
 PREDICATE_AT = {b"count": 1, b"rank": 3}
 
@@ -152,12 +163,15 @@ class Table:
         """Returns random questions, and a line that is none."""
         heads = [[word] for word in ("count", "list")] + [[word, self.chance.choice(self.names)] for word in TOTALS]
         heads += [["rank", self.chance.choice(self.names), rank] for rank in ("0", str(self.chance.randrange(200)), "-1", str(2**64 - 1))]
+        shares = [["1", "2"], ["0", "1"], [str(2**64 - 1)] * 2, sorted(self.chance.choices(range(1, 10), k=2)), ["2", "1"], ["0", "0"], ["-1", "2"]]
+        heads += [["quantile", self.chance.choice(self.names), *map(str, share)] for share in shares]
         heads += [["distinct", self.chance.choice(self.names)]] + [["by", self.chance.choice(self.names), *head] for head in heads[:8]]
         if self.feeders == 1:  # of several, which of two rows was loaded first is not told
             heads += [[word, self.chance.choice(self.names), most] for word in ("top", "bottom") for most in ("0", str(self.chance.randrange(1, 20)), "-1")]
         lines = [",".join([*head, *self.predicate()]) for head in 2 * heads]
-        short = [f"{words}{self.names[0]}{end}" for words in ("rank,", "top,", "distinct,", "by,") for end in ("", ",0")]
-        return "\n".join([*lines, "wrong", *short, f"by,{self.names[0]},distinct,{self.names[0]},all", ""]).encode()
+        short = [f"{words}{self.names[0]}{end}" for words in ("rank,", "quantile,", "top,", "distinct,", "by,") for end in ("", ",0", ",0,1")]
+        nested = [f"by,{self.names[0]},{words},{self.names[0]}{end},all" for words, end in (("distinct", ""), ("quantile", ",1,2"))]
+        return "\n".join([*lines, "wrong", *short, *nested, f"quantile,{self.names[0]},1,2,{self.names[0]},null", ""]).encode()
 
     def answers(self, asks):
         """Returns the lines that answer questions over the rows of all segments."""

@@ -1,14 +1,15 @@
 -- Which records ask for a report.
-use Rattle.std.proofs.Common.{◌≡◌, ◌≢◌, ℕ, ◌+◌, ◌-◌, ◌<◌, ◌≤◌, true, false, List, [], ◌∷◌, ◌++◌, drop, get_or, length, take, arith, Option, Some, None, option_and_then, refl, ap, sym, subst, ◌∙◌, codes}
+use Rattle.std.proofs.Common.{◌≡◌, ◌≢◌, ℕ, ◌+◌, ◌-◌, ◌<◌, ◌≤◌, false, List, [], ◌∷◌, ◌++◌, drop, get_or, length, take, arith, Option, Some, None, option_and_then, refl, ap, sym, subst, ◌∙◌, codes}
 use Rattle.std.proofs.lemmas.List.{append_assoc, get_or-drop, length-drop, take_more}
 use Rattle.std.proofs.lemmas.Option.{none-some, same_Some}
 use Rattle.std.proofs.lemmas.Slice.Eq.{bytes_eq-Decides}
 use Rattle.std.specs.Prelude.{MatchOption}
 use Rattle.std.specs.Str.{bytes_eq}
 use Rattle.csv.specs.Records.{field_at}
+use Rattle.bsi_groups.specs.Quantiles.{share_of, Share}
 use Rattle.bsi_groups.specs.declared.tops.End.{End}
 use Rattle.bsi_groups.specs.declared.tops.End.TheVariants.{Greatest, Least}
-use Rattle.bsi_records.specs.Numbers.{Field}
+use Rattle.bsi_records.specs.Numbers.{spelled_number, Field}
 use Rattle.bsi_records.specs.Predicates.{IsPredicate}
 use Rattle.bsi_records.specs.Questions.{asked_total, IsQuestion}
 use Rattle.bsi_records.specs.Reading.{IsReadAs}
@@ -17,9 +18,9 @@ use Rattle.bsi_rows.specs.declared.query.Query.{Query}
 use Rattle.bsi_rows.specs.declared.query.Total.{Total}
 use Rattle.bsi_rows.specs.declared.query.Total.TheVariants.{Median, Rank, Rows}
 use Rattle.bsi_schema.specs.Columns.{Declared, position_of}
-use Rattle.bsi_asks.specs.Reports.{end_word, IsReport}
+use Rattle.bsi_asks.specs.Reports.{end_word, spelled_share, IsReport}
 use Rattle.bsi_asks.specs.declared.reports.Report.{Report}
-use Rattle.bsi_asks.specs.declared.reports.Report.TheVariants.{Groups, Top, Distinct}
+use Rattle.bsi_asks.specs.declared.reports.Report.TheVariants.{Groups, Top, Distinct, Quantile}
 
 -- what was read is so, and nothing is where nothing was read
 module _ {T : Type 0} (Is : T → Type 0) (o : Option T) (is : IsReadAs Is o) where
@@ -80,6 +81,7 @@ abbrev report_word : Report → Field
 report_word (Groups query by) = codes "by"
 report_word (Top end c most pred) = end_word end
 report_word (Distinct c pred) = codes "distinct"
+report_word (Quantile share c pred) = codes "quantile"
 
 module _ (schema : Declared) (fields : List Field) where
   begins : (asked : Report) → IsReport schema fields asked → field_at fields 0 ≡ Some (report_word asked)
@@ -87,6 +89,7 @@ module _ (schema : Declared) (fields : List Field) where
   begins (Groups query by) is = ap (λ fs. field_at fs 0) is.2
   begins (Top end c most pred) is = ap (λ fs. field_at fs 0) is.1
   begins (Distinct c pred) is = ap (λ fs. field_at fs 0) is.1
+  begins (Quantile share c pred) is = ap (λ fs. field_at fs 0) is.4
 
   pub no_word : None ≡ field_at fields 0 → (asked : Report) → IsReport schema fields asked → ⊥
   no_word none asked is = none-some (report_word asked) (none ∙ begins asked is)
@@ -95,11 +98,12 @@ module _ (schema : Declared) (fields : List Field) where
     its_word : (asked : Report) → IsReport schema fields asked → word ≡ report_word asked
     its_word asked is = same_Some word (report_word asked) (at ∙ begins asked is)
 
-    pub other_word : word ≢ codes "by" → word ≢ codes "top" → word ≢ codes "bottom" → word ≢ codes "distinct" → (asked : Report) → IsReport schema fields asked → ⊥
-    other_word not_by not_top not_bottom not_distinct (Groups query by) is = not_by (its_word (Groups query by) is)
-    other_word not_by not_top not_bottom not_distinct (Top Greatest c most pred) is = not_top (its_word (Top Greatest c most pred) is)
-    other_word not_by not_top not_bottom not_distinct (Top Least c most pred) is = not_bottom (its_word (Top Least c most pred) is)
-    other_word not_by not_top not_bottom not_distinct (Distinct c pred) is = not_distinct (its_word (Distinct c pred) is)
+    pub other_word : word ≢ codes "by" → word ≢ codes "top" → word ≢ codes "bottom" → word ≢ codes "distinct" → word ≢ codes "quantile" → (asked : Report) → IsReport schema fields asked → ⊥
+    other_word not_by not_top not_bottom not_distinct not_quantile (Groups query by) is = not_by (its_word (Groups query by) is)
+    other_word not_by not_top not_bottom not_distinct not_quantile (Top Greatest c most pred) is = not_top (its_word (Top Greatest c most pred) is)
+    other_word not_by not_top not_bottom not_distinct not_quantile (Top Least c most pred) is = not_bottom (its_word (Top Least c most pred) is)
+    other_word not_by not_top not_bottom not_distinct not_quantile (Distinct c pred) is = not_distinct (its_word (Distinct c pred) is)
+    other_word not_by not_top not_bottom not_distinct not_quantile (Quantile share c pred) is = not_quantile (its_word (Quantile share c pred) is)
 
 -- another word
 pub not_word : (word text other : Field) → false ≡ bytes_eq word text → text ≡ other → word ≢ other
@@ -119,6 +123,13 @@ not_distinct : (end : End) → codes "distinct" ≢ end_word end
 not_distinct Greatest is = cc (is)
 not_distinct Least is = cc (is)
 
+apart : codes "distinct" ≢ codes "quantile"
+apart = not_word (codes "distinct") (codes "quantile") (codes "quantile") refl refl
+
+not_quantile : (end : End) → codes "quantile" ≢ end_word end
+not_quantile Greatest is = cc (is)
+not_quantile Least is = cc (is)
+
 -- ---- groups
 
 by_question : (schema : Declared) (fields : List Field) → Some (codes "by") ≡ field_at fields 0
@@ -135,6 +146,7 @@ module _ (schema : Declared) (fields : List Field) (word : Some (codes "by") ≡
   only_groups none (Groups query by) is = none query by is
   only_groups none (Top end c most pred) is = not_by end (its_word schema fields (codes "by") word (Top end c most pred) is)
   only_groups none (Distinct c pred) is = cc (its_word schema fields (codes "by") word (Distinct c pred) is)
+  only_groups none (Quantile share c pred) is = cc (its_word schema fields (codes "by") word (Quantile share c pred) is)
 
   its_column : (query : Query) (by : ℕ) → IsReport schema fields (Groups query by) → option_and_then (position_of schema.columns) (field_at fields 1) ≡ Some by
   unfolding field_at
@@ -182,6 +194,7 @@ module _ (schema : Declared) (fields : List Field) (end : End) (word : Some (end
       none_is _ o ranks none (c, most, pred)
       (subst (λ (rest : List Field). IsQuestion schema (codes "rank" ∷ rest) (record { total = Rank c most; pred = pred })) (sym (ap (drop 1) is.1)) is.2)
   no_top none (Distinct c pred) is = not_distinct end (sym (its_word schema fields (end_word end) word (Distinct c pred) is))
+  no_top none (Quantile share c pred) is = not_quantile end (sym (its_word schema fields (end_word end) word (Quantile share c pred) is))
 
 -- those of a median
 module _ (schema : Declared) (fields : List Field) (word : Some (codes "distinct") ≡ field_at fields 0)
@@ -199,3 +212,58 @@ module _ (schema : Declared) (fields : List Field) (word : Some (codes "distinct
   none_distinct none (Distinct c pred) is =
       none_is _ o medians none (c, pred)
       (subst (λ (rest : List Field). IsQuestion schema (codes "median" ∷ rest) (record { total = Median c; pred = pred })) (sym (ap (drop 1) is.1)) is.2)
+  none_distinct none (Quantile share c pred) is = apart (its_word schema fields (codes "distinct") word (Quantile share c pred) is)
+
+-- ---- quantiles
+
+no_whole : (o : Option ℕ) → option_and_then (λ p. option_and_then (λ w. share_of p w) (spelled_number [])) o ≡ None
+no_whole None = refl
+no_whole (Some p) = refl
+
+-- the fields of a share, and those before and behind them
+share_fields : (fields : List Field) → Some (codes "quantile") ≡ field_at fields 0
+    → (share : Share) → Some share ≡ spelled_share (get_or fields 2 []) (get_or fields 3 [])
+    → fields ≡ codes "quantile" ∷ get_or fields 1 [] ∷ get_or fields 2 [] ∷ get_or fields 3 [] ∷ drop 4 fields
+unfolding field_at
+share_fields [] word share is = absurd (none-some (codes "quantile") (sym word))
+share_fields (f ∷ []) word share is = absurd (none-some share (sym is))
+share_fields (f ∷ name ∷ []) word share is = absurd (none-some share (sym is))
+share_fields (f ∷ name ∷ part ∷ []) word share is = absurd (none-some share (sym (no_whole (spelled_number part)) ∙ sym is))
+share_fields (f ∷ name ∷ part ∷ whole ∷ rest) word share is = ap (λ w. w ∷ name ∷ part ∷ whole ∷ rest) (sym (same_Some (codes "quantile") f word))
+
+module _ (schema : Declared) (fields : List Field) (word : Some (codes "quantile") ≡ field_at fields 0) where
+  only_quantiles : ((share : Share) (c : ℕ) (pred : Pred) → IsReport schema fields (Quantile share c pred) → ⊥)
+      → (asked : Report) → IsReport schema fields asked → ⊥
+  only_quantiles none (Groups query by) is = cc (its_word schema fields (codes "quantile") word (Groups query by) is)
+  only_quantiles none (Top end c most pred) is = not_quantile end (its_word schema fields (codes "quantile") word (Top end c most pred) is)
+  only_quantiles none (Distinct c pred) is = apart (sym (its_word schema fields (codes "quantile") word (Distinct c pred) is))
+  only_quantiles none (Quantile share c pred) is = none share c pred is
+
+  pub no_share : None ≡ spelled_share (get_or fields 2 []) (get_or fields 3 []) → (asked : Report) → IsReport schema fields asked → ⊥
+  no_share none =
+      only_quantiles (λ share c pred is. none-some share (none ∙ ap (λ fs. spelled_share (get_or fs 2 []) (get_or fs 3 [])) is.4 ∙ is.5))
+
+  -- the question that was read, of a median
+  module _ (asked : List Field) (is_asked : asked ≡ codes "median" ∷ get_or fields 1 [] ∷ drop 4 fields)
+      (o : Option (ℕ × Pred)) (is : IsReadAs (λ x. IsQuestion schema asked (record { total = Median x.0; pred = x.1 })) o) where
+    shares : IsReadAs (λ x. IsQuestion schema (codes "median" ∷ get_or fields 1 [] ∷ drop 4 fields) (record { total = Median x.0; pred = x.1 })) o
+    shares = subst (λ (fs : List Field). IsReadAs (λ x. IsQuestion schema fs (record { total = Median x.0; pred = x.1 })) o) is_asked is
+
+    pub quantile_read : (share : Share) → Some share ≡ spelled_share (get_or fields 2 []) (get_or fields 3 [])
+        → (c : ℕ) (pred : Pred) → o ≡ Some (c, pred) → IsReport schema fields (Quantile share c pred)
+    quantile_read share spelled c pred at = (
+      get_or fields 1 [],
+      get_or fields 2 [],
+      get_or fields 3 [],
+      drop 4 fields,
+      share_fields fields word share spelled,
+      sym spelled,
+      is_so _ o shares (c, pred) at,
+    )
+
+    pub no_quantile : o ≡ None → (asked : Report) → IsReport schema fields asked → ⊥
+    no_quantile none =
+        only_quantiles (λ share c pred told.
+        none_is _ o shares none (c, pred)
+        (subst (λ (fs : List Field). IsQuestion schema fs (record { total = Median c; pred = pred }))
+        (sym (ap (λ fs. codes "median" ∷ get_or fs 1 [] ∷ drop 4 fs) told.4)) told.6))

@@ -5,6 +5,7 @@ use Rattle.std.specs.List.{flat_map}
 use Rattle.std.specs.Ordering.{int_eq}
 use Rattle.std.specs.Set.{distinct_count}
 use Rattle.bsi_groups.specs.Groups.{missing_grouped, selected_by, AreGroups, IsGroupRefusal}
+use Rattle.bsi_groups.specs.Quantiles.{IsQuantileOf}
 use Rattle.bsi_groups.specs.Replies.{selected_numbers, IsReplyOn}
 use Rattle.bsi_groups.specs.Tops.{AreTop}
 use Rattle.bsi_groups.specs.declared.grouping.Group.{Group}
@@ -20,7 +21,7 @@ use Rattle.bsi_rows.specs.declared.query.Answer.TheVariants.{Count, Sum, Value, 
 use Rattle.bsi_rows.specs.declared.query.Query.{Query}
 use Rattle.bsi_schema.specs.Columns.{Declared}
 use Rattle.bsi_asks.specs.declared.reports.Report.{Report}
-use Rattle.bsi_asks.specs.declared.reports.Report.TheVariants.{Groups, Top, Distinct}
+use Rattle.bsi_asks.specs.declared.reports.Report.TheVariants.{Groups, Top, Distinct, Quantile}
 
 -- the most groups that are listed
 abbrev pub max_groups : ℕ
@@ -67,6 +68,10 @@ abbrev pub count_line : Result ℕ AskError → List ℕ
 count_line (Ok count) = ask_line (Ok (Count count))
 count_line (Err refused) = ask_line (Err refused)
 
+abbrev pub value_line : Result (Option ℤ) AskError → List ℕ
+value_line (Ok number) = ask_line (Ok (Value number))
+value_line (Err refused) = ask_line (Err refused)
+
 -- the reply to a query for groups: at most so many, or why there are none
 abbrev pub IsGrouped : Declared → List FedRow → Query → ℕ → Result (List Group) GroupError → Type 0
 IsGrouped schema rows query by (Ok groups) =
@@ -86,3 +91,7 @@ IsReportLine schema rows (Distinct c pred) line =
     (reply : Result ℕ AskError)
     × IsReplyOn schema c pred (λ count. count ≡ distinct_count int_eq (selected_numbers c pred rows)) reply
     × (line ≡ count_line reply)
+IsReportLine schema rows (Quantile share c pred) line =
+    (reply : Result (Option ℤ) AskError)
+    × IsReplyOn schema c pred (IsQuantileOf share (selected_numbers c pred rows)) reply
+    × (line ≡ value_line reply)

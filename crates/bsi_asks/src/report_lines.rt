@@ -3,11 +3,11 @@
 ghost use Rattle.std.specs.Prelude.{◌≡◌, ◌<◌, ◌++◌, OnOk, Ok, Err, count_by, length, nat_eq};
 ghost use Rattle.std.specs.List.{flat_map};
 ghost use Rattle.bsi_records.specs.Lines.{ask_line};
-ghost use Rattle.bsi_asks.specs.ReportLines.{entry_text, group_text, groups_line, row_text, top_line, value_text, AreWithin, IsReportLine};
+ghost use Rattle.bsi_asks.specs.ReportLines.{count_line, entry_text, group_text, groups_line, row_text, top_line, value_line, value_text, AreWithin, IsReportLine};
 
 use crate::NoMemory;
 use crate::reports::Report;
-use bsi_groups::{Group, GroupError, TopRow, distinct, group_by, top};
+use bsi_groups::{Group, GroupError, TopRow, distinct, group_by, quantile, top};
 use bsi_records::{write_bad, write_reply};
 use bsi_rows::{AskError, Reply};
 use bsi_table::{Answer, Index};
@@ -37,13 +37,8 @@ pub(crate) fn tell_report(
             Ok(rows) => write_top(&rows, table.row_feeders(), line),
             Err(refused) => write_refused(refused, line),
         },
-        Report::Distinct(c, pred) => {
-            let counted = distinct(alloc, table, *c, pred);
-            write_reply(
-                &Reply::Answered(counted.map(|count| Answer::Count(count))),
-                line,
-            )
-        }
+        Report::Distinct(c, pred) => write_count(distinct(alloc, table, *c, pred), line),
+        Report::Quantile(share, c, pred) => write_found(quantile(table, *c, *share, pred), line),
     }
 }
 
@@ -52,6 +47,26 @@ fn write_refused(refused: AskError, line: &mut Vec<u8>) -> Result<(), NoMemory>
     ensures { OnOk result (line.new.items ≡ line.old.items ++ ask_line (Err refused)) }
 {
     write_reply(&Reply::Answered(Err(refused)), line)
+}
+
+/// Appends the line of a count.
+fn write_count(counted: Result<u64, AskError>, line: &mut Vec<u8>) -> Result<(), NoMemory>
+    ensures { OnOk result (line.new.items ≡ line.old.items ++ count_line counted) }
+{
+    write_reply(
+        &Reply::Answered(counted.map(|count| Answer::Count(count))),
+        line,
+    )
+}
+
+/// Appends the line of a number that was asked for, or that there is none.
+fn write_found(found: Result<Option<i64>, AskError>, line: &mut Vec<u8>) -> Result<(), NoMemory>
+    ensures { OnOk result (line.new.items ≡ line.old.items ++ value_line found) }
+{
+    write_reply(
+        &Reply::Answered(found.map(|number| Answer::Value(number))),
+        line,
+    )
 }
 
 /// Appends the line of groups.

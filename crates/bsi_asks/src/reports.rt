@@ -1,16 +1,16 @@
-//! The records that ask for a report: the total of each group, the rows with the greatest or the least numbers, or how many
-//! different numbers there are.
+//! The records that ask for a report: the total of each group, the rows with the greatest or the least numbers, how many
+//! different numbers there are, or the number at the end of a share of them.
 
-ghost use Rattle.std.specs.Prelude.{◌≡◌, ◌∷◌, ◌++◌, [], codes, drop, option_and_then, Some, IfOk, OnOk};
+ghost use Rattle.std.specs.Prelude.{◌≡◌, ◌∷◌, ◌++◌, [], codes, drop, get_or, option_and_then, Some, IfOk, OnOk};
 ghost use Rattle.csv.specs.Records.{field_at, fields_of, partial_of};
 ghost use Rattle.bsi_records.specs.Questions.{IsQuestion};
 ghost use Rattle.bsi_records.specs.Reading.{IsReadAs};
 ghost use Rattle.bsi_schema.specs.Columns.{position_of};
-ghost use Rattle.bsi_asks.specs.Reports.{end_word, IsReport};
+ghost use Rattle.bsi_asks.specs.Reports.{end_word, spelled_share, IsReport};
 
 use crate::NoMemory;
-use bsi_groups::End;
-use bsi_records::{field, read_question};
+use bsi_groups::{End, Share};
+use bsi_records::{field, read_number, read_question};
 use bsi_rows::{Pred, Query, Schema, Total};
 use csv::ByteRecord;
 use std::alloc::Global;
@@ -24,10 +24,13 @@ pub enum Report {
     Top(End, u32, u64, Pred),
     /// How many different numbers a column has at the rows that a predicate selects.
     Distinct(u32, Pred),
+    /// The number at the end of a share of those that a column has at the rows that a predicate selects.
+    Quantile(Share, u32, Pred),
 }
 
 /// Reads a record as a report: `by`, a column, and a question that is no list; `top` or `bottom` and the fields of a rank
-/// behind its word; or `distinct` and those of a median. `None` stands for a record that is none of these.
+/// behind its word; `distinct` and those of a median; or `quantile` and those of a median, with a part and a whole behind
+/// the name, where the whole is at least 1 and the part no more than it. `None` stands for a record that is none of these.
 pub fn read_report(
     alloc: Global,
     schema: &Schema,
@@ -49,6 +52,9 @@ pub fn read_report(
     }
     if word == b"distinct".as_slice() {
         return read_distinct(alloc, schema, fields);
+    }
+    if word == b"quantile".as_slice() {
+        return read_quantile(alloc, schema, fields);
     }
     Ok(None)
 }
@@ -111,6 +117,27 @@ fn read_distinct(
     Ok(Some(Report::Distinct(c, pred)))
 }
 
+/// Reads a record that begins with `quantile`.
+fn read_quantile(
+    alloc: Global,
+    schema: &Schema,
+    fields: &ByteRecord,
+) -> Result<Option<Report>, NoMemory>
+    requires { Some (codes "quantile") ≡ field_at (fields_of fields.now) 0 }
+    ensures { IfOk result (IsReadAs (IsReport schema.now (fields_of fields.now))) }
+{
+    let Some(share) = read_share(fields) else {
+        return Ok(None);
+    };
+    let mut asked = begin_record(alloc, b"median")?;
+    asked.push_field(field(fields, 1))?;
+    push_fields(fields, 4, &mut asked)?;
+    let Some((c, pred)) = read_median(alloc, schema, &asked)? else {
+        return Ok(None);
+    };
+    Ok(Some(Report::Quantile(share, c, pred)))
+}
+
 /// Makes a record of one word.
 fn begin_record(alloc: Global, word: &[u8]) -> Result<ByteRecord, NoMemory>
     ensures fields { IfOk result (λ asked. fields_of asked ≡ word.now ∷ []) }
@@ -139,6 +166,16 @@ fn read_column(schema: &Schema, fields: &ByteRecord) -> Option<u32>
         (field_at (fields_of fields.now) 1) }
 {
     schema.find(fields.get(1)?)
+}
+
+/// Reads the share whose part and whole stand behind the name of a column.
+fn read_share(fields: &ByteRecord) -> Option<Share>
+    ensures { result ≡ spelled_share (get_or (fields_of fields.now) 2 [])
+        (get_or (fields_of fields.now) 3 []) }
+{
+    let part = read_number(field(fields, 2))?;
+    let whole = read_number(field(fields, 3))?;
+    Share::new(part, whole)
 }
 
 /// Reads a question for a rank: its column, its number, and its predicate.

@@ -14,3 +14,4 @@ returns c =
     (not_word word c.as_slice-2.result.now (codes "top") c.if-eq-2.ensures c.as_slice-2.ensures)
     (not_word word c.as_slice-3.result.now (codes "bottom") c.if-eq-3.ensures c.as_slice-3.ensures)
     (not_word word c.as_slice-4.result.now (codes "distinct") c.if-eq-4.ensures c.as_slice-4.ensures)
+    (not_word word c.as_slice-5.result.now (codes "quantile") c.if-eq-5.ensures c.as_slice-5.ensures)
