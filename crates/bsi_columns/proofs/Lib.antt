@@ -12,6 +12,7 @@ pub mod FromBitmaps
 pub mod FromDigits
 pub mod NumberBlocks
 pub mod PieceLists
+pub mod PlaceSums
 pub mod Rungs
 pub mod SpanAnswers
 pub mod SpanParts

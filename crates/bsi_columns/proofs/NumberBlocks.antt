@@ -1,12 +1,12 @@
 -- The numbers of 64 rows, digit by digit from the most significant down.
-use Rattle.std.proofs.Common.{◌≡◌, ℕ, ◌+◌, ◌*◌, ◌/◌, ◌<◌, ◌≤◌, ◌^◌, List, Option, None, length, get_or, set, length-set, inl, inr, ap, ap₂, sym, ◌∙◌, arith}
+use Rattle.std.proofs.Common.{◌≡◌, ℕ, ◌+◌, ◌*◌, ◌/◌, ◌<◌, ◌≤◌, ◌^◌, List, Option, None, length, map, get_or, set, length-set, inl, inr, ap, ap₂, sym, ◌∙◌, arith}
 use Rattle.std.specs.Prelude.{◌==◌}
 use Rattle.std.specs.Int.{bit_at}
 use Rattle.std.proofs.Math.Nat.{div-le_self}
 use Rattle.std.proofs.lemmas.Bool.{cases_eq}
-use Rattle.std.proofs.lemmas.List.{get_or-set_same, get_or-set_other}
+use Rattle.std.proofs.lemmas.List.{get_or-map, get_or-set_same, get_or-set_other, length-map}
 use Rattle.bsi_digits.specs.Digits.{weight, product, digit_of, IsBaseList}
-use Rattle.bsi_digits.proofs.CallerLemmas.{high_digit}
+use Rattle.bsi_digits.proofs.CallerLemmas.{high_all, high_digit}
 use Rattle.bsi_orders.specs.Rows.{number_or_zero}
 use Rattle.bsi_words.specs.Places.{has_place}
 
@@ -44,3 +44,16 @@ number_above bs valid v j within small above digit base number above_is digit_is
     let total : above * base + digit ≡ v / weight bs j =
     ap₂ (λ a b. a * b + digit) above_is base_is ∙ ap (λ d. v / weight bs (j + 1) * get_or bs j 0 + d) digit_is ∙ sym (high_digit valid v j within) in
     is (omega (arith, total, small, valid.small, div-le_self v (weight bs j))) ∙ total
+
+-- the most significant digit
+pub top_digit : (bs : List ℕ) → IsBaseList bs → (v j : ℕ) → j + 1 ≡ length bs → v < product bs → digit_of bs v j ≡ v / weight bs j
+top_digit bs valid v j last small =
+    let none : v / weight bs (j + 1) ≡ 0 = ap (λ i. v / weight bs i) last ∙ high_all bs v small in
+    let alone : 0 * get_or bs j 0 + digit_of bs v j ≡ digit_of bs v j = omega arith in
+    sym (high_digit valid v j (omega (arith, last)) ∙ ap (λ q. q * get_or bs j 0 + digit_of bs v j) none ∙ alone)
+
+-- the digit of a row, in the list of a component's digits
+pub digit_read : (bs : List ℕ) (entries : List (Option ℕ)) (i r : ℕ) (digits : List ℕ) → r < length entries → digits ≡ map (λ e. digit_of bs (number_or_zero e) i) entries
+    → (r < length digits) × (get_or digits r 0 ≡ digit_of bs (number_or_zero (get_or entries r None)) i)
+digit_read bs entries i r digits row is =
+    (omega (arith, row, ap length is, length-map entries (λ e. digit_of bs (number_or_zero e) i)), ap (λ ds. get_or ds r 0) is ∙ get_or-map (λ e. digit_of bs (number_or_zero e) i) entries r None 0 row)

@@ -3,6 +3,7 @@ pub mod SpanEnds
 pub mod ComponentPlaces
 pub mod Decomposed
 pub mod DigitTests
+pub mod NumberPlaces
 pub mod Places
 pub mod Standings
 pub use Rattle.bsi_slices.specs.Ends

@@ -24,6 +24,8 @@ use bsi_bits::{Bits, MAX_BLOCK};
 use bsi_words::spans::drop_in;
 use std::alloc::Global;
 
+mod related;
+
 /// A column stored in one of the forms. Each call is that of the form.
 #[derive(Drop)]
 pub enum AnyColumn {
@@ -62,46 +64,6 @@ impl AnyColumn {
             AnyColumn::Slices(column) => column.numbers_into(at, numbers),
             AnyColumn::Equality(column) => column.numbers_into(at, numbers),
             AnyColumn::Range(column) => column.numbers_into(at, numbers),
-        }
-    }
-
-    /// Keeps in a span of words the rows whose number here compares, as `relating` says, with that of another column of
-    /// as many rows, and returns true, if both go by binary places that can be compared: those of two columns of slices
-    /// or, where the same is added to both numbers, of two under the same bases. If not it returns false. The first word
-    /// stands for the 64 rows from row `64 * at` on. A row that is null in one of the two is not kept, nor a bit past
-    /// the last row. It takes no memory.
-    pub fn keep_related(
-        &self,
-        relating: Relating,
-        other: &AnyColumn,
-        at: usize,
-        span: &mut [u64],
-    ) -> bool
-        requires more { (relating.more < max_size) × (relating.others_more < max_size) }
-        requires within { at + length span.old ≤ word_count (length (any_entries self.now)) }
-        requires same { length (any_entries other.now) ≡ length (any_entries self.now) }
-        ensures kept { IsTrue result → KeepsRelatedRows relating (any_entries self.now)
-            (any_entries other.now) at span.old span.new }
-        ensures unchanged { IsFalse result → span.new ≡ span.old }
-    {
-        match (self, other) {
-            (AnyColumn::Slices(own), AnyColumn::Slices(others)) => {
-                own.keep_related(relating, others, at, span);
-                true
-            }
-            (AnyColumn::Equality(own), AnyColumn::Equality(others)) => {
-                own.keep_related(relating, others, at, span)
-            }
-            (AnyColumn::Equality(own), AnyColumn::Range(others)) => {
-                own.keep_related(relating, others, at, span)
-            }
-            (AnyColumn::Range(own), AnyColumn::Equality(others)) => {
-                own.keep_related(relating, others, at, span)
-            }
-            (AnyColumn::Range(own), AnyColumn::Range(others)) => {
-                own.keep_related(relating, others, at, span)
-            }
-            _ => false,
         }
     }
 

@@ -25,6 +25,8 @@ mod related;
 mod totals;
 mod vectors;
 
+pub(crate) use compare::keep_wanted;
+
 /// A column of numbers below the product of its bases, which keeps a component for each base.
 #[derive(Drop)]
 pub struct Decomposed<E: Encoding> {

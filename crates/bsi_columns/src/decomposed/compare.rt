@@ -147,7 +147,7 @@ impl<E: Encoding> Decomposed<E> {
 }
 
 /// Keeps in a span the rows that are in `found` or, if those are not wanted, the rows that are not.
-pub(super) fn keep_wanted(found: &[u64], wanted: bool, span: &mut [u64])
+pub(crate) fn keep_wanted(found: &[u64], wanted: bool, span: &mut [u64])
     requires { length found.now ≡ length span.old }
     ensures len { length span.new ≡ length span.old }
     ensures bits { (p : ℕ) → p < 64 * length span.old →

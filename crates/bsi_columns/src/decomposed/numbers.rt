@@ -1,12 +1,16 @@
-//! The numbers of 64 rows, read at once by the binary places of their digits.
+//! The numbers of some rows, read at once by the binary places of their digits: as numbers, or place by place.
 
-ghost use Rattle.std.specs.Prelude.{◌≡◌, ℕ, ◌+◌, ◌*◌, ◌<◌, length, slice_index};
+ghost use Rattle.std.specs.Prelude.{◌≡◌, ℕ, ◌+◌, ◌*◌, ◌<◌, ◌≤◌, length, slice_index};
 ghost use Rattle.bsi_bits.specs.BitList.{max_block, word_count};
-ghost use Rattle.bsi_bits.specs.Packed.{end_of_u64};
+ghost use Rattle.bsi_bits.specs.Packed.{bit_of, end_of_u64};
+ghost use Rattle.bsi_columns.specs.Ends.{number_at};
+ghost use Rattle.bsi_columns.specs.NumberPlaces.{IsNumberAt};
 ghost use Rattle.bsi_slices.specs.Blocks.{AreNumbersFrom};
+ghost use Rattle.bsi_words.specs.Places.{has_place};
 
 use crate::BinaryPlaces;
 use crate::decomposed::Decomposed;
+use crate::places::{BLOCK_WORDS, MAX_PLACES, add_times};
 use bsi_bits::MAX_BLOCK;
 use bsi_components::place_count;
 use bsi_slices::transposing::transpose;
@@ -26,6 +30,66 @@ impl<E: BinaryPlaces> Decomposed<E> {
             digits_into(self.component(i), at, &mut digits);
             take_in(u64::from(bases.base(i)), &digits, numbers);
         }
+    }
+
+    /// Writes the binary places of the numbers of a block of so many words. The first word stands for the 64 rows from
+    /// row `64 * at` on. A null row counts as 0. Of a number that does not fit, the places that there are.
+    pub fn places_into(&self, at: usize, words: usize, places: &mut [[u64; BLOCK_WORDS]])
+        requires block { words ≤ BLOCK_WORDS }
+        requires few { length places.old ≤ MAX_PLACES }
+        requires within { at + words ≤ word_count (length self.now.entries) }
+        ensures long { length places.new ≡ length places.old }
+        ensures numbers { (p : ℕ) → p < 64 * words → 64 * at + p < length self.now.entries →
+            IsNumberAt places.new p (number_at self.now.entries (64 * at + p)) }
+    {
+        let mut above = [[0; BLOCK_WORDS]; MAX_PLACES];
+        let above = &mut above[..places.len()];
+        let bases = self.bases();
+        let top = bases.len() - 1;
+        digit_places(self.component(top), at, words, places);
+        'components: for i in (0..top).rev() {
+            above.copy_from_slice(places);
+            digit_places(self.component(i), at, words, places);
+            add_times(above, bases.base(i), places);
+        }
+    }
+}
+
+/// Writes the binary places of the digits of a block of so many words.
+fn digit_places<E: BinaryPlaces>(
+    component: &E,
+    at: usize,
+    words: usize,
+    places: &mut [[u64; BLOCK_WORDS]],
+)
+    requires block { words ≤ BLOCK_WORDS }
+    requires within { at + words ≤ word_count (length (E.digits component.now)) }
+    ensures long { length places.new ≡ length places.old }
+    ensures digits { (p : ℕ) → p < 64 * words → 64 * at + p < length (E.digits component.now) →
+        IsNumberAt places.new p (slice_index (E.digits component.now) (64 * at + p)) }
+{
+    'places: for k in 0..places.len() {
+        digit_place(component, k, at, words, &mut places[k]);
+    }
+}
+
+/// Writes a binary place of those digits.
+fn digit_place<E: BinaryPlaces>(
+    component: &E,
+    k: usize,
+    at: usize,
+    words: usize,
+    place: &mut [u64; BLOCK_WORDS],
+)
+    requires block { words ≤ BLOCK_WORDS }
+    requires within { at + words ≤ word_count (length (E.digits component.now)) }
+    ensures { (p : ℕ) → p < 64 * words → 64 * at + p < length (E.digits component.now) →
+        bit_of place.new p ≡ has_place k (slice_index (E.digits component.now) (64 * at + p)) }
+{
+    if k < place_count(component.base()) {
+        component.place_span(k, at, &mut place[..words]);
+    } else {
+        place.fill(0);
     }
 }
 

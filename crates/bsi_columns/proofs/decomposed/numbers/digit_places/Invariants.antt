@@ -1,0 +1,11 @@
+use Rattle.std.proofs.Common.{◌≡◌, ℕ, ◌+◌, ◌*◌, ◌<◌, [], length, get_or}
+use Rattle.bsi_bits.specs.Packed.{bit_of}
+use Rattle.bsi_words.specs.Places.{has_place}
+use Rattle.bsi_columns.proofs.decomposed.numbers.digit_places.Given as goal
+
+-- the places below k are written
+abbrev pub invariant-places : goal.invariant-places
+invariant-places g l = record {
+  long : length l.places ≡ length l.fn.places;
+  done : (p : ℕ) → p < 64 * l.words → 64 * l.at + p < length (g.E.Encoding.digits l.component) → (j : ℕ) → j < l.k → bit_of (get_or l.places j []) p ≡ has_place j (get_or (g.E.Encoding.digits l.component) (64 * l.at + p) 0);
+}

@@ -1,0 +1,145 @@
+//! Comparisons of the numbers of two columns of any forms, by binary places.
+//!
+//! Where the places that are kept can be compared as they are, they are. Else each column gives the places of its
+//! numbers, block by block.
+
+ghost use Rattle.std.specs.Prelude.{◌≡◌, ℕ, ◌+◌, ◌*◌, ◌<◌, ◌≤◌, ◌&&◌, is_some, None, length, slice_index_or, IsFalse, IsTrue};
+ghost use Rattle.bsi_bits.specs.BitList.{word_count};
+ghost use Rattle.bsi_bits.specs.Packed.{bit_of};
+ghost use Rattle.bsi_columns.specs.AnyRows.{any_entries};
+ghost use Rattle.bsi_columns.specs.Ends.{number_at};
+ghost use Rattle.bsi_columns.specs.NumberPlaces.{IsNumberAt};
+ghost use Rattle.bsi_digits.specs.Digits.{max_size};
+ghost use Rattle.bsi_slices.specs.Related.{KeepsRelatedRows};
+
+use super::AnyColumn;
+use crate::decomposed::keep_wanted;
+use crate::places::{BLOCK_WORDS, MAX_PLACES, add_each, places_of, slice_places, stand};
+use crate::{Column, Relating};
+use bsi_bits::MAX_LEN;
+use bsi_slices::Standing;
+use bsi_words::spans::keep_in;
+
+impl AnyColumn {
+    /// Keeps in a span of words the rows whose number here compares, as `relating` says, with that of another column of
+    /// as many rows. The first word stands for the 64 rows from row `64 * at` on. A row that is null in one of the two is
+    /// not kept, nor a bit past the last row. It takes no memory. It goes by binary places: those that are kept where
+    /// both columns are of slices or, if the same is added to both numbers, under the same bases, and else those of the
+    /// numbers, which take a few additions of places for each digit.
+    pub fn keep_related(&self, relating: Relating, other: &AnyColumn, at: usize, span: &mut [u64])
+        requires more { (relating.more < max_size) × (relating.others_more < max_size) }
+        requires within { at + length span.old ≤ word_count (length (any_entries self.now)) }
+        requires same { length (any_entries other.now) ≡ length (any_entries self.now) }
+        ensures { KeepsRelatedRows relating (any_entries self.now) (any_entries other.now) at
+            span.old span.new }
+    {
+        if !self.keep_alike(relating, other, at, span) {
+            self.keep_blocks(relating, other, at, span);
+        }
+    }
+
+    /// Keeps those rows, and returns true, if both columns go by binary places that can be compared as they are: those of
+    /// two columns of slices or, where the same is added to both numbers, of two under the same bases. If not it returns
+    /// false.
+    fn keep_alike(&self, relating: Relating, other: &AnyColumn, at: usize, span: &mut [u64]) -> bool
+        requires more { (relating.more < max_size) × (relating.others_more < max_size) }
+        requires within { at + length span.old ≤ word_count (length (any_entries self.now)) }
+        requires same { length (any_entries other.now) ≡ length (any_entries self.now) }
+        ensures kept { IsTrue result → KeepsRelatedRows relating (any_entries self.now)
+            (any_entries other.now) at span.old span.new }
+        ensures unchanged { IsFalse result → span.new ≡ span.old }
+    {
+        match (self, other) {
+            (AnyColumn::Slices(own), AnyColumn::Slices(others)) => {
+                own.keep_related(relating, others, at, span);
+                true
+            }
+            (AnyColumn::Equality(own), AnyColumn::Equality(others)) => {
+                own.keep_related(relating, others, at, span)
+            }
+            (AnyColumn::Equality(own), AnyColumn::Range(others)) => {
+                own.keep_related(relating, others, at, span)
+            }
+            (AnyColumn::Range(own), AnyColumn::Equality(others)) => {
+                own.keep_related(relating, others, at, span)
+            }
+            (AnyColumn::Range(own), AnyColumn::Range(others)) => {
+                own.keep_related(relating, others, at, span)
+            }
+            _ => false,
+        }
+    }
+
+    /// Keeps those rows, block by block.
+    fn keep_blocks(&self, relating: Relating, other: &AnyColumn, at: usize, span: &mut [u64])
+        requires more { (relating.more < max_size) × (relating.others_more < max_size) }
+        requires within { at + length span.old ≤ word_count (length (any_entries self.now)) }
+        requires same { length (any_entries other.now) ≡ length (any_entries self.now) }
+        ensures { KeepsRelatedRows relating (any_entries self.now) (any_entries other.now) at
+            span.old span.new }
+    {
+        // The proof takes from this that there are at most 2^32 rows, so at most 2^26 words.
+        prove!(self.len() <= MAX_LEN);
+        let len = span.len();
+        'blocks: for k in 0..len.div_ceil(BLOCK_WORDS) {
+            let from = BLOCK_WORDS * k;
+            let block = &mut span[from..len.min(from + BLOCK_WORDS)];
+            self.keep_block(relating, other, at + from, block);
+        }
+    }
+
+    /// Keeps those rows in a block.
+    fn keep_block(&self, relating: Relating, other: &AnyColumn, at: usize, words: &mut [u64])
+        requires block { length words.old ≤ BLOCK_WORDS }
+        requires more { (relating.more < max_size) × (relating.others_more < max_size) }
+        requires within { at + length words.old ≤ word_count (length (any_entries self.now)) }
+        requires same { length (any_entries other.now) ≡ length (any_entries self.now) }
+        ensures long { length words.new ≡ length words.old }
+        ensures kept { KeepsRelatedRows relating (any_entries self.now) (any_entries other.now) at
+            words.old words.new }
+    {
+        let most = (self.size() + relating.more).max(other.size() + relating.others_more);
+        let count = places_of(most);
+        let mut own = [[0; BLOCK_WORDS]; MAX_PLACES];
+        let mut others = [[0; BLOCK_WORDS]; MAX_PLACES];
+        let (own, others) = (&mut own[..count], &mut others[..count]);
+        self.sums_into(relating.more, at, words.len(), own);
+        other.sums_into(relating.others_more, at, words.len(), others);
+        let (standing, wanted) = Standing::of(relating.op);
+        let mut state = [0; BLOCK_WORDS];
+        stand(standing, own, others, &mut state);
+        self.keep_numbers(at, words);
+        other.keep_numbers(at, words);
+        keep_wanted(&state[..words.len()], wanted, words);
+    }
+
+    /// Writes the binary places of the numbers of a block of so many words, to each of which the same is added. The first
+    /// word stands for the 64 rows from row `64 * at` on. A null row counts as 0. Of a sum that does not fit, the places
+    /// that there are.
+    fn sums_into(&self, more: u64, at: usize, words: usize, places: &mut [[u64; BLOCK_WORDS]])
+        requires block { words ≤ BLOCK_WORDS }
+        requires few { length places.old ≤ MAX_PLACES }
+        requires within { at + words ≤ word_count (length (any_entries self.now)) }
+        ensures long { length places.new ≡ length places.old }
+        ensures sums { (p : ℕ) → p < 64 * words → 64 * at + p < length (any_entries self.now) →
+            IsNumberAt places.new p (number_at (any_entries self.now) (64 * at + p) + more) }
+    {
+        match self {
+            AnyColumn::Slices(column) => slice_places(column, at, words, places),
+            AnyColumn::Equality(column) => column.places_into(at, words, places),
+            AnyColumn::Range(column) => column.places_into(at, words, places),
+        }
+        add_each(more, places);
+    }
+
+    /// Keeps in a span the rows that have a number.
+    fn keep_numbers(&self, at: usize, span: &mut [u64])
+        requires { at + length span.old ≤ word_count (length (any_entries self.now)) }
+        ensures long { length span.new ≡ length span.old }
+        ensures bits { (p : ℕ) → p < 64 * length span.old → bit_of span.new p
+            ≡ (bit_of span.old p
+            && is_some (slice_index_or (any_entries self.now) (64 * at + p) None)) }
+    {
+        keep_in(self.not_null(), at, span);
+    }
+}

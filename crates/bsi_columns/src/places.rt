@@ -1,0 +1,141 @@
+//! The numbers of a block of rows by their binary places, each place the words of a bit for each row: how they are added
+//! and compared.
+//!
+//! An addition goes over the places from the least on, with a carry for each row (Rinfret, O'Neil and O'Neil 2001).
+
+ghost use Rattle.std.specs.Prelude.{◌≡◌, ℕ, ◌+◌, ◌*◌, ◌<◌, ◌≤◌, ◌^◌, ◌&&◌, ◌||◌, length, if◌then◌else◌};
+ghost use Rattle.bsi_bits.specs.BitList.{differ, word_count};
+ghost use Rattle.bsi_columns.specs.Ends.{number_at};
+ghost use Rattle.bsi_bits.specs.Packed.{bit_of};
+ghost use Rattle.bsi_slices.specs.Standings.{stands};
+ghost use Rattle.bsi_words.specs.Places.{has_place};
+ghost use Rattle.bsi_columns.specs.NumberPlaces.{IsNumberAt};
+
+use bsi_slices::{Slices, Standing};
+use bsi_words::spans::copy_in;
+
+/// The words of a block. At most 64 places of both columns and as many of an addition take 24 KiB, so they stay in the
+/// first cache.
+pub const BLOCK_WORDS: usize = 16;
+
+/// The most binary places of a number.
+pub const MAX_PLACES: usize = 64;
+
+/// Returns so many binary places that a number is below two to their power.
+pub fn places_of(number: u64) -> usize
+    ensures few { result ≤ MAX_PLACES }
+    ensures enough { number < 2 ^ result }
+{
+    (u64::BITS - number.leading_zeros()) as usize
+}
+
+/// Writes the binary places of the numbers of a block of so many words of a column of slices. The first word stands for
+/// the 64 rows from row `64 * at` on. A null row counts as 0.
+pub fn slice_places(column: &Slices, at: usize, words: usize, places: &mut [[u64; BLOCK_WORDS]])
+    requires block { words ≤ BLOCK_WORDS }
+    requires within { at + words ≤ word_count (length column.now.entries) }
+    ensures long { length places.new ≡ length places.old }
+    ensures numbers { (p : ℕ) → p < 64 * words → 64 * at + p < length column.now.entries →
+        IsNumberAt places.new p (number_at column.now.entries (64 * at + p)) }
+{
+    'places: for k in 0..places.len() {
+        slice_place(column, k, at, words, &mut places[k]);
+    }
+}
+
+/// Writes a binary place of those numbers.
+fn slice_place(column: &Slices, k: usize, at: usize, words: usize, place: &mut [u64; BLOCK_WORDS])
+    requires block { words ≤ BLOCK_WORDS }
+    requires within { at + words ≤ word_count (length column.now.entries) }
+    ensures { (p : ℕ) → p < 64 * words → 64 * at + p < length column.now.entries →
+        bit_of place.new p ≡ has_place k (number_at column.now.entries (64 * at + p)) }
+{
+    let width = column.width() as usize;
+    if k < width {
+        copy_in(column.slice(k as u32), at, &mut place[..words]);
+    } else {
+        place.fill(0);
+    }
+}
+
+/// Writes for each row of a block whether its two numbers stand so.
+pub fn stand(
+    standing: Standing,
+    first: &[[u64; BLOCK_WORDS]],
+    second: &[[u64; BLOCK_WORDS]],
+    state: &mut [u64; BLOCK_WORDS],
+)
+    requires same { length second.now ≡ length first.now }
+    ensures { (p x y : ℕ) → p < 64 * BLOCK_WORDS → x < 2 ^ length first.now →
+        y < 2 ^ length first.now → IsNumberAt first.now p x → IsNumberAt second.now p y →
+        bit_of state.new p ≡ stands standing x y }
+{
+    standing.begin(state);
+    'places: for k in 0..first.len() {
+        standing.step(&first[k], &second[k], state);
+    }
+}
+
+/// Adds the same number to each of a block. Of a sum that does not fit, the places that there are.
+pub fn add_each(number: u64, sums: &mut [[u64; BLOCK_WORDS]])
+    requires few { length sums.old ≤ MAX_PLACES }
+    ensures long { length sums.new ≡ length sums.old }
+    ensures sums { (p x : ℕ) → p < 64 * BLOCK_WORDS → IsNumberAt sums.old p x →
+        IsNumberAt sums.new p (x + number) }
+{
+    if number == 0 {
+        return;
+    }
+    let mut carry = [0; BLOCK_WORDS];
+    'places: for k in 0..sums.len() {
+        let word = if number >> k & 1 == 1 { u64::MAX } else { 0 };
+        add_place(&[word; BLOCK_WORDS], &mut carry, &mut sums[k]);
+    }
+}
+
+/// Adds to each number of a block so many times that of another block. Of a sum that does not fit, the places that there
+/// are.
+pub fn add_times(more: &[[u64; BLOCK_WORDS]], times: u32, sums: &mut [[u64; BLOCK_WORDS]])
+    requires same { length more.now ≡ length sums.old }
+    ensures long { length sums.new ≡ length sums.old }
+    ensures sums { (p x y : ℕ) → p < 64 * BLOCK_WORDS → IsNumberAt more.now p x →
+        IsNumberAt sums.old p y → IsNumberAt sums.new p (y + x * times) }
+{
+    'places: for k in 0..32 {
+        if times >> k & 1 == 1 {
+            add_raised(more, k, sums);
+        }
+    }
+}
+
+/// Adds to each number of a block that of another block times two to the power of `by`.
+fn add_raised(more: &[[u64; BLOCK_WORDS]], by: usize, sums: &mut [[u64; BLOCK_WORDS]])
+    requires same { length more.now ≡ length sums.old }
+    ensures long { length sums.new ≡ length sums.old }
+    ensures sums { (p x y : ℕ) → p < 64 * BLOCK_WORDS → IsNumberAt more.now p x →
+        IsNumberAt sums.old p y → IsNumberAt sums.new p (y + x * 2 ^ by) }
+{
+    let mut carry = [0; BLOCK_WORDS];
+    'places: for k in by..sums.len() {
+        add_place(&more[k - by], &mut carry, &mut sums[k]);
+    }
+}
+
+/// Adds a binary place of numbers and the carry into it, and writes the carry out of it.
+fn add_place(
+    more: &[u64; BLOCK_WORDS],
+    carry: &mut [u64; BLOCK_WORDS],
+    sum: &mut [u64; BLOCK_WORDS],
+)
+    ensures sum { (p : ℕ) → p < 64 * BLOCK_WORDS → bit_of sum.new p
+        ≡ differ (differ (bit_of sum.old p) (bit_of carry.old p)) (bit_of more.now p) }
+    ensures carry { (p : ℕ) → p < 64 * BLOCK_WORDS → bit_of carry.new p
+        ≡ (if bit_of more.now p then bit_of sum.old p || bit_of carry.old p
+        else bit_of sum.old p && bit_of carry.old p) }
+{
+    'words: for k in 0..BLOCK_WORDS {
+        let (part, before, other) = (sum[k], carry[k], more[k]);
+        sum[k] = part ^ before ^ other;
+        carry[k] = part & before | (part | before) & other;
+    }
+}
