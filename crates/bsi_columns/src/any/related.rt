@@ -27,7 +27,7 @@ impl AnyColumn {
     /// both columns are of slices or, if the same is added to both numbers, under the same bases, and else those of the
     /// numbers, which take a few additions of places for each digit.
     pub fn keep_related(&self, relating: Relating, other: &AnyColumn, at: usize, span: &mut [u64])
-        requires more { (relating.more < max_size) × (relating.others_more < max_size) }
+        requires more { (relating.more ≤ max_size) × (relating.others_more ≤ max_size) }
         requires within { at + length span.old ≤ word_count (length (any_entries self.now)) }
         requires same { length (any_entries other.now) ≡ length (any_entries self.now) }
         ensures { KeepsRelatedRows relating (any_entries self.now) (any_entries other.now) at
@@ -42,7 +42,7 @@ impl AnyColumn {
     /// two columns of slices or, where the same is added to both numbers, of two under the same bases. If not it returns
     /// false.
     fn keep_alike(&self, relating: Relating, other: &AnyColumn, at: usize, span: &mut [u64]) -> bool
-        requires more { (relating.more < max_size) × (relating.others_more < max_size) }
+        requires more { (relating.more ≤ max_size) × (relating.others_more ≤ max_size) }
         requires within { at + length span.old ≤ word_count (length (any_entries self.now)) }
         requires same { length (any_entries other.now) ≡ length (any_entries self.now) }
         ensures kept { IsTrue result → KeepsRelatedRows relating (any_entries self.now)
@@ -50,7 +50,8 @@ impl AnyColumn {
         ensures unchanged { IsFalse result → span.new ≡ span.old }
     {
         match (self, other) {
-            (AnyColumn::Slices(own), AnyColumn::Slices(others)) => {
+            (AnyColumn::Slices(own), AnyColumn::Slices(others))
+                if relating.more.max(relating.others_more) < 1 << 63 => {
                 own.keep_related(relating, others, at, span);
                 true
             }
@@ -72,7 +73,7 @@ impl AnyColumn {
 
     /// Keeps those rows, block by block.
     fn keep_blocks(&self, relating: Relating, other: &AnyColumn, at: usize, span: &mut [u64])
-        requires more { (relating.more < max_size) × (relating.others_more < max_size) }
+        requires more { (relating.more ≤ max_size) × (relating.others_more ≤ max_size) }
         requires within { at + length span.old ≤ word_count (length (any_entries self.now)) }
         requires same { length (any_entries other.now) ≡ length (any_entries self.now) }
         ensures { KeepsRelatedRows relating (any_entries self.now) (any_entries other.now) at
@@ -91,15 +92,16 @@ impl AnyColumn {
     /// Keeps those rows in a block.
     fn keep_block(&self, relating: Relating, other: &AnyColumn, at: usize, words: &mut [u64])
         requires block { length words.old ≤ BLOCK_WORDS }
-        requires more { (relating.more < max_size) × (relating.others_more < max_size) }
+        requires more { (relating.more ≤ max_size) × (relating.others_more ≤ max_size) }
         requires within { at + length words.old ≤ word_count (length (any_entries self.now)) }
         requires same { length (any_entries other.now) ≡ length (any_entries self.now) }
         ensures long { length words.new ≡ length words.old }
         ensures kept { KeepsRelatedRows relating (any_entries self.now) (any_entries other.now) at
             words.old words.new }
     {
-        let most = (self.size() + relating.more).max(other.size() + relating.others_more);
-        let count = places_of(most);
+        let most = self.size() - 1 + relating.more;
+        let others_most = other.size() - 1 + relating.others_more;
+        let count = places_of(most.max(others_most));
         let mut own = [[0; BLOCK_WORDS]; MAX_PLACES];
         let mut others = [[0; BLOCK_WORDS]; MAX_PLACES];
         let (own, others) = (&mut own[..count], &mut others[..count]);

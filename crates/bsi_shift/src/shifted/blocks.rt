@@ -1,7 +1,6 @@
-//! 64 rows, read at once, and comparisons of two columns: by their binary places where these can be compared, else by
-//! the numbers of such rows.
+//! 64 rows, read at once, and comparisons of two columns.
 
-ghost use Rattle.std.specs.Prelude.{◌≡◌, ℕ, pos, ◌<ℤ◌, ◌+◌, ◌*◌, ◌<◌, ◌≤◌, ◌==◌, ◌&&◌, length, None, slice_index, slice_index_or, IfSome};
+ghost use Rattle.std.specs.Prelude.{◌≡◌, ℕ, pos, ◌<ℤ◌, ◌+◌, ◌*◌, ◌<◌, ◌≤◌, ◌==◌, ◌&&◌, length, None, slice_index, slice_index_or};
 ghost use Rattle.std.specs.Int.{bit_at};
 ghost use Rattle.bsi_digits.specs.Digits.{max_size};
 ghost use Rattle.bsi_digits.specs.Signed.{end_of_i64};
@@ -13,7 +12,7 @@ ghost use Rattle.bsi_shift.specs.Blocks.{block_entry, KeepsRelated};
 ghost use Rattle.bsi_shift.specs.Shifted.{number_of, shifted_entries};
 
 use crate::Shifted;
-use bsi_bits::{MAX_BLOCK, MAX_LEN};
+use bsi_bits::MAX_BLOCK;
 use bsi_columns::{Column, Op, Relating};
 
 impl Shifted {
@@ -35,77 +34,38 @@ impl Shifted {
     /// Keeps in a span of words the rows whose number satisfies the comparison `op` with the number that another column
     /// of as many rows has there. The first word stands for the 64 rows from row `64 * at` on. A row that is null in one
     /// of the two is not kept, nor a bit past the last row. It takes no memory. Two columns go by their binary places,
-    /// each of which is read once, where both are of slices and their offsets lie less than 2^63 apart, and where both
-    /// have the same bases and the same offset, in whichever encodings. Others are read row by row, but for words that
-    /// have no row.
+    /// each of which is read once. It is fastest where both are of slices and their offsets lie less than 2^63 apart, and
+    /// where both have the same bases and the same offset, in whichever encodings. Else numbers under bases are put
+    /// together, place by place, which takes a few additions of places for each digit.
     pub fn keep_related(&self, op: Op, other: &Shifted, at: usize, span: &mut [u64])
         requires within { at + length span.old ≤ word_count (length (shifted_entries self.now)) }
         requires same { length (shifted_entries other.now) ≡ length (shifted_entries self.now) }
         ensures { KeepsRelated op (shifted_entries self.now) (shifted_entries other.now) at
             span.old span.new }
     {
-        if let Some(relating) = relating_of(self.offset, op, other.offset) {
-            if self.stored.keep_related(relating, &other.stored, at, span) {
-                return;
-            }
-        }
-        self.keep_related_rows(op, other, at, span);
-    }
-
-    /// Keeps those rows word by word.
-    fn keep_related_rows(&self, op: Op, other: &Shifted, at: usize, span: &mut [u64])
-        requires within { at + length span.old ≤ word_count (length (shifted_entries self.now)) }
-        requires same { length (shifted_entries other.now) ≡ length (shifted_entries self.now) }
-        ensures { KeepsRelated op (shifted_entries self.now) (shifted_entries other.now) at
-            span.old span.new }
-    {
-        // The proof takes from this that there are at most 2^32 rows, so at most 2^26 words.
-        prove!(self.len() <= MAX_LEN);
-        'words: for k in 0..span.len() {
-            span[k] = self.related_rows(op, other, at + k, span[k]);
-        }
-    }
-
-    /// Returns those of a word's rows, the 64 from row `64 * at` on, whose numbers in this column and another compare so.
-    fn related_rows(&self, op: Op, other: &Shifted, at: usize, rows: u64) -> u64
-        requires within { at < word_count (length (shifted_entries self.now)) }
-        requires same { length (shifted_entries other.now) ≡ length (shifted_entries self.now) }
-        ensures { (r : ℕ) → r < max_block → (bit_at result r == 1) ≡ (bit_at rows r == 1
-            && signed_relates op (slice_index_or (shifted_entries self.now) (64 * at + r) None)
-            (slice_index_or (shifted_entries other.now) (64 * at + r) None)) }
-    {
-        if rows == 0 {
-            return 0;
-        }
-        let (mut numbers, mut others) = ([0; MAX_BLOCK], [0; MAX_BLOCK]);
-        let first = self.read_block(at, &mut numbers);
-        let second = other.read_block(at, &mut others);
-        rows & (first & second & compare_each(op, &numbers, &others))
+        let relating = relating_of(self.offset, op, other.offset);
+        self.stored.keep_related(relating, &other.stored, at, span);
     }
 }
 
-/// Returns the comparison of stored numbers that says the same as `op` of numbers from these offsets on, or none where
-/// the offsets lie 2^63 or more apart.
-fn relating_of(offset: i64, op: Op, other: i64) -> Option<Relating>
-    ensures small { IfSome result (λ relating.
-        (relating.more < max_size) × (relating.others_more < max_size)) }
-    ensures agree { IfSome result (λ relating. (x y : ℕ) → relates relating x y
-        ≡ compares_by signed_order op (number_of offset x) (number_of other y)) }
+/// Returns the comparison of stored numbers that says the same as `op` of numbers from these offsets on. Where the offsets
+/// lie 2^63 or more apart it adds 2^63, which stored numbers are below.
+fn relating_of(offset: i64, op: Op, other: i64) -> Relating
+    ensures small { (result.more ≤ max_size) × (result.others_more ≤ max_size) }
+    ensures agree { (x y : ℕ) → x < max_size → y < max_size → relates result x y
+        ≡ compares_by signed_order op (number_of offset x) (number_of other y) }
 {
-    let apart = offset.abs_diff(other);
-    if apart >= 1 << 63 {
-        return None;
-    }
+    let apart = offset.abs_diff(other).min(1 << 63);
     let (more, others_more) = if offset < other {
         (0, apart)
     } else {
         (apart, 0)
     };
-    Some(Relating {
+    Relating {
         more,
         op,
         others_more,
-    })
+    }
 }
 
 /// Writes the number that is stored as each of these. One that no column stores is cut to 64 bits.
@@ -118,33 +78,4 @@ fn add_offset(offset: i64, stored: &[u64; MAX_BLOCK], numbers: &mut [i64; MAX_BL
     'rows: for r in 0..MAX_BLOCK {
         numbers[r] = offset.wrapping_add_unsigned(stored[r]);
     }
-}
-
-/// Returns a word whose bit `r` says whether number `r` of one block compares so with that of another.
-fn compare_each(op: Op, numbers: &[i64; MAX_BLOCK], others: &[i64; MAX_BLOCK]) -> u64
-    ensures { (r : ℕ) → r < max_block → (bit_at result r == 1)
-        ≡ compares_by signed_order op (slice_index_or numbers.now r (pos 0))
-        (slice_index_or others.now r (pos 0)) }
-{
-    match op {
-        Op::Eq => !(lower_places(numbers, others) | lower_places(others, numbers)),
-        Op::Ne => lower_places(numbers, others) | lower_places(others, numbers),
-        Op::Lt => lower_places(numbers, others),
-        Op::Le => !lower_places(others, numbers),
-        Op::Gt => lower_places(others, numbers),
-        Op::Ge => !lower_places(numbers, others),
-    }
-}
-
-/// Returns a word whose bit `r` says whether the number at place `r` is below the other.
-fn lower_places(numbers: &[i64; MAX_BLOCK], others: &[i64; MAX_BLOCK]) -> u64
-    ensures { (r : ℕ) → r < max_block → (bit_at result r == 1)
-        ≡ signed_order.below (slice_index_or numbers.now r (pos 0))
-        (slice_index_or others.now r (pos 0)) }
-{
-    let mut word = 0;
-    'places: for r in 0..MAX_BLOCK {
-        word |= ((numbers[r] < others[r]) as u64) << r;
-    }
-    word
 }

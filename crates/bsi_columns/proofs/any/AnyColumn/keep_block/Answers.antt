@@ -32,8 +32,8 @@ returns-clause-kept c = λ p below.
     ∙ entries_kept relating (bit_of c.args.words.now p) answer (get_or entries r None) (get_or others r None) (λ there.
     let row : r < length entries = row_within entries r there in
     let other_row : r < length others = omega (arith, row, c.requires.same) in
-    let first : x < 2 ^ count = omega (arith, c.size.ensures.below r None row, c.size.ensures.size, c.max-most.ensures, c.places_of-count.ensures.enough) in
-    let second : y < 2 ^ count = omega (arith, c.size-2.ensures.below r None other_row, c.size-2.ensures.size, c.max-most.ensures, c.places_of-count.ensures.enough) in
+    let first : x < 2 ^ count = omega (arith, c.size.ensures.below r None row, c.size.ensures.size, c.size.ensures.within, c.max.ensures, c.places_of-count.ensures.enough) in
+    let second : y < 2 ^ count = omega (arith, c.size-2.ensures.below r None other_row, c.size-2.ensures.size, c.size-2.ensures.within, c.max.ensures, c.places_of-count.ensures.enough) in
     ap (as_wanted wanted) (taken ∙ c.stand.ensures p x y (omega (arith, below, c.requires.block))
     (subst (λ m. x < 2 ^ m) (sym long) first)
     (subst (λ m. y < 2 ^ m) (sym long) second)

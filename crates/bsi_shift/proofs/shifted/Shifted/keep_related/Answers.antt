@@ -1,8 +1,10 @@
-use Rattle.std.proofs.Common.{◌+◌, ◌*◌, ◌&&◌, None, length, get_or, ap, ap₂, sym, ◌∙◌, rules, arith}
+use Rattle.std.proofs.Common.{◌+◌, ◌*◌, ◌<◌, ◌&&◌, None, length, get_or, ap, ap₂, sym, ◌∙◌, rules, arith}
 use mir.Syntax.{w64}
 use Rattle.std.proofs.lemmas.Int.{to_z-of_z}
 use Rattle.bsi_bits.specs.Packed.{bit_of}
 use Rattle.bsi_columns.specs.AnyRows.{any_entries}
+use Rattle.bsi_columns.proofs.EntryReads.{all_read}
+use Rattle.bsi_orders.specs.Rows.{number_or_zero}
 use Rattle.bsi_orders.specs.Orders.{compares_by}
 use Rattle.bsi_orders.specs.WholeNumbers.{signed_order, signed_relates}
 use Rattle.bsi_shift.specs.Shifted.{number_of, shifted_entries}
@@ -21,17 +23,20 @@ keep_related-requires-clause-same c =
     let other_long = ap (λ v. length (any_entries v.stored)) c.other.view_is ∙ sym (length-shifted_entries c.args.other.now) in
     omega (arith, c.requires.same, long, other_long)
 
--- by the binary places
-pub returns-then-keep_related : goal.returns-then-keep_related
-returns-then-keep_related c = λ p below.
+pub returns : goal.returns
+returns c = λ p below.
     let r = 64 * c.args.at + p in
     let one = c.self.inside in
     let two = c.other.inside in
-    c.keep_related.ensures.kept c.if-keep_related.true p below
+    let first : number_or_zero (get_or (any_entries one.stored) r None) < one.size = all_read (λ e. number_or_zero e < one.size) (any_entries one.stored) r (omega (arith, c.self.invariant.some)) c.self.invariant.below in
+    let second : number_or_zero (get_or (any_entries two.stored) r None) < two.size = all_read (λ e. number_or_zero e < two.size) (any_entries two.stored) r (omega (arith, c.other.invariant.some)) c.other.invariant.below in
+    c.keep_related.ensures p below
     ∙ ap (◌&&◌ (bit_of c.args.span.now p))
-    (relates_shifted c.args.op one.offset two.offset c.in-Some.relating
-    (λ x y. c.in-Some.ensures.agree x y ∙ ap₂ (λ a b. compares_by signed_order c.args.op (number_of a x) (number_of b y)) (to_z-of_z w64 one.offset (search rules)) (to_z-of_z w64 two.offset (search rules)))
-    (get_or (any_entries one.stored) r None) (get_or (any_entries two.stored) r None)
+    (relates_shifted c.args.op one.offset two.offset one.size two.size c.relating_of-relating.result
+    (λ x y low high.
+    c.relating_of-relating.ensures.agree x y (omega (arith, low, c.self.invariant.small)) (omega (arith, high, c.other.invariant.small))
+    ∙ ap₂ (λ a b. compares_by signed_order c.args.op (number_of a x) (number_of b y)) (to_z-of_z w64 one.offset (search rules)) (to_z-of_z w64 two.offset (search rules)))
+    (get_or (any_entries one.stored) r None) (get_or (any_entries two.stored) r None) first second
     ∙ ap₂ (signed_relates c.args.op)
     (sym (entry_from (record { stored = one.stored; offset = one.offset }) r) ∙ ap (λ v. get_or (shifted_entries v) r None) c.self.view_is)
     (sym (entry_from (record { stored = two.stored; offset = two.offset }) r) ∙ ap (λ v. get_or (shifted_entries v) r None) c.other.view_is))
