@@ -18,6 +18,7 @@ use crate::places::{BLOCK_WORDS, MAX_PLACES, add_each, places_of, slice_places, 
 use crate::{Column, Relating};
 use bsi_bits::MAX_LEN;
 use bsi_slices::Standing;
+use bsi_words::is_clear;
 use bsi_words::spans::keep_in;
 
 impl AnyColumn {
@@ -89,7 +90,7 @@ impl AnyColumn {
         }
     }
 
-    /// Keeps those rows in a block.
+    /// Keeps those rows in a block. One without a row takes the time of a look at its words.
     fn keep_block(&self, relating: Relating, other: &AnyColumn, at: usize, words: &mut [u64])
         requires block { length words.old ≤ BLOCK_WORDS }
         requires more { (relating.more ≤ max_size) × (relating.others_more ≤ max_size) }
@@ -99,6 +100,9 @@ impl AnyColumn {
         ensures kept { KeepsRelatedRows relating (any_entries self.now) (any_entries other.now) at
             words.old words.new }
     {
+        if is_clear(words) {
+            return;
+        }
         let most = self.size() - 1 + relating.more;
         let others_most = other.size() - 1 + relating.others_more;
         let count = places_of(most.max(others_most));
