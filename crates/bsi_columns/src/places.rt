@@ -13,6 +13,7 @@ ghost use Rattle.bsi_columns.specs.NumberPlaces.{IsNumberAt};
 
 use bsi_slices::{Slices, Standing};
 use bsi_words::spans::copy_in;
+use std::simd::Simd;
 
 /// The words of a block. At most 64 places of both columns and as many of an addition take 24 KiB, so they stay in the
 /// first cache.
@@ -86,10 +87,10 @@ pub fn add_each(number: u64, sums: &mut [[u64; BLOCK_WORDS]])
     if number == 0 {
         return;
     }
-    let mut carry = [0; BLOCK_WORDS];
+    let mut carry = Simd::<u64, BLOCK_WORDS>::splat(0);
     'places: for k in 0..sums.len() {
         let word = if number >> k & 1 == 1 { u64::MAX } else { 0 };
-        add_place(&[word; BLOCK_WORDS], &mut carry, &mut sums[k]);
+        carry = add_place(&[word; BLOCK_WORDS], carry, &mut sums[k]);
     }
 }
 
@@ -115,27 +116,26 @@ fn add_raised(more: &[[u64; BLOCK_WORDS]], by: usize, sums: &mut [[u64; BLOCK_WO
     ensures sums { (p x y : ℕ) → p < 64 * BLOCK_WORDS → IsNumberAt more.now p x →
         IsNumberAt sums.old p y → IsNumberAt sums.new p (y + x * 2 ^ by) }
 {
-    let mut carry = [0; BLOCK_WORDS];
+    let mut carry = Simd::<u64, BLOCK_WORDS>::splat(0);
     'places: for k in by..sums.len() {
-        add_place(&more[k - by], &mut carry, &mut sums[k]);
+        carry = add_place(&more[k - by], carry, &mut sums[k]);
     }
 }
 
-/// Adds a binary place of numbers and the carry into it, and writes the carry out of it.
+/// Adds a binary place of numbers and the carry into it, and returns the carry out of it.
 fn add_place(
     more: &[u64; BLOCK_WORDS],
-    carry: &mut [u64; BLOCK_WORDS],
+    carry: Simd<u64, BLOCK_WORDS>,
     sum: &mut [u64; BLOCK_WORDS],
-)
+) -> Simd<u64, BLOCK_WORDS>
     ensures sum { (p : ℕ) → p < 64 * BLOCK_WORDS → bit_of sum.new p
-        ≡ differ (differ (bit_of sum.old p) (bit_of carry.old p)) (bit_of more.now p) }
-    ensures carry { (p : ℕ) → p < 64 * BLOCK_WORDS → bit_of carry.new p
-        ≡ (if bit_of more.now p then bit_of sum.old p || bit_of carry.old p
-        else bit_of sum.old p && bit_of carry.old p) }
+        ≡ differ (differ (bit_of sum.old p) (bit_of carry p)) (bit_of more.now p) }
+    ensures carry { (p : ℕ) → p < 64 * BLOCK_WORDS → bit_of result p
+        ≡ (if bit_of more.now p then bit_of sum.old p || bit_of carry p
+        else bit_of sum.old p && bit_of carry p) }
 {
-    'words: for k in 0..BLOCK_WORDS {
-        let (part, before, other) = (sum[k], carry[k], more[k]);
-        sum[k] = part ^ before ^ other;
-        carry[k] = part & before | (part | before) & other;
-    }
+    // As lanes: the compiler takes a loop over so few words one by one.
+    let (part, other) = (Simd::from_array(*sum), Simd::from_array(*more));
+    *sum = (part ^ carry ^ other).to_array();
+    part & carry | (part | carry) & other
 }

@@ -19,7 +19,7 @@ places-preserved c =
     let sums = c.places.sums in
     let number = c.args.number in
     let within : k < length sums = omega (arith, c.places-test.true, c.places.invariant.long) in
-    let place = c.add_place.new.sum in
+    let place = c.add_place-carry.new.sum in
     let word = c.if-number-k-eq1.word in
     let alike : (r : ℕ) → r < 64 → (bit_at word r == 1) ≡ has_place k number = λ r low. elim c.if-number-k-eq1.branch [
       | then-number-k-eq1 w ↦ ap (λ a. bit_at a r == 1) w.word-is ∙ all_set r low ∙ sym (place_one number k w.if-number-k-eq1.true)
@@ -30,14 +30,14 @@ places-preserved c =
     record {
       long = length-set sums k place ∙ c.places.invariant.long;
       carries = λ p x near first.
-          c.add_place.ensures.carry p near
+          c.add_place-carry.ensures.carry p near
           ∙ (λ i. if replicate_bit 16 word (has_place k number) alike p near i then part p x first i || c.places.invariant.carries p x near first i else part p x first i && c.places.invariant.carries p x near first i)
           ∙ sum_carry x number k;
       done = λ p x near first j below. elim (cases_eq j k) [
         | inl same ↦
             ap (λ i. bit_of (get_or (set sums k place) i []) p) same
             ∙ ap (λ ws. bit_of ws p) (get_or-set_same sums k place [] within)
-            ∙ c.add_place.ensures.sum p near
+            ∙ c.add_place-carry.ensures.sum p near
             ∙ (λ i. differ (differ (part p x first i) (c.places.invariant.carries p x near first i)) (replicate_bit 16 word (has_place k number) alike p near i))
             ∙ sym (sum_place x number k) ∙ ap (λ i. has_place i (x + number)) (sym same)
         | inr other ↦ ap (λ ws. bit_of ws p) (get_or-set_other sums k j place [] other) ∙ c.places.invariant.done p x near first j (omega arith)

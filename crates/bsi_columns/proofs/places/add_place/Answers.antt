@@ -1,36 +1,46 @@
-use Rattle.std.proofs.Common.{◌≡◌, ℕ, ◌+◌, ◌*◌, ◌<◌, ◌&&◌, ◌||◌, get_or, length-set, refl, ap, ◌∙◌, arith}
-use Rattle.std.specs.Prelude.{◌==◌, if◌then◌else◌}
-use Rattle.std.specs.Int.{bit_at}
-use Rattle.std.proofs.lemmas.List.{get_or-set_other}
+use Rattle.std.proofs.Common.{◌≡◌, ℕ, ◌*◌, ◌<◌, ◌&&◌, ◌||◌, Bool, true, false, List, length, ap, ap₂, sym, ◌∙◌, refl, rules, arith}
+use Rattle.std.specs.Prelude.{bit_and, bit_or, bit_xor, if◌then◌else◌}
+use Rattle.std.specs.Simd.Lanes.{zip2}
+use Rattle.std.proofs.lemmas.Simd.{length-zip2}
 use Rattle.bsi_bits.specs.BitList.{differ}
 use Rattle.bsi_bits.specs.Packed.{bit_of}
-use Rattle.bsi_slices.proofs.StateWords.{carry_bit, sum_bit, word_bit, word_more}
+use Rattle.bsi_bits.proofs.Logic.{xor_bitwise}
+use Rattle.bsi_columns.proofs.WordSpans.{and_bit, or_bit, zipped_bit}
 use Rattle.bsi_columns.proofs.places.add_place.Goals as goal
 
-pub words-preserved : goal.words-preserved
-words-preserved c =
-    let k = c.words.k in
-    let more = c.args.more.now in
-    let sum = c.words.sum in
-    let carry = c.words.carry in
-    let near : k < 16 = omega (arith, c.words-test.true) in
-    let first : (r : ℕ) → r < 64 → (bit_at (get_or sum k 0) r == 1) ≡ bit_of c.args.sum.now (64 * k + r) = λ r low.
-    ap (λ w. bit_at w r == 1) (c.words.invariant.sum_rest k (omega arith)) ∙ word_bit c.args.sum.now k r low in
-    let before : (r : ℕ) → r < 64 → (bit_at (get_or carry k 0) r == 1) ≡ bit_of c.args.carry.now (64 * k + r) = λ r low.
-    ap (λ w. bit_at w r == 1) (c.words.invariant.rest k (omega arith)) ∙ word_bit c.args.carry.now k r low in
-    record {
-      sum_long = length-set sum k _ ∙ c.words.invariant.sum_long;
-      long = length-set carry k _ ∙ c.words.invariant.long;
-      sums = word_more (λ p. differ (differ (bit_of c.args.sum.now p) (bit_of c.args.carry.now p)) (bit_of more p)) sum k _ (omega (arith, near, c.words.invariant.sum_long))
-          (λ r low.
-          sum_bit (get_or sum k 0) (get_or carry k 0) r low (get_or more k 0) (bit_at (get_or more k 0) r == 1) refl
-          ∙ (λ i. differ (differ (first r low i) (before r low i)) (word_bit more k r low i)))
-          c.words.invariant.sums;
-      carries = word_more (λ p. if bit_of more p then bit_of c.args.sum.now p || bit_of c.args.carry.now p else bit_of c.args.sum.now p && bit_of c.args.carry.now p) carry k _ (omega (arith, near, c.words.invariant.long))
-          (λ r low.
-          carry_bit (get_or sum k 0) (get_or carry k 0) r low (get_or more k 0) (bit_at (get_or more k 0) r == 1) refl
-          ∙ (λ i. if word_bit more k r low i then first r low i || before r low i else first r low i && before r low i))
-          c.words.invariant.carries;
-      sum_rest = λ i past. get_or-set_other sum k i _ 0 (omega arith) ∙ c.words.invariant.sum_rest i (omega arith);
-      rest = λ i past. get_or-set_other carry k i _ 0 (omega arith) ∙ c.words.invariant.rest i (omega arith);
-    }
+xor_bit : (xs ys : List ℕ) → length xs ≡ length ys → (p : ℕ) → p < 64 * length xs → bit_of (zip2 bit_xor xs ys) p ≡ differ (bit_of xs p) (bit_of ys p)
+xor_bit xs ys same = zipped_bit (λ _. Unit {0}) bit_xor differ xor_bitwise xs ys same (λ k. tt)
+
+by_bits : (a b more : Bool) → ((a && b) || ((a || b) && more)) ≡ (if more then a || b else a && b)
+by_bits true true true = refl
+by_bits true true false = refl
+by_bits true false true = refl
+by_bits true false false = refl
+by_bits false true true = refl
+by_bits false true false = refl
+by_bits false false true = refl
+by_bits false false false = refl
+
+module _ (n : ℕ) (sum carry more : List ℕ) (sum_long : length sum ≡ n) (long : length carry ≡ n) (more_long : length more ≡ n) (p : ℕ) (near : p < 64 * n) where
+  sum_bit : bit_of (zip2 bit_xor (zip2 bit_xor sum carry) more) p ≡ differ (differ (bit_of sum p) (bit_of carry p)) (bit_of more p)
+  sum_bit =
+      let first : length (zip2 bit_xor sum carry) ≡ n = length-zip2 bit_xor sum carry (sum_long ∙ sym long) ∙ sum_long in
+      xor_bit (zip2 bit_xor sum carry) more (first ∙ sym more_long) p (omega (arith, near, first))
+      ∙ ap (λ b. differ b (bit_of more p)) (xor_bit sum carry (sum_long ∙ sym long) p (omega (arith, near, sum_long)))
+
+  carry_bit : bit_of (zip2 bit_or (zip2 bit_and sum carry) (zip2 bit_and (zip2 bit_or sum carry) more)) p
+      ≡ (if bit_of more p then bit_of sum p || bit_of carry p else bit_of sum p && bit_of carry p)
+  carry_bit =
+      let both : length (zip2 bit_and sum carry) ≡ n = length-zip2 bit_and sum carry (sum_long ∙ sym long) ∙ sum_long in
+      let either : length (zip2 bit_or sum carry) ≡ n = length-zip2 bit_or sum carry (sum_long ∙ sym long) ∙ sum_long in
+      let third : length (zip2 bit_and (zip2 bit_or sum carry) more) ≡ n = length-zip2 bit_and (zip2 bit_or sum carry) more (either ∙ sym more_long) ∙ either in
+      or_bit (zip2 bit_and sum carry) (zip2 bit_and (zip2 bit_or sum carry) more) (both ∙ sym third) p (omega (arith, near, both))
+      ∙ ap₂ ◌||◌ (and_bit sum carry (sum_long ∙ sym long) p (omega (arith, near, sum_long)))
+      (and_bit (zip2 bit_or sum carry) more (either ∙ sym more_long) p (omega (arith, near, either)) ∙ ap (λ b. b && bit_of more p) (or_bit sum carry (sum_long ∙ sym long) p (omega (arith, near, sum_long))))
+      ∙ by_bits (bit_of sum p) (bit_of carry p) (bit_of more p)
+
+pub returns-clause-sum : goal.returns-clause-sum
+returns-clause-sum c = λ p near. sum_bit 16 c.args.sum.now c.args.carry c.args.more.now (search rules) (search rules) (search rules) p near
+
+pub returns-clause-carry : goal.returns-clause-carry
+returns-clause-carry c = λ p near. carry_bit 16 c.args.sum.now c.args.carry c.args.more.now (search rules) (search rules) (search rules) p near

@@ -24,7 +24,7 @@ places-preserved c =
     let sums = c.places.sums in
     let by = c.args.by in
     let within : k < length sums = omega (arith, c.places-test.true, c.places.invariant.long) in
-    let place = c.add_place.new.sum in
+    let place = c.add_place-carry.new.sum in
     let more = c.args.more.now in
     let raised : (p x : ℕ) → IsNumberAt more p x → bit_of (get_or more (k - by) []) p ≡ has_place k (x * 2 ^ by) = λ p x first.
     first (k - by) (omega (arith, within, c.requires.same, c.places.invariant.long)) ∙ sym (raised_high x by k c.places.auto.k) in
@@ -33,7 +33,7 @@ places-preserved c =
       carries = λ p x y near first second.
           let carry = bit_of c.places.carry p in
           let part : bit_of (get_or sums k []) p ≡ has_place k y = ap (λ ws. bit_of ws p) (c.places.invariant.rest k (omega arith)) ∙ second k (omega (arith, within, c.places.invariant.long)) in
-          c.add_place.ensures.carry p near
+          c.add_place-carry.ensures.carry p near
           ∙ (λ i. if raised p x first i then part i || c.places.invariant.carries p x y near first second i else part i && c.places.invariant.carries p x y near first second i)
           ∙ sum_carry y (x * 2 ^ by) k;
       done = λ p x y near first second j below there. elim (cases_eq j k) [
@@ -41,7 +41,7 @@ places-preserved c =
             let part : bit_of (get_or sums k []) p ≡ has_place k y = ap (λ ws. bit_of ws p) (c.places.invariant.rest k (omega arith)) ∙ second k (omega (arith, within, c.places.invariant.long)) in
             ap (λ i. bit_of (get_or (set sums k place) i []) p) same
             ∙ ap (λ ws. bit_of ws p) (get_or-set_same sums k place [] within)
-            ∙ c.add_place.ensures.sum p near
+            ∙ c.add_place-carry.ensures.sum p near
             ∙ (λ i. differ (differ (part i) (c.places.invariant.carries p x y near first second i)) (raised p x first i))
             ∙ sym (sum_place y (x * 2 ^ by) k) ∙ ap (λ i. has_place i (y + x * 2 ^ by)) (sym same)
         | inr other ↦ ap (λ ws. bit_of ws p) (get_or-set_other sums k j place [] other) ∙ c.places.invariant.done p x y near first second j (omega arith) there
