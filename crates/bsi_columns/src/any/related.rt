@@ -3,7 +3,7 @@
 //! Where the places that are kept can be compared as they are, they are. Else each column gives the places of its
 //! numbers, block by block.
 
-ghost use Rattle.std.specs.Prelude.{◌≡◌, ℕ, ◌+◌, ◌*◌, ◌<◌, ◌≤◌, ◌&&◌, is_some, None, length, slice_index_or, IsFalse, IsTrue};
+ghost use Rattle.std.specs.Prelude.{◌≡◌, ℕ, ◌+◌, ◌*◌, ◌<◌, ◌≤◌, ◌^◌, ◌&&◌, is_some, None, length, slice_index_or, IsFalse, IsTrue};
 ghost use Rattle.bsi_bits.specs.BitList.{word_count};
 ghost use Rattle.bsi_bits.specs.Packed.{bit_of};
 ghost use Rattle.bsi_columns.specs.AnyRows.{any_entries};
@@ -82,18 +82,38 @@ impl AnyColumn {
     {
         // The proof takes from this that there are at most 2^32 rows, so at most 2^26 words.
         prove!(self.len() <= MAX_LEN);
+        let most = self.size() - 1 + relating.more;
+        let others_most = other.size() - 1 + relating.others_more;
+        let count = places_of(most.max(others_most));
+        let mut buffer = [[0; BLOCK_WORDS]; 3 * MAX_PLACES];
         let len = span.len();
         'blocks: for k in 0..len.div_ceil(BLOCK_WORDS) {
             let from = BLOCK_WORDS * k;
             let block = &mut span[from..len.min(from + BLOCK_WORDS)];
-            self.keep_block(relating, other, at + from, block);
+            let places = &mut buffer[..3 * count];
+            self.keep_block(relating, other, at + from, count, places, block);
         }
     }
 
-    /// Keeps those rows in a block. One without a row takes the time of a look at its words.
-    fn keep_block(&self, relating: Relating, other: &AnyColumn, at: usize, words: &mut [u64])
+    /// Keeps those rows in a block, with room for so many binary places of both columns and as many of an addition. The
+    /// numbers, with what is added to them, are below two to the power of `count`. A block without a row takes a look at
+    /// its words alone.
+    fn keep_block(
+        &self,
+        relating: Relating,
+        other: &AnyColumn,
+        at: usize,
+        count: usize,
+        places: &mut [[u64; BLOCK_WORDS]],
+        words: &mut [u64],
+    )
         requires block { length words.old ≤ BLOCK_WORDS }
-        requires more { (relating.more ≤ max_size) × (relating.others_more ≤ max_size) }
+        requires few { count ≤ MAX_PLACES }
+        requires room { length places.old ≡ 3 * count }
+        requires enough { (r : ℕ) →
+            number_at (any_entries self.now) r + relating.more < 2 ^ count }
+        requires others_enough { (r : ℕ) →
+            number_at (any_entries other.now) r + relating.others_more < 2 ^ count }
         requires within { at + length words.old ≤ word_count (length (any_entries self.now)) }
         requires same { length (any_entries other.now) ≡ length (any_entries self.now) }
         ensures long { length words.new ≡ length words.old }
@@ -103,14 +123,10 @@ impl AnyColumn {
         if is_clear(words) {
             return;
         }
-        let most = self.size() - 1 + relating.more;
-        let others_most = other.size() - 1 + relating.others_more;
-        let count = places_of(most.max(others_most));
-        let mut own = [[0; BLOCK_WORDS]; MAX_PLACES];
-        let mut others = [[0; BLOCK_WORDS]; MAX_PLACES];
-        let (own, others) = (&mut own[..count], &mut others[..count]);
-        self.sums_into(relating.more, at, words.len(), own);
-        other.sums_into(relating.others_more, at, words.len(), others);
+        let (own, rest) = places.split_at_mut(count);
+        let (others, above) = rest.split_at_mut(count);
+        self.sums_into(relating.more, at, words.len(), above, own);
+        other.sums_into(relating.others_more, at, words.len(), above, others);
         let (standing, wanted) = Standing::of(relating.op);
         let mut state = [0; BLOCK_WORDS];
         stand(standing, own, others, &mut state);
@@ -121,10 +137,18 @@ impl AnyColumn {
 
     /// Writes the binary places of the numbers of a block of so many words, to each of which the same is added. The first
     /// word stands for the 64 rows from row `64 * at` on. A null row counts as 0. Of a sum that does not fit, the places
-    /// that there are.
-    fn sums_into(&self, more: u64, at: usize, words: usize, places: &mut [[u64; BLOCK_WORDS]])
+    /// that there are. `above` is room for as many places.
+    fn sums_into(
+        &self,
+        more: u64,
+        at: usize,
+        words: usize,
+        above: &mut [[u64; BLOCK_WORDS]],
+        places: &mut [[u64; BLOCK_WORDS]],
+    )
         requires block { words ≤ BLOCK_WORDS }
         requires few { length places.old ≤ MAX_PLACES }
+        requires room { length above.old ≡ length places.old }
         requires within { at + words ≤ word_count (length (any_entries self.now)) }
         ensures long { length places.new ≡ length places.old }
         ensures sums { (p : ℕ) → p < 64 * words → 64 * at + p < length (any_entries self.now) →
@@ -132,8 +156,8 @@ impl AnyColumn {
     {
         match self {
             AnyColumn::Slices(column) => slice_places(column, at, words, places),
-            AnyColumn::Equality(column) => column.places_into(at, words, places),
-            AnyColumn::Range(column) => column.places_into(at, words, places),
+            AnyColumn::Equality(column) => column.places_into(at, words, above, places),
+            AnyColumn::Range(column) => column.places_into(at, words, above, places),
         }
         add_each(more, places);
     }

@@ -10,7 +10,7 @@ ghost use Rattle.bsi_words.specs.Places.{has_place};
 
 use crate::BinaryPlaces;
 use crate::decomposed::Decomposed;
-use crate::places::{BLOCK_WORDS, MAX_PLACES, add_times};
+use crate::places::{BLOCK_WORDS, add_times};
 use bsi_bits::MAX_BLOCK;
 use bsi_components::place_count;
 use bsi_slices::transposing::transpose;
@@ -33,17 +33,22 @@ impl<E: BinaryPlaces> Decomposed<E> {
     }
 
     /// Writes the binary places of the numbers of a block of so many words. The first word stands for the 64 rows from
-    /// row `64 * at` on. A null row counts as 0. Of a number that does not fit, the places that there are.
-    pub fn places_into(&self, at: usize, words: usize, places: &mut [[u64; BLOCK_WORDS]])
+    /// row `64 * at` on. A null row counts as 0. Of a number that does not fit, the places that there are. `above` is room
+    /// for as many places.
+    pub fn places_into(
+        &self,
+        at: usize,
+        words: usize,
+        above: &mut [[u64; BLOCK_WORDS]],
+        places: &mut [[u64; BLOCK_WORDS]],
+    )
         requires block { words ≤ BLOCK_WORDS }
-        requires few { length places.old ≤ MAX_PLACES }
+        requires room { length above.old ≡ length places.old }
         requires within { at + words ≤ word_count (length self.now.entries) }
         ensures long { length places.new ≡ length places.old }
         ensures numbers { (p : ℕ) → p < 64 * words → 64 * at + p < length self.now.entries →
             IsNumberAt places.new p (number_at self.now.entries (64 * at + p)) }
     {
-        let mut above = [[0; BLOCK_WORDS]; MAX_PLACES];
-        let above = &mut above[..places.len()];
         let bases = self.bases();
         let top = bases.len() - 1;
         digit_places(self.component(top), at, words, places);

@@ -1,4 +1,4 @@
-use Rattle.std.proofs.Common.{◌≡◌, ℕ, ◌+◌, ◌<◌, ◌&&◌, ◌||◌, [], length, get_or, set, length-set, inl, inr, ap, sym, ◌∙◌, arith}
+use Rattle.std.proofs.Common.{◌≡◌, ℕ, ◌+◌, ◌<◌, ◌&&◌, ◌||◌, [], length, get_or, set, length-set, inl, inr, ap, sym, ◌∙◌, rules, arith}
 use Rattle.std.specs.Prelude.{◌==◌, if◌then◌else◌}
 use Rattle.std.specs.Int.{bit_at}
 use Rattle.std.proofs.lemmas.Bool.{cases_eq}
@@ -6,12 +6,21 @@ use Rattle.std.proofs.lemmas.List.{get_or-set_same, get_or-set_other}
 use Rattle.bsi_bits.specs.BitList.{differ}
 use Rattle.bsi_bits.specs.Packed.{bit_of}
 use Rattle.bsi_bits.proofs.Reading.{all_set, none_set}
+use Rattle.bsi_slices.proofs.StateWords.{no_row}
 use Rattle.bsi_words.specs.Places.{has_place}
 use Rattle.bsi_columns.specs.NumberPlaces.{IsNumberAt}
-use Rattle.bsi_columns.proofs.PlaceSums.{place_none, place_one, sum_carry, sum_place}
+use Rattle.bsi_columns.proofs.PlaceSums.{no_carry, place_none, place_one, sum_carry, sum_place}
 use Rattle.bsi_columns.proofs.WordSpans.{replicate_bit}
 use Rattle.bsi_columns.proofs.places.add_each.Goals.{then-number-k-eq1, else-number-k-eq1}
 use Rattle.bsi_columns.proofs.places.add_each.Goals as goal
+
+pub places-init : goal.places-init
+places-init c = record {
+  long = search rules;
+  carries = λ p x near first. no_row 16 p ∙ sym (no_carry x c.args.number);
+  done = λ p x near first j below. absurd (omega arith);
+  rest = λ j past. search rules;
+}
 
 pub places-preserved : goal.places-preserved
 places-preserved c =

@@ -16,7 +16,7 @@ returns-clause-kept c = λ p below.
     let entries = any_entries c.args.self.now in
     let others = any_entries c.args.other.now in
     let n = length c.keep_numbers-2.new.span in
-    let count = c.places_of-count.result in
+    let count = c.args.count in
     let state = c.stand.new.state in
     let wanted = c.of-standing.result.1 in
     let same : n ≡ length c.args.words.now = c.keep_numbers-2.ensures.long ∙ c.keep_numbers.ensures.long in
@@ -24,19 +24,15 @@ returns-clause-kept c = λ p below.
     let answer = as_wanted wanted (bit_of (take n state) p) in
     let x = number_at entries r + relating.more in
     let y = number_at others r + relating.others_more in
-    let clear : List (List ℕ) = replicate 64 (replicate 16 0) in
-    let cut : length (take count clear) ≡ count = length-take count clear ∙ omega (arith, length-replicate {A = List ℕ} 64 (replicate 16 0), c.places_of-count.ensures.few) in
-    let long : length c.sums_into.new.places ≡ count = c.sums_into.ensures.long ∙ cut in
+    let long : length c.sums_into.new.places ≡ count = c.sums_into.ensures.long ∙ c.split_at_mut-own.ensures.front_len in
     c.keep_wanted.ensures.bits p (omega (arith, below, same))
     ∙ ap (λ b. b && answer) (c.keep_numbers-2.ensures.bits p (omega (arith, below, c.keep_numbers.ensures.long)) ∙ ap (λ b. b && is_some (get_or others r None)) (c.keep_numbers.ensures.bits p below))
     ∙ entries_kept relating (bit_of c.args.words.now p) answer (get_or entries r None) (get_or others r None) (λ there.
     let row : r < length entries = row_within entries r there in
     let other_row : r < length others = omega (arith, row, c.requires.same) in
-    let first : x < 2 ^ count = omega (arith, c.size.ensures.below r None row, c.size.ensures.size, c.size.ensures.within, c.max.ensures, c.places_of-count.ensures.enough) in
-    let second : y < 2 ^ count = omega (arith, c.size-2.ensures.below r None other_row, c.size-2.ensures.size, c.size-2.ensures.within, c.max.ensures, c.places_of-count.ensures.enough) in
     ap (as_wanted wanted) (taken ∙ c.stand.ensures p x y (omega (arith, below, c.requires.block))
-    (subst (λ m. x < 2 ^ m) (sym long) first)
-    (subst (λ m. y < 2 ^ m) (sym long) second)
+    (subst (λ m. x < 2 ^ m) (sym long) (c.requires.enough r))
+    (subst (λ m. y < 2 ^ m) (sym long) (c.requires.others_enough r))
     (c.sums_into.ensures.sums p below row)
     (c.sums_into-2.ensures.sums p below other_row))
     ∙ sym (c.of-standing.ensures x y))
