@@ -17,13 +17,13 @@ use std::simd::Simd;
 
 /// The words of a block. At most 64 places of both columns and as many of an addition take 24 KiB, so they stay in the
 /// first cache.
-pub const BLOCK_WORDS: usize = 16;
+pub(crate) const BLOCK_WORDS: usize = 16;
 
 /// The most binary places of a number.
-pub const MAX_PLACES: usize = 64;
+pub(crate) const MAX_PLACES: usize = 64;
 
 /// Returns so many binary places that a number is below two to their power.
-pub fn places_of(number: u64) -> usize
+pub(crate) fn places_of(number: u64) -> usize
     ensures few { result ≤ MAX_PLACES }
     ensures enough { number < 2 ^ result }
 {
@@ -32,7 +32,12 @@ pub fn places_of(number: u64) -> usize
 
 /// Writes the binary places of the numbers of a block of so many words of a column of slices. The first word stands for
 /// the 64 rows from row `64 * at` on. A null row counts as 0.
-pub fn slice_places(column: &Slices, at: usize, words: usize, places: &mut [[u64; BLOCK_WORDS]])
+pub(crate) fn slice_places(
+    column: &Slices,
+    at: usize,
+    words: usize,
+    places: &mut [[u64; BLOCK_WORDS]],
+)
     requires block { words ≤ BLOCK_WORDS }
     requires within { at + words ≤ word_count (length column.now.entries) }
     ensures long { length places.new ≡ length places.old }
@@ -60,7 +65,7 @@ fn slice_place(column: &Slices, k: usize, at: usize, words: usize, place: &mut [
 }
 
 /// Writes for each row of a block whether its two numbers stand so.
-pub fn stand(
+pub(crate) fn stand(
     standing: Standing,
     first: &[[u64; BLOCK_WORDS]],
     second: &[[u64; BLOCK_WORDS]],
@@ -78,7 +83,7 @@ pub fn stand(
 }
 
 /// Adds the same number to each of a block. Of a sum that does not fit, the places that there are.
-pub fn add_each(number: u64, sums: &mut [[u64; BLOCK_WORDS]])
+pub(crate) fn add_each(number: u64, sums: &mut [[u64; BLOCK_WORDS]])
     requires few { length sums.old ≤ MAX_PLACES }
     ensures long { length sums.new ≡ length sums.old }
     ensures sums { (p x : ℕ) → p < 64 * BLOCK_WORDS → IsNumberAt sums.old p x →
@@ -96,7 +101,7 @@ pub fn add_each(number: u64, sums: &mut [[u64; BLOCK_WORDS]])
 
 /// Adds to each number of a block so many times that of another block. Of a sum that does not fit, the places that there
 /// are.
-pub fn add_times(more: &[[u64; BLOCK_WORDS]], times: u32, sums: &mut [[u64; BLOCK_WORDS]])
+pub(crate) fn add_times(more: &[[u64; BLOCK_WORDS]], times: u32, sums: &mut [[u64; BLOCK_WORDS]])
     requires same { length more.now ≡ length sums.old }
     ensures long { length sums.new ≡ length sums.old }
     ensures sums { (p x y : ℕ) → p < 64 * BLOCK_WORDS → IsNumberAt more.now p x →

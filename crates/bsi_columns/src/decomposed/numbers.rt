@@ -35,7 +35,7 @@ impl<E: BinaryPlaces> Decomposed<E> {
     /// Writes the binary places of the numbers of a block of so many words. The first word stands for the 64 rows from
     /// row `64 * at` on. A null row counts as 0. Of a number that does not fit, the places that there are. `above` is room
     /// for as many places.
-    pub fn places_into(
+    pub(crate) fn places_into(
         &self,
         at: usize,
         words: usize,

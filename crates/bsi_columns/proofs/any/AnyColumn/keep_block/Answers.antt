@@ -1,7 +1,7 @@
-use Rattle.std.proofs.Common.{◌≡◌, ℕ, ◌+◌, ◌*◌, ◌/◌, ◌%◌, ◌<◌, ◌^◌, ◌&&◌, None, List, is_some, length, length-take, take, get_or, replicate, subst, ap, sym, ◌∙◌, arith}
+use Rattle.std.proofs.Common.{◌≡◌, ◌+◌, ◌*◌, ◌/◌, ◌%◌, ◌<◌, ◌^◌, ◌&&◌, None, is_some, length, take, get_or, subst, ap, sym, ◌∙◌, arith}
 use Rattle.std.specs.Prelude.{◌==◌}
 use Rattle.std.specs.Int.{bit_at}
-use Rattle.std.proofs.lemmas.List.{get_or-take, length-replicate}
+use Rattle.std.proofs.lemmas.List.{get_or-take}
 use Rattle.bsi_bits.specs.Packed.{bit_of}
 use Rattle.bsi_slices.specs.Decisions.{as_wanted}
 use Rattle.bsi_columns.specs.AnyRows.{any_entries}
