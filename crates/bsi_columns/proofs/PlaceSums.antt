@@ -19,11 +19,6 @@ place_past x n k past small =
     ap (λ b. b == 1) (bit_at_above x n k small past)
 
 -- the places of a number times a power of two
-pub raised_low : (x by k : ℕ) → k < by → has_place k (x * 2 ^ by) ≡ false
-raised_low x by k low =
-    let whole : x * 2 ^ by ≡ x * 2 ^ by + 0 = omega arith in
-    ap (λ m. bit_at m k == 1) whole ∙ ap (λ b. b == 1) (bit_at_cat_low x by 0 k low ∙ bit_at-zero k)
-
 pub raised_high : (x by k : ℕ) → by ≤ k → has_place k (x * 2 ^ by) ≡ has_place (k - by) x
 raised_high x by k high =
     let whole : x * 2 ^ by ≡ x * 2 ^ by + 0 = omega arith in

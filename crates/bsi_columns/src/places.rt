@@ -19,7 +19,7 @@ use std::simd::Simd;
 /// first cache.
 pub(crate) const BLOCK_WORDS: usize = 16;
 
-/// The most binary places of a number.
+/// The most binary places of a number and of what is added to it.
 pub(crate) const MAX_PLACES: usize = 64;
 
 /// Returns so many binary places that a number is below two to their power.

@@ -23,10 +23,10 @@ use bsi_words::spans::keep_in;
 
 impl AnyColumn {
     /// Keeps in a span of words the rows whose number here compares, as `relating` says, with that of another column of
-    /// as many rows. The first word stands for the 64 rows from row `64 * at` on. A row that is null in one of the two is
-    /// not kept, nor a bit past the last row. It takes no memory. It goes by binary places: those that are kept where
-    /// both columns are of slices or, if the same is added to both numbers, under the same bases, and else those of the
-    /// numbers, which take a few additions of places for each digit.
+    /// as many rows. What is added to a number is at most 2^63. The first word stands for the 64 rows from row `64 * at`
+    /// on. A row that is null in one of the two is not kept, nor a bit past the last row. It takes no memory. Binary
+    /// places are compared: those that are kept where both columns are of slices, or under the same bases with the same
+    /// added to both numbers. Else they are those of the numbers, which take a few additions of places for each digit.
     pub fn keep_related(&self, relating: Relating, other: &AnyColumn, at: usize, span: &mut [u64])
         requires more { (relating.more ≤ max_size) × (relating.others_more ≤ max_size) }
         requires within { at + length span.old ≤ word_count (length (any_entries self.now)) }

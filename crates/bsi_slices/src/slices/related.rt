@@ -23,7 +23,7 @@ use bsi_bits::{Bits, know_fits, lanes};
 /// The most words of a block. Those of both columns, the state and the sums take 20 KiB, so they stay in the first cache.
 const BLOCK_WORDS: usize = 512;
 
-/// A comparison of two numbers, and what is added to each of them before, below 2^63.
+/// A comparison of two numbers, and what is added to each of them before, at most 2^63.
 #[derive(Clone, Copy)]
 pub struct Relating {
     /// What is added to the first number.
