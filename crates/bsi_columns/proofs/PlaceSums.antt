@@ -6,7 +6,7 @@ use Rattle.std.proofs.Math.Nat.{mod-add-div', mul-mod_left}
 use Rattle.std.proofs.lemmas.Bool.{cases_lt}
 use Rattle.std.proofs.lemmas.Bool.Decides.{nat_tests}
 use Rattle.std.proofs.lemmas.Nat.{mod_below, pow-add, pow_pos}
-use Rattle.std.proofs.lemmas.Nat.Bits.{bit_at-zero, bit_at_above, bit_at_cat_high, bit_at_cat_low, bit_at_lowest, shr_and_one}
+use Rattle.std.proofs.lemmas.Nat.Bits.{bit_at_above, bit_at_cat_high, bit_at_cat_low, bit_at_lowest, shr_and_one}
 use Rattle.bsi_bits.specs.BitList.{differ}
 use Rattle.bsi_slices.specs.Slices.{bit_value}
 use Rattle.bsi_slices.proofs.Related.{carry_more}
