@@ -1,10 +1,10 @@
-//! The ranks, the different numbers and the first rows of worked rows. Where memory is refused, the same call is made
-//! again.
+//! The ranks, the quantiles, the different numbers and the first rows of worked rows. Where memory is refused, the same
+//! call is made again.
 
 use crate::tables::{append_row, index_of};
 use bsi_columns::{NoMemory, Op};
 use bsi_fixtures::{DeclaredColumn, FORMS, QTY, TestForm, row_of};
-use bsi_groups::{End, TopRow, distinct, ranks, top};
+use bsi_groups::{End, Share, TopRow, distinct, quantile, ranks, top};
 use bsi_table::{AskError, Index, IndexError, Pred};
 use std::alloc::Global;
 
@@ -75,6 +75,41 @@ fn ranks_of_a_column(rt: HostRuntime) {
     for form in FORMS {
         assert!(rt; matches!(is_ranked(rt.alloc(), form), Ok(true)), "{form:?}");
     }
+}
+
+fn found_at(index: &Index, c: u32, share: Share, pred: &Pred) -> Result<Option<i64>, AskError> {
+    match quantile(index, c, share, pred) {
+        Err(AskError::NoMemory) => quantile(index, c, share, pred),
+        found => found,
+    }
+}
+
+// Of the numbers -3, -3, 0, 2 and 2 of all rows, of 0, 2 and 2, and of none.
+fn has_quantiles(alloc: Global, form: TestForm) -> Result<bool, IndexError> {
+    let index = six_rows(alloc, form)?;
+    let (Some(half), Some(most)) = (Share::new(1, 2), Share::new(4, 5)) else {
+        return Ok(false);
+    };
+    Ok(
+        found_at(&index, 0, half, &Pred::All) == Ok(Some(0))
+            && found_at(&index, 0, most, &Pred::All) == Ok(Some(2))
+            && found_at(&index, 0, half, &SOME) == Ok(Some(2))
+            && found_at(&index, 0, half, &Pred::Null(0)) == Ok(None)
+            && found_at(&index, 2, half, &Pred::All) == Err(AskError::BadColumn(2)),
+    )
+}
+
+#[test]
+fn quantiles_of_a_column(rt: HostRuntime) {
+    for form in FORMS {
+        assert!(rt; matches!(has_quantiles(rt.alloc(), form), Ok(true)), "{form:?}");
+    }
+}
+
+#[test]
+fn a_share_is_of_a_whole_with_parts(rt: HostRuntime) {
+    let none = Share::new(3, 2).is_none() && Share::new(0, 0).is_none();
+    assert!(rt; none && Share::new(2, 2).is_some(), "a share");
 }
 
 fn differing(alloc: Global, index: &Index, c: u32, pred: &Pred) -> Result<u64, AskError> {
