@@ -15,12 +15,12 @@ use bsi_shift::Shifted;
 use bsi_table::{AskError, Index, NoMemory, Pred};
 use std::alloc::Global;
 
-/// How many numbers are taken out of a found set one by one. Each takes about as long as a comparison.
+/// How many numbers are taken out of a found set one by one. Each takes about twice as long as a comparison.
 const MAX_TAKEN: u64 = 32;
 
 /// Returns how many different numbers column `c` has at the rows that a predicate selects. A null is no number. Where there
-/// are more than 32, it copies the others, eight bytes each, and sorts them. The first column that is not there is told:
-/// `c`, else one of the predicate's.
+/// are more than 32, it copies the numbers of the rows that have others, with eight bytes for each row that is left, and
+/// sorts them. The first column that is not there is told: `c`, else one of the predicate's.
 pub fn distinct(alloc: Global, index: &Index, c: u32, pred: &Pred) -> Result<u64, AskError>
     ensures { IsReplyOn index.now.schema c pred.now (λ count. count
         ≡ distinct_count int_eq (selected_numbers c pred.now index.now.rows)) result }
@@ -64,7 +64,7 @@ fn numbers_at(alloc: Global, column: &Shifted, found: &Bits) -> Result<Vec<i64>,
     ensures { IfOk result (λ numbers. numbers.items
         ≡ values_at found.now.bits (shifted_entries column.now)) }
 {
-    let mut numbers = Vec::new(alloc);
+    let mut numbers = Vec::with_capacity(alloc, found.count() as usize)?;
     let mut block = [0; MAX_BLOCK];
     'words: for (at, rows) in found.words().iter().enumerate() {
         if *rows != 0 {

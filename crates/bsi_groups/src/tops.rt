@@ -180,7 +180,7 @@ fn nearest(end: End, rows: u64, block: &[i64; MAX_BLOCK]) -> i64 {
 }
 
 /// Lists the same by a bound, which may be any number: where enough rows are beyond it, only those are looked at, and
-/// where no more than `most` are, those that have it follow.
+/// where no more than `most` are, those that have it follow. Where these are too few, it goes by a rank of all rows.
 fn rows_near(
     alloc: Global,
     column: &Shifted,
