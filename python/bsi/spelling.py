@@ -17,7 +17,7 @@ import numpy as np
 from .dates import is_date, is_numeric, nanoseconds_by, nanoseconds_of_date, numeric_of
 from .digits import DIGITS, POWERS, Numbers, moments_of, numbers_of, ungrouped
 from .distinct import Distinct
-from .fields import Fields
+from .fields import Fields, fields_of
 from .kinds import NANOSECONDS, NUMBER, UNITS, Decimals, Flags, Kind, Texts, Times, Whole, shown
 from .narrowing import MAX_TEXTS
 
@@ -356,10 +356,22 @@ def dates_meant(texts: List[str], options: Options) -> Meaning:
 def looks_of(texts: Counter, options: Options) -> Dict[str, int]:
     """Returns how many of the texts look like numbers, dates, booleans, nothing and others."""
     looks = {"number": 0, "date": 0, "flag": 0, "nothing": 0, "text": 0, "form": 0}
+    plain = _plain_looks(list(texts)) if options.dates is None else {}
     for text, count in texts.items():
-        looks[_look(text.strip(" \t"), options)] += count
+        looks[plain.get(text) or _look(text.strip(" \t"), options)] += count
     looks["date"] += looks.pop("form")
     return looks
+
+
+def _plain_looks(texts: List[str]) -> Dict[str, str]:
+    """Returns what those texts look like that are spelt as nearly all numbers are, or as the first date is."""
+    look = _look(texts[0], Options()) if texts else "text"
+    if look not in ("date", "number"):
+        return {}
+    fields = fields_of(texts)
+    found = moments_of(fields, texts[0]) if look == "date" else numbers_of(fields, ord("."))
+    read = np.zeros(len(texts), bool) if found is None else found.read
+    return {texts[place]: look for place in np.flatnonzero(read).tolist()}
 
 
 def _look(text: str, options: Options) -> str:
