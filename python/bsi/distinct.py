@@ -14,26 +14,60 @@ WORDS = 8
 FACTOR = np.uint64(0x9E37_79B9_7F4A_7C15)
 
 
+# The places of a table by which texts are found: so many for each text, and at most so many.
+SPARSE, MOST_PLACES = 16, 1 << 20
+
+
 class Known(NamedTuple):
-    """Texts in the order of their keys, with their numbers, lengths and words, as many as the longest has."""
+    """Texts in the order of their keys, with their numbers, lengths and words, as many as the longest has; and a table
+    that says where a key stands, by its bits when it is multiplied but for so many of the lowest."""
 
     keys: np.ndarray
     codes: np.ndarray
     lengths: np.ndarray
     words: np.ndarray
+    table: np.ndarray
+    lowest: np.uint64
+
+    @classmethod
+    def of(cls, keys: np.ndarray, codes: np.ndarray, lengths: np.ndarray, words: np.ndarray) -> "Known":
+        """Returns texts in whatever order they are."""
+        order = np.argsort(keys)
+        bits = min(SPARSE * len(keys), MOST_PLACES).bit_length()
+        table, lowest = np.zeros(1 << bits, np.int64), np.uint64(64 - bits)
+        table[_places_of(keys[order], lowest)] = np.arange(len(keys))
+        return cls(keys[order], codes[order], lengths[order], words[:, order], table, lowest)
 
     def codes_of(self, asked: "Asked") -> np.ndarray:
         """Returns the number of each text that is known, and -1 for the others."""
         if not len(self.keys):
             return np.full(len(asked.keys), -1, np.int64)
-        places = np.minimum(np.searchsorted(self.keys, asked.keys), len(self.keys) - 1)
-        is_same = (self.keys[places] == asked.keys) & (self.lengths[places] == asked.lengths)
+        places = self.table[_places_of(asked.keys, self.lowest)]
+        is_same = self._are(places, asked)
+        if not is_same.all():
+            # (it is new, or another text stands in its place of the table)
+            rest = np.flatnonzero(~is_same)
+            left = asked.taken(rest)
+            places[rest] = np.minimum(np.searchsorted(self.keys, left.keys), len(self.keys) - 1)
+            is_same[rest] = self._are(places[rest], left)
+        codes = self.codes[places]
+        codes[~is_same] = -1
+        return codes
+
+    def _are(self, places: np.ndarray, asked: "Asked") -> np.ndarray:
+        """Returns which of the texts are those that stand at these places."""
+        is_same = self.lengths[places] == asked.lengths
         for known, words in zip(self.words, asked.words):
             is_same &= known[places] == words
-        return np.where(is_same, self.codes[places], -1)
+        return is_same
 
 
-NONE = Known(np.zeros(0, np.uint64), np.zeros(0, np.int64), np.zeros(0, np.int64), np.zeros((0, 0), np.uint64))
+def _places_of(keys: np.ndarray, lowest: np.uint64) -> np.ndarray:
+    """Returns the places of keys in a table."""
+    return ((keys * FACTOR) >> lowest).view(np.int64)
+
+
+NONE = Known.of(np.zeros(0, np.uint64), *np.zeros((2, 0), np.int64), np.zeros((0, 0), np.uint64))
 
 
 class Asked(NamedTuple):
@@ -108,10 +142,9 @@ class Distinct:
         words[: len(known.words), : len(known.keys)] = known.words
         for place, word in enumerate(asked.words):
             words[place, len(known.keys) :] = word[first]
-        order = np.argsort(keys)
-        self._known = Known(
-            keys[order],
-            np.concatenate([known.codes, codes])[order],
-            np.concatenate([known.lengths, asked.lengths[first]])[order],
-            words[:, order],
+        self._known = Known.of(
+            keys,
+            np.concatenate([known.codes, codes]),
+            np.concatenate([known.lengths, asked.lengths[first]]),
+            words,
         )

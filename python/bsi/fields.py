@@ -67,10 +67,11 @@ class Fields(NamedTuple):
         """Returns the bytes of each field by eights, zero behind its end."""
         lengths, windows = self.ends - self.starts, windows_of(self.data)
         last = len(windows) - 1
-        return [
-            windows[np.minimum(self.starts + place, last)] & MASKS[np.clip(lengths - place, 0, WORD)]
-            for place in range(0, max(1, int(lengths.max(initial=0))), WORD)
-        ]
+        words = [windows[self.starts] & MASKS[np.minimum(lengths, WORD)]]
+        for place in range(WORD, int(lengths.max(initial=0)), WORD):
+            left = np.minimum(np.maximum(lengths - place, 0), WORD)
+            words.append(windows[np.minimum(self.starts + place, last)] & MASKS[left])
+        return words
 
 
 def _are_blank(data: np.ndarray) -> np.ndarray:
