@@ -7,6 +7,7 @@ their kind.
 from __future__ import annotations
 
 import re
+from functools import lru_cache
 from typing import List, NamedTuple, Optional, Tuple
 
 import numpy as np
@@ -23,6 +24,15 @@ TAILS = np.array([((1 << 64) - 1) ^ ((1 << 64 - 8 * size) - 1) for size in range
 # How two, four and eight digits of a word become one number each.
 STEPS = [(0x0F0F0F0F0F0F0F0F, 2561, 8), (0x00FF00FF00FF00FF, 6553601, 16), (0x0000FFFF0000FFFF, 42949672960001, 32)]
 JOINED = [tuple(map(np.uint64, step)) for step in STEPS]
+# Of a date from its third byte on: what may be added to each byte before it leaves the digits that may stand there
+# (so a month begins with 0 or 1, and a day with 0 to 3); where the year, the month and the day begin; and what adds the
+# ones before to each of them, WIDTH times.
+WIDTH = 40
+BELOW, STARTS = bytes((6, 6, 15, 14, 6, 15, 12, 6)), bytes((255, 0, 0, 255, 0, 0, 255, 0))
+LIMITS, PAIRS = (np.uint64(int.from_bytes(part, "little")) for part in (BELOW, STARTS))
+SPREAD = np.uint64(1 + (WIDTH << 24))
+# How many days 400 years have, and what stands for a day that the calendar does not have.
+CYCLE, NO_DAY = 146_097, -(1 << 40)
 SHAPE = re.compile(r"(\d{4})([-/])(\d\d)\2(\d\d)(?:[T ](\d\d):(\d\d)(?::(\d\d)(?:\.(\d{1,9}))?)?)?(Z?)", re.ASCII)
 
 
@@ -168,10 +178,8 @@ def moments_of(fields: Fields, sample: str) -> Optional[Moments]:
     read = ends - starts == len(sample)
     for place in (place for place in range(10, len(sample)) if not sample[place].isdigit()):
         read &= data[np.minimum(starts + place, len(data) - 1)] == ord(sample[place])
-    (century, year, month), is_month = _pairs(data, starts, sample, 0, (0, 2, 5))
-    (day,), is_day = _pairs(data, starts, sample, 2, (6,))
-    days, is_there = _days(century * 100 + year, month, day)
-    read &= is_month & is_day & is_there
+    days, are_there = _days(data, starts, sample[4])
+    read &= are_there
     seconds = nanoseconds = np.broadcast_to(np.int64(0), len(read))
     if shape.group(5):
         start, places = (11, (0, 3, 6)) if shape.group(7) else (8, (3, 6))
@@ -199,11 +207,48 @@ def _pairs(
     return [((words >> np.uint64(8 * place)) & np.uint64(0xFF)).view(np.int64) for place in places], read
 
 
-def _days(year: np.ndarray, month: np.ndarray, day: np.ndarray) -> Tuple[np.ndarray, np.ndarray]:
-    """Returns the days since 1970-01-01, and which of them the calendar has."""
-    is_month = (month >= 1) & (month <= 12)
-    months = np.where(is_month, (year - 1970) * 12 + month - 1, 0)
-    first, last = (int(months.min()), int(months.max())) if len(months) else (0, 0)
-    begins = np.arange(first, last + 2).astype("M8[M]").astype("M8[D]").astype(np.int64)
-    begin, end = begins[months - first], begins[months - first + 1]
-    return begin + day - 1, is_month & (day >= 1) & (begin + day <= end)
+def _days(data: np.ndarray, starts: np.ndarray, sign: str) -> Tuple[np.ndarray, np.ndarray]:
+    """Returns the days since 1970-01-01 of dates such as 2026-01-31 with this sign, and which of them the calendar
+    has."""
+    wanted = np.uint64(int.from_bytes(f"00{sign}00{sign}00".encode(), "little"))
+    words = windows_of(data)[np.minimum(starts + 2, len(data) - WORD)] ^ wanted
+    read = ((words | (words + LIMITS)) & HIGH) == 0
+    words = (words * np.uint64(10) + (words >> np.uint64(8))) & PAIRS
+    for _ in range(2):
+        words *= SPREAD
+        words >>= np.uint64(24)
+    places = (words & np.uint64((1 << 24) - 1)).view(np.int64)
+    if not read.all():
+        places[~read] = 0
+    centuries = np.ndarray((len(data) - 1,), "<u2", data, 0, (1,))[starts]
+    if (centuries == centuries[0]).all():
+        days = _days_of(int(centuries[0]), places)
+        return days, read & (days > NO_DAY // 2)
+    days = np.full(len(starts), NO_DAY)
+    for century in np.unique(centuries[read]).tolist():
+        here = centuries == century
+        days[here] = _days_of(century, places[here])
+    return days, read & (days > NO_DAY // 2)
+
+
+def _days_of(century: int, places: np.ndarray) -> np.ndarray:
+    """Returns the days since 1970-01-01 at places of a century, which comes as its two digits in bytes."""
+    digits = century.to_bytes(2, "little")
+    if not digits.isdigit():
+        return np.full(len(places), NO_DAY)
+    cycles, rest = divmod(int(digits), 4)
+    return days_of_century(rest)[places] + (cycles - 4) * CYCLE
+
+
+@lru_cache(4)
+def days_of_century(rest: int) -> np.ndarray:
+    """Returns the days since 1970-01-01 of a century from 1600 on, at WIDTH * (WIDTH * year + 2 * month) + day, and
+    NO_DAY elsewhere."""
+    first = 1600 + 100 * rest
+    days = np.arange(f"{first}-01-01", f"{first + 100}-01-01", dtype="M8[D]")
+    months = days.astype("M8[M]")
+    year, month = np.divmod(months.astype(np.int64) + 12 * (1970 - first), 12)
+    day = (days - months).astype(np.int64) + 1
+    found = np.full(100 * WIDTH * WIDTH, NO_DAY)
+    found[WIDTH * (WIDTH * year + 2 * (month + 1)) + day] = days.astype(np.int64)
+    return found
