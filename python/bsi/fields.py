@@ -114,15 +114,17 @@ def split(run: Run, width: int, delimiter: bytes, quote: bytes) -> Optional[Reco
         return None
     data = np.frombuffer(b"".join([LEFT, text, b"" if text.endswith(b"\n") else b"\n", RIGHT]), np.uint8)
     inner = data[PAD:-PAD]
-    are_newlines = inner == NEWLINE
-    are_marks, lines = (inner == delimiter[0]) | are_newlines, int(np.count_nonzero(are_newlines))
+    are_newlines, are_marks = inner == NEWLINE, inner == delimiter[0]
+    are_marks |= are_newlines
+    lines = int(np.count_nonzero(are_newlines))
     if len(run.quotes):
         are_marks &= np.bitwise_xor.accumulate((inner == quote[0]).view(np.uint8)) == 0
-    marks = np.flatnonzero(are_marks) + PAD
+    marks = np.flatnonzero(are_marks)
     if len(marks) % width:
         return None
-    marks = np.ascontiguousarray(marks.reshape(-1, width).T)
-    ends = marks[-1]
+    marks += PAD
+    marks = marks.reshape(-1, width)
+    ends = np.ascontiguousarray(marks[:, -1])
     breaks = lines if not len(run.quotes) else np.count_nonzero(are_marks & are_newlines)
     is_even = breaks == len(ends) and (data[ends] == NEWLINE).all()
     firsts = np.concatenate([[PAD], ends[:-1] + 1])
@@ -133,8 +135,8 @@ def split(run: Run, width: int, delimiter: bytes, quote: bytes) -> Optional[Reco
     ends = _before_return(data, ends) if b"\r" in text else ends
 
     def column(place: int) -> Fields:
-        starts = firsts if place == 0 else marks[place - 1] + 1
-        fields = Fields(data, starts, ends if place == width - 1 else marks[place], are_loose)
+        starts = firsts if place == 0 else marks[:, place - 1] + 1
+        fields = Fields(data, starts, ends if place == width - 1 else np.ascontiguousarray(marks[:, place]), are_loose)
         return _unquoted(fields, quote, doubled) if len(run.quotes) else fields
 
     places = None if lines == len(ends) else np.searchsorted(np.flatnonzero(are_newlines) + PAD, firsts)

@@ -98,10 +98,10 @@ class Source:
         """Returns how many bytes of the file have been read, and 0 for a pipe, which does not know."""
         return self._raw.tell() if self._raw is not None and self._raw.seekable() else 0
 
-    def read(self) -> bytes:
-        """Returns some further text, and nothing at its end."""
+    def read(self, size: int) -> bytes:
+        """Returns some further text, of about so many bytes, and nothing at its end."""
         while True:
-            data = self._packed()
+            data = self._packed(size)
             if isinstance(data, str):
                 return data.encode("utf-8", "surrogateescape")
             if self._decoder is None and not self._is_utf8:
@@ -126,9 +126,9 @@ class Source:
         reason = f"it is no {told} text ({what}); name its encoding, as encoding='cp1252'"
         return BadColumns(f"{self.name}: {reason}")
 
-    def _packed(self) -> Any:
+    def _packed(self, size: int) -> Any:
         try:
-            return self._stream.read(READ) or b""
+            return self._stream.read(size) or b""
         except (zlib.error, EOFError, OSError, ValueError, RuntimeError) as why:
             if self._raw is None or self._stream is self._raw:
                 raise
@@ -170,11 +170,12 @@ class Runs:
 
     def next(self, size: int) -> Run:
         """Returns a run of about so many bytes, and an empty one at the end."""
-        while len(self._rest) < size and self._more():
+        while len(self._rest) < size and self._more(size - len(self._rest)):
             pass
         while True:
-            quotes = _places(self._rest[:size], self._quote)
-            cut = self._cut(self._rest[:size], quotes)
+            text = self._rest[:size]
+            quotes = _places(text, self._quote)
+            cut = self._cut(text, quotes)
             if cut or size >= len(self._rest) and (self._is_end or size > LONGEST):
                 return self._run(cut or len(self._rest), quotes)
             size += READ
@@ -184,8 +185,8 @@ class Runs:
         """Takes text that was not used."""
         self._rest = text + self._rest
 
-    def _more(self) -> bool:
-        more = b"" if self._is_end else self._source.read()
+    def _more(self, size: int = READ) -> bool:
+        more = b"" if self._is_end else self._source.read(size)
         if self._by_returns is None and more:
             self._by_returns = b"\n" not in more and b"\r" in more
         self._is_end |= not more
