@@ -6,7 +6,7 @@ from __future__ import annotations
 from collections import deque
 from dataclasses import replace
 from numbers import Integral
-from typing import Any, Callable, Dict, Iterable, Iterator, List, Mapping, NamedTuple, Optional, Tuple, Union
+from typing import Any, Callable, Deque, Dict, Iterable, Iterator, List, Mapping, NamedTuple, Optional, Tuple, Union
 
 import numpy as np
 
@@ -112,21 +112,38 @@ class Chosen(NamedTuple):
         return sum(block.rows for block in self.columns[0])
 
     def taken(self, most: int) -> Iterator[Entered]:
-        """Yields the numbers of all columns in runs of at most so many rows. What is yielded is not kept."""
+        """Yields the numbers of all columns in runs of at most so many rows. The next run takes the memory of the one
+        before."""
         columns = [deque(blocks) for blocks in self.columns]
+        rooms = [_Entering(min(most, self.rows())) for _ in columns]
         self.columns.clear()
         while columns[0]:
-            taken, rows = [[] for _ in columns], 0  # type: Tuple[List[List[Block]], int]
-            while columns[0] and rows < most:
-                size = min(columns[0][0].rows, most - rows)
-                for blocks, parts in zip(columns, taken):
-                    block = blocks.popleft().plain()
-                    parts.append(block.part(0, size))
-                    if size < block.rows:
-                        blocks.appendleft(block.part(size, block.rows))
-                rows += size
-            if rows:
-                yield [_joined(parts) for parts in taken]
+            found = [room.filled(blocks) for room, blocks in zip(rooms, columns)]
+            if len(found[0][1]):
+                yield found
+
+
+class _Entering:
+    """Memory for the next rows of a column."""
+
+    def __init__(self, most: int):
+        self._numbers, self._valid = np.empty(most, np.int64), np.empty(most, bool)
+
+    def filled(self, blocks: Deque[Any]) -> Tuple[np.ndarray, np.ndarray]:
+        """Takes the first rows from the blocks, as many as there is memory for, and returns their numbers and which of
+        them are valid."""
+        rows = 0
+        while blocks and (rows < len(self._valid) or not blocks[0].rows):
+            block = blocks.popleft().plain()
+            size = min(block.rows, len(self._valid) - rows)
+            if size < block.rows:
+                blocks.appendleft(block.part(size, block.rows))
+            if size == len(self._valid):
+                return block.numbers[:size].astype(np.int64, copy=False), block.valid[:size]
+            self._numbers[rows : rows + size] = block.numbers[:size]
+            self._valid[rows : rows + size] = block.valid[:size]
+            rows += size
+        return self._numbers[:rows], self._valid[:rows]
 
 
 def _joined(blocks: List[Block]) -> Tuple[np.ndarray, np.ndarray]:

@@ -15,6 +15,7 @@ BYTE = 8
 NOTHING = np.zeros(0, np.uint8)
 # How many bytes the system is asked for at once.
 SIZE = 1 << 20
+OWN = mmap.MAP_PRIVATE | mmap.MAP_ANONYMOUS
 # Up to how many rows share the memory that says that all are valid.
 SHARED = 1 << 19
 _all = np.ones(SHARED, bool)
@@ -143,7 +144,7 @@ class Room:
     def _copy(self, given: np.ndarray) -> np.ndarray:
         size = _padded(len(given))
         if size > len(self._left):
-            self._left = np.frombuffer(mmap.mmap(-1, max(SIZE, size)), np.uint8)
+            self._left = np.frombuffer(mmap.mmap(-1, max(SIZE, size), OWN), np.uint8)
         found, self._left = self._left[: len(given)], self._left[size:]
         found[:] = given
         return found
