@@ -78,22 +78,38 @@ def _word(words: np.ndarray, lengths: np.ndarray) -> Tuple[np.ndarray, np.ndarra
 def numbers_of(fields: Fields, point: int) -> Numbers:
     """Reads fields such as 5, -12.50 and .5. Most have as many places as the first."""
     data, starts, ends = fields[:3]
-    is_negative = data[starts] == MINUS
-    starts = starts + is_negative
+    firsts = data[starts]
+    is_negative = firsts == MINUS
+    some_are = bool(is_negative.any())
+    if some_are:
+        starts = starts + is_negative
+        firsts = data[starts]
     first = data[starts[0] : ends[0]].tobytes()
-    behind = np.full(len(starts), len(first) - 1 - first.find(point) if point in first else -1)
-    numbers, read = _pointed(data, starts, ends, behind, point)
+    lengths = ends - starts
+    place = len(first) - 1 - first.find(point) if point in first else -1
+    numbers, read, behind = _alike(data, ends, lengths, place, point)
     others = np.flatnonzero(~read)
     if len(others):
+        behind = np.array(behind)
         behind[others] = _behind_point(data, starts[others], ends[others], point)
         numbers[others], read[others] = _pointed(data, starts[others], ends[others], behind[others], point)
-    places = np.maximum(behind, 0)
-    led = data[starts] == ZERO
+    led = firsts == ZERO
     if led.any():
-        led &= ends - starts - behind > 2
-    if is_negative.any():
+        led &= lengths - behind > 2
+    if some_are:
         np.negative(numbers, out=numbers, where=is_negative)
-    return Numbers(numbers, places, read, bool((behind >= 0).any()), led)
+    return Numbers(numbers, np.maximum(behind, 0), read, bool(behind.max(initial=-1) >= 0), led)
+
+
+def _alike(
+    data: np.ndarray, ends: np.ndarray, lengths: np.ndarray, place: int, point: int
+) -> Tuple[np.ndarray, np.ndarray, np.ndarray]:
+    """Returns the digits of fields as numbers, of which so many stand behind a point, or -1 where there is none; which
+    are such; and so many of each."""
+    behind = np.broadcast_to(np.int64(place), len(lengths))
+    if place < 0 or lengths.max() > WORD:
+        return (*_pointed(data, ends - lengths, ends, behind, point), behind)
+    return (*_spliced(windows_of(data)[ends - WORD], lengths, place, point), behind)
 
 
 def ungrouped(fields: Fields, sign: int) -> Tuple[Fields, np.ndarray]:
@@ -124,9 +140,6 @@ def _pointed(
     if behind.max(initial=-1) < 0:
         numbers, read = whole_of(data, ends, lengths)
         return numbers, read & (lengths > 0)
-    place = int(behind[0])
-    if place >= 0 and lengths.max() <= WORD and (behind == place).all():
-        return _spliced(windows_of(data)[ends - WORD], lengths, place, point)
     places, pointed = np.maximum(behind, 0), behind >= 0
     stops = ends - places - pointed
     whole, read = whole_of(data, stops, np.maximum(stops - starts, 0))

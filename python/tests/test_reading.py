@@ -16,6 +16,9 @@ import pytest
 
 import bsi
 from bsi import col
+from bsi.digits import moments_of
+from bsi.distinct import Distinct
+from bsi.fields import fields_of
 
 EXAMPLES = os.path.join(os.path.dirname(os.path.abspath(__file__)), "..", "..", "examples")
 
@@ -594,3 +597,19 @@ def test_numbers_that_wait_are_those_that_came():
             found = room.moved(bsi.packing.packed(given, valid))
             assert (found.valid == valid).all() and (found.numbers[valid] == given[valid]).all(), (width, rows)
             assert found.places.nbytes <= width * -(-rows // 8)
+
+
+def test_dates_of_several_centuries_and_days_that_no_calendar_has():
+    days = np.arange("0000-01-01", "9999-12-31", 97, dtype="M8[D]")
+    moments = moments_of(fields_of(np.datetime_as_string(days).tolist()), "2026-01-31")
+    assert moments.read.all() and (moments.days == days.astype(np.int64)).all()
+    wrong = ["1900-02-29", "2100-02-29", "2026-04-31", "2026-13-01", "2026-00-10", "2026-01-00", "2026-01-40", "x026-01-01"]
+    assert not moments_of(fields_of(wrong), "2026-01-31").read.any()
+    assert moments_of(fields_of(["2000-02-29", "1999-12-31"]), "2026-01-31").read.all()
+
+
+def test_texts_that_share_a_place_of_the_table():
+    texts = [f"t{number}" for number in range(3000)]
+    distinct = Distinct()
+    assert distinct.codes(fields_of(texts)).tolist() == list(range(3000))
+    assert distinct.codes(fields_of(texts[::-1] + ["new"])).tolist() == list(range(3000))[::-1] + [3000]
