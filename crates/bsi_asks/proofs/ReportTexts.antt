@@ -1,10 +1,12 @@
 -- The lines of reports.
-use Rattle.std.proofs.Common.{◌≡◌, ◌≤◌, ℕ, List, [], ◌++◌, None, Result, Ok, Err, length, map, ap, ◌∙◌}
+use Rattle.std.proofs.Common.{◌≡◌, ◌≤◌, ℕ, List, [], ◌∷◌, ◌++◌, None, Result, Ok, Err, length, map, ap, ◌∙◌}
 use Rattle.bsi_groups.specs.Groups.{missing_grouped, selected_by, AreGroups, IsGroupRefusal}
+use Rattle.bsi_groups.specs.Pairs.{missing_paired, ArePairGroups, IsPairRefusal}
 use Rattle.bsi_groups.specs.declared.grouping.Group.{Group}
 use Rattle.bsi_groups.specs.declared.grouping.GroupError.{GroupError}
 use Rattle.bsi_groups.specs.Replies.{IsReplyOn}
 use Rattle.bsi_groups.specs.Tops.{AreTop}
+use Rattle.bsi_groups.specs.declared.pairs.PairGroup.{PairGroup}
 use Rattle.bsi_groups.specs.declared.tops.End.{End}
 use Rattle.bsi_groups.specs.declared.tops.TopRow.{TopRow}
 use Rattle.bsi_records.specs.Lines.{ask_line}
@@ -13,8 +15,8 @@ use Rattle.bsi_rows.specs.declared.errors.AskError.{AskError}
 use Rattle.bsi_rows.specs.declared.query.Pred.{Pred}
 use Rattle.bsi_rows.specs.declared.query.Query.{Query}
 use Rattle.bsi_schema.specs.Columns.{Declared}
-use Rattle.bsi_asks.specs.ReportLines.{groups_line, max_groups, top_line, IsReportLine}
-use Rattle.bsi_asks.specs.declared.reports.Report.TheVariants.{Groups, Top}
+use Rattle.bsi_asks.specs.ReportLines.{groups_line, max_groups, pairs_line, top_line, IsReportLine}
+use Rattle.bsi_asks.specs.declared.reports.Report.TheVariants.{Groups, Pairs, Top}
 
 module _ (schema : Declared) (rows : List FedRow) (query : Query) (by : ℕ) (before line : List ℕ) (empty : before ≡ []) where
   pub groups_told : (groups : List Group) → missing_grouped (length schema.columns) query by ≡ None → AreGroups query.total (selected_by query rows) by rows groups
@@ -24,6 +26,16 @@ module _ (schema : Declared) (rows : List FedRow) (query : Query) (by : ℕ) (be
   pub no_groups_told : (why : GroupError) → IsGroupRefusal schema rows query by max_groups why → line ≡ before ++ groups_line (Err why)
       → IsReportLine schema rows (Groups query by) line
   no_groups_told why refused is = (Err why, refused, is ∙ ap (λ b. b ++ groups_line (Err why)) empty)
+
+module _ (schema : Declared) (rows : List FedRow) (query : Query) (first second : ℕ) (before line : List ℕ) (empty : before ≡ []) where
+  pub pairs_told : (pairs : List PairGroup) → missing_paired (length schema.columns) query (first ∷ second ∷ []) ≡ None
+      → ArePairGroups query.total (selected_by query rows) (first ∷ second ∷ []) rows pairs → length pairs ≤ max_groups
+      → line ≡ before ++ pairs_line (Ok pairs) → IsReportLine schema rows (Pairs query first second) line
+  pairs_told pairs there are few is = (Ok pairs, (there, are, few), is ∙ ap (λ b. b ++ pairs_line (Ok pairs)) empty)
+
+  pub no_pairs_told : (why : GroupError) → IsPairRefusal schema rows query (first ∷ second ∷ []) max_groups why → line ≡ before ++ pairs_line (Err why)
+      → IsReportLine schema rows (Pairs query first second) line
+  no_pairs_told why refused is = (Err why, refused, is ∙ ap (λ b. b ++ pairs_line (Err why)) empty)
 
 module _ (schema : Declared) (rows : List FedRow) (end : End) (c most : ℕ) (pred : Pred) (before line : List ℕ) (empty : before ≡ []) where
   abbrev Is : Result (List TopRow) AskError → Type 0

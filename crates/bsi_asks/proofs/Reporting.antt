@@ -18,9 +18,9 @@ use Rattle.bsi_rows.specs.declared.query.Query.{Query}
 use Rattle.bsi_rows.specs.declared.query.Total.{Total}
 use Rattle.bsi_rows.specs.declared.query.Total.TheVariants.{Median, Rank, Rows}
 use Rattle.bsi_schema.specs.Columns.{Declared, position_of}
-use Rattle.bsi_asks.specs.Reports.{end_word, spelled_share, IsReport}
+use Rattle.bsi_asks.specs.Reports.{end_word, spelled_share, IsReport, IsUnlisted}
 use Rattle.bsi_asks.specs.declared.reports.Report.{Report}
-use Rattle.bsi_asks.specs.declared.reports.Report.TheVariants.{Groups, Top, Distinct, Quantile}
+use Rattle.bsi_asks.specs.declared.reports.Report.TheVariants.{Groups, Pairs, Top, Distinct, Quantile}
 
 -- what was read is so, and nothing is where nothing was read
 module _ {T : Type 0} (Is : T → Type 0) (o : Option T) (is : IsReadAs Is o) where
@@ -79,6 +79,7 @@ module _ (schema : Declared) (fields : List Field) (query : Query) (is : IsQuest
 
 abbrev report_word : Report → Field
 report_word (Groups query by) = codes "by"
+report_word (Pairs query first second) = codes "by"
 report_word (Top end c most pred) = end_word end
 report_word (Distinct c pred) = codes "distinct"
 report_word (Quantile share c pred) = codes "quantile"
@@ -87,6 +88,7 @@ module _ (schema : Declared) (fields : List Field) where
   begins : (asked : Report) → IsReport schema fields asked → field_at fields 0 ≡ Some (report_word asked)
   unfolding field_at
   begins (Groups query by) is = ap (λ fs. field_at fs 0) is.2
+  begins (Pairs query first second) is = ap (λ fs. field_at fs 0) is.3
   begins (Top end c most pred) is = ap (λ fs. field_at fs 0) is.1
   begins (Distinct c pred) is = ap (λ fs. field_at fs 0) is.1
   begins (Quantile share c pred) is = ap (λ fs. field_at fs 0) is.4
@@ -100,6 +102,7 @@ module _ (schema : Declared) (fields : List Field) where
 
     pub other_word : word ≢ codes "by" → word ≢ codes "top" → word ≢ codes "bottom" → word ≢ codes "distinct" → word ≢ codes "quantile" → (asked : Report) → IsReport schema fields asked → ⊥
     other_word not_by not_top not_bottom not_distinct not_quantile (Groups query by) is = not_by (its_word (Groups query by) is)
+    other_word not_by not_top not_bottom not_distinct not_quantile (Pairs query first second) is = not_by (its_word (Pairs query first second) is)
     other_word not_by not_top not_bottom not_distinct not_quantile (Top Greatest c most pred) is = not_top (its_word (Top Greatest c most pred) is)
     other_word not_by not_top not_bottom not_distinct not_quantile (Top Least c most pred) is = not_bottom (its_word (Top Least c most pred) is)
     other_word not_by not_top not_bottom not_distinct not_quantile (Distinct c pred) is = not_distinct (its_word (Distinct c pred) is)
@@ -132,49 +135,108 @@ not_quantile Least is = cc (is)
 
 -- ---- groups
 
+-- the question that was read, and whether it is a list
+module _ (schema : Declared) (question asked : List Field) (is_asked : asked ≡ question) (o : Option Query) (is : IsReadAs (IsQuestion schema asked) o) where
+  questions : IsReadAs (IsQuestion schema question) o
+  questions = subst (λ (fs : List Field). IsReadAs (IsQuestion schema fs) o) is_asked is
+
+  pub no_question : o ≡ None → (query : Query) → IsUnlisted schema question query → ⊥
+  no_question at query told = none_is _ o questions at query told.0
+
+  module _ (query : Query) (at : o ≡ Some query) where
+    pub a_list : query.total ≡ Rows → (other : Query) → IsUnlisted schema question other → ⊥
+    a_list rows other told = told.1 (one_total schema question other query told.0 (is_so _ o questions query at) ∙ rows)
+
+    pub no_list : query.total ≢ Rows → IsUnlisted schema question query
+    no_list not_rows = (is_so _ o questions query at, not_rows)
+
+-- no question begins with the word of groups
+by_asks : (schema : Declared) (rest : List Field) (query : Query) → IsQuestion schema (codes "by" ∷ rest) query → ⊥
+by_asks schema [] query is = is
+by_asks schema (name ∷ rest) query is = is
+
+by_begins : (schema : Declared) (question : List Field) (query : Query) → get_or question 0 [] ≡ codes "by" → IsQuestion schema question query → ⊥
+by_begins schema [] query at is = is
+by_begins schema (word ∷ rest) query at is = by_asks schema rest query (subst (λ (w : Field). IsQuestion schema (w ∷ rest) query) at is)
+
 by_question : (schema : Declared) (fields : List Field) → Some (codes "by") ≡ field_at fields 0
     → (query : Query) (by : ℕ) → Some by ≡ option_and_then (position_of schema.columns) (field_at fields 1)
-    → IsQuestion schema (drop 2 fields) query → query.total ≢ Rows → IsReport schema fields (Groups query by)
+    → IsUnlisted schema (drop 2 fields) query → IsReport schema fields (Groups query by)
 unfolding field_at
-by_question schema [] word query by at is not_rows = absurd (none-some (codes "by") (sym word))
-by_question schema (f ∷ []) word query by at is not_rows = absurd (none-some by (sym at))
-by_question schema (f ∷ name ∷ question) word query by at is not_rows =
-    (name, question, ap (λ w. w ∷ name ∷ question) (sym (same_Some (codes "by") f word)), sym at, is, not_rows)
+by_question schema [] word query by at is = absurd (none-some (codes "by") (sym word))
+by_question schema (f ∷ []) word query by at is = absurd (none-some by (sym at))
+by_question schema (f ∷ name ∷ question) word query by at is =
+    (name, question, ap (λ w. w ∷ name ∷ question) (sym (same_Some (codes "by") f word)), sym at, is)
+
+by_two : (schema : Declared) (fields : List Field) → Some (codes "by") ≡ field_at fields 0 → get_or fields 2 [] ≡ codes "by"
+    → (query : Query) (first second : ℕ) → Some first ≡ option_and_then (position_of schema.columns) (field_at fields 1)
+    → Some second ≡ option_and_then (position_of schema.columns) (field_at fields 3)
+    → IsUnlisted schema (drop 4 fields) query → IsReport schema fields (Pairs query first second)
+unfolding field_at
+by_two schema [] word again query first second one two is = absurd (none-some (codes "by") (sym word))
+by_two schema (f ∷ []) word again query first second one two is = absurd (none-some first (sym one))
+by_two schema (f ∷ x ∷ []) word again query first second one two is = absurd (none-some second (sym two))
+by_two schema (f ∷ x ∷ g ∷ []) word again query first second one two is = absurd (none-some second (sym two))
+by_two schema (f ∷ x ∷ g ∷ y ∷ question) word again query first second one two is = (
+  x,
+  y,
+  question,
+  ap (λ w. w ∷ x ∷ g ∷ y ∷ question) (sym (same_Some (codes "by") f word)) ∙ ap (λ w. codes "by" ∷ x ∷ w ∷ y ∷ question) again,
+  sym one,
+  sym two,
+  is,
+)
 
 module _ (schema : Declared) (fields : List Field) (word : Some (codes "by") ≡ field_at fields 0) where
-  only_groups : ((query : Query) (by : ℕ) → IsReport schema fields (Groups query by) → ⊥) → (asked : Report) → IsReport schema fields asked → ⊥
-  only_groups none (Groups query by) is = none query by is
-  only_groups none (Top end c most pred) is = not_by end (its_word schema fields (codes "by") word (Top end c most pred) is)
-  only_groups none (Distinct c pred) is = cc (its_word schema fields (codes "by") word (Distinct c pred) is)
-  only_groups none (Quantile share c pred) is = cc (its_word schema fields (codes "by") word (Quantile share c pred) is)
+  module _ (alone : get_or fields 2 [] ≢ codes "by") where
+    only_groups : ((query : Query) (by : ℕ) → IsReport schema fields (Groups query by) → ⊥) → (asked : Report) → IsReport schema fields asked → ⊥
+    only_groups none (Groups query by) is = none query by is
+    only_groups none (Pairs query first second) is = alone (ap (λ fs. get_or fs 2 []) is.3)
+    only_groups none (Top end c most pred) is = not_by end (its_word schema fields (codes "by") word (Top end c most pred) is)
+    only_groups none (Distinct c pred) is = cc (its_word schema fields (codes "by") word (Distinct c pred) is)
+    only_groups none (Quantile share c pred) is = cc (its_word schema fields (codes "by") word (Quantile share c pred) is)
 
-  its_column : (query : Query) (by : ℕ) → IsReport schema fields (Groups query by) → option_and_then (position_of schema.columns) (field_at fields 1) ≡ Some by
-  unfolding field_at
-  its_column query by is = ap (λ fs. option_and_then (position_of schema.columns) (field_at fs 1)) is.2 ∙ is.3
+    pub no_column : None ≡ option_and_then (position_of schema.columns) (field_at fields 1) → (asked : Report) → IsReport schema fields asked → ⊥
+    unfolding field_at
+    no_column none =
+        only_groups (λ query by is. none-some by (none ∙ ap (λ fs. option_and_then (position_of schema.columns) (field_at fs 1)) is.2 ∙ is.3))
 
-  its_question : (query : Query) (by : ℕ) → IsReport schema fields (Groups query by) → IsQuestion schema (drop 2 fields) query
-  its_question query by is = subst (λ (question : List Field). IsQuestion schema question query) (sym (ap (drop 2) is.2)) is.4
+    pub no_groups : (o : Option Query) → IsReadAs (IsUnlisted schema (drop 2 fields)) o → o ≡ None → (asked : Report) → IsReport schema fields asked → ⊥
+    no_groups o is at =
+        only_groups (λ query by told. none_is _ o is at query
+        (subst (λ (question : List Field). IsUnlisted schema question query) (sym (ap (drop 2) told.2)) told.4))
 
-  pub no_column : None ≡ option_and_then (position_of schema.columns) (field_at fields 1) → (asked : Report) → IsReport schema fields asked → ⊥
-  no_column none = only_groups (λ query by is. none-some by (none ∙ its_column query by is))
+  pub groups_read : (o : Option Query) → IsReadAs (IsUnlisted schema (drop 2 fields)) o → (query : Query) → o ≡ Some query
+      → (by : ℕ) → Some by ≡ option_and_then (position_of schema.columns) (field_at fields 1) → IsReport schema fields (Groups query by)
+  groups_read o is query at by there = by_question schema fields word query by there (is_so _ o is query at)
 
-  -- the question that was read behind the column
-  module _ (asked : List Field) (is_asked : asked ≡ drop 2 fields) (o : Option Query) (is : IsReadAs (IsQuestion schema asked) o) where
-    questions : IsReadAs (IsQuestion schema (drop 2 fields)) o
-    questions = subst (λ (fs : List Field). IsReadAs (IsQuestion schema fs) o) is_asked is
+  module _ (again : get_or fields 2 [] ≡ codes "by") where
+    only_pairs : ((query : Query) (first second : ℕ) → IsReport schema fields (Pairs query first second) → ⊥) → (asked : Report) → IsReport schema fields asked → ⊥
+    only_pairs none (Groups query by) is = by_begins schema is.1 query (sym (ap (λ fs. get_or fs 2 []) is.2) ∙ again) is.4.0
+    only_pairs none (Pairs query first second) is = none query first second is
+    only_pairs none (Top end c most pred) is = not_by end (its_word schema fields (codes "by") word (Top end c most pred) is)
+    only_pairs none (Distinct c pred) is = cc (its_word schema fields (codes "by") word (Distinct c pred) is)
+    only_pairs none (Quantile share c pred) is = cc (its_word schema fields (codes "by") word (Quantile share c pred) is)
 
-    pub no_question : o ≡ None → (asked : Report) → IsReport schema fields asked → ⊥
-    no_question at = only_groups (λ query by told. none_is _ o questions at query (its_question query by told))
+    pub no_first : None ≡ option_and_then (position_of schema.columns) (field_at fields 1) → (asked : Report) → IsReport schema fields asked → ⊥
+    unfolding field_at
+    no_first none =
+        only_pairs (λ query first second is. none-some first (none ∙ ap (λ fs. option_and_then (position_of schema.columns) (field_at fs 1)) is.3 ∙ is.4))
 
-    module _ (query : Query) (at : o ≡ Some query) where
-      pub a_list : query.total ≡ Rows → (asked : Report) → IsReport schema fields asked → ⊥
-      a_list rows =
-          only_groups (λ other by told. told.5
-          (one_total schema (drop 2 fields) other query (its_question other by told) (is_so _ o questions query at) ∙ rows))
+    pub no_second : None ≡ option_and_then (position_of schema.columns) (field_at fields 3) → (asked : Report) → IsReport schema fields asked → ⊥
+    unfolding field_at
+    no_second none =
+        only_pairs (λ query first second is. none-some second (none ∙ ap (λ fs. option_and_then (position_of schema.columns) (field_at fs 3)) is.3 ∙ is.5))
 
-      pub groups_read : (by : ℕ) → Some by ≡ option_and_then (position_of schema.columns) (field_at fields 1) → query.total ≢ Rows
-          → IsReport schema fields (Groups query by)
-      groups_read by there not_rows = by_question schema fields word query by there (is_so _ o questions query at) not_rows
+    pub no_pairs : (o : Option Query) → IsReadAs (IsUnlisted schema (drop 4 fields)) o → o ≡ None → (asked : Report) → IsReport schema fields asked → ⊥
+    no_pairs o is at =
+        only_pairs (λ query first second told. none_is _ o is at query
+        (subst (λ (question : List Field). IsUnlisted schema question query) (sym (ap (drop 4) told.3)) told.6))
+
+    pub pairs_read : (o : Option Query) → IsReadAs (IsUnlisted schema (drop 4 fields)) o → (query : Query) → o ≡ Some query
+        → (first second : ℕ) → Some first ≡ option_and_then (position_of schema.columns) (field_at fields 1)
+        → Some second ≡ option_and_then (position_of schema.columns) (field_at fields 3) → IsReport schema fields (Pairs query first second)
+    pairs_read o is query at first second one two = by_two schema fields word again query first second one two (is_so _ o is query at)
 
 -- ---- first rows, and different numbers
 
@@ -190,6 +252,7 @@ module _ (schema : Declared) (fields : List Field) (end : End) (word : Some (end
 
   pub no_top : o ≡ None → (asked : Report) → IsReport schema fields asked → ⊥
   no_top none (Groups query by) is = not_by end (sym (its_word schema fields (end_word end) word (Groups query by) is))
+  no_top none (Pairs query first second) is = not_by end (sym (its_word schema fields (end_word end) word (Pairs query first second) is))
   no_top none (Top other c most pred) is =
       none_is _ o ranks none (c, most, pred)
       (subst (λ (rest : List Field). IsQuestion schema (codes "rank" ∷ rest) (record { total = Rank c most; pred = pred })) (sym (ap (drop 1) is.1)) is.2)
@@ -208,6 +271,7 @@ module _ (schema : Declared) (fields : List Field) (word : Some (codes "distinct
 
   pub none_distinct : o ≡ None → (asked : Report) → IsReport schema fields asked → ⊥
   none_distinct none (Groups query by) is = cc (its_word schema fields (codes "distinct") word (Groups query by) is)
+  none_distinct none (Pairs query first second) is = cc (its_word schema fields (codes "distinct") word (Pairs query first second) is)
   none_distinct none (Top end c most pred) is = not_distinct end (its_word schema fields (codes "distinct") word (Top end c most pred) is)
   none_distinct none (Distinct c pred) is =
       none_is _ o medians none (c, pred)
@@ -235,6 +299,7 @@ module _ (schema : Declared) (fields : List Field) (word : Some (codes "quantile
   only_quantiles : ((share : Share) (c : ℕ) (pred : Pred) → IsReport schema fields (Quantile share c pred) → ⊥)
       → (asked : Report) → IsReport schema fields asked → ⊥
   only_quantiles none (Groups query by) is = cc (its_word schema fields (codes "quantile") word (Groups query by) is)
+  only_quantiles none (Pairs query first second) is = cc (its_word schema fields (codes "quantile") word (Pairs query first second) is)
   only_quantiles none (Top end c most pred) is = not_quantile end (its_word schema fields (codes "quantile") word (Top end c most pred) is)
   only_quantiles none (Distinct c pred) is = apart (sym (its_word schema fields (codes "quantile") word (Distinct c pred) is))
   only_quantiles none (Quantile share c pred) is = none share c pred is

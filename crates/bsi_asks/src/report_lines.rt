@@ -3,11 +3,13 @@
 ghost use Rattle.std.specs.Prelude.{◌≡◌, ◌<◌, ◌++◌, OnOk, Ok, Err, count_by, length, nat_eq};
 ghost use Rattle.std.specs.List.{flat_map};
 ghost use Rattle.bsi_records.specs.Lines.{ask_line};
-ghost use Rattle.bsi_asks.specs.ReportLines.{count_line, entry_text, group_text, groups_line, row_text, top_line, value_line, value_text, AreWithin, IsReportLine};
+ghost use Rattle.bsi_asks.specs.ReportLines.{count_line, entry_text, group_text, groups_line, pair_text, pairs_line, row_text, top_line, value_line, value_text, AreWithin, IsReportLine};
 
 use crate::NoMemory;
 use crate::reports::Report;
-use bsi_groups::{Group, GroupError, TopRow, distinct, group_by, quantile, top};
+use bsi_groups::{
+    Group, GroupError, PairGroup, TopRow, distinct, group_by, group_by_two, quantile, top,
+};
 use bsi_records::{write_bad, write_reply};
 use bsi_rows::{AskError, Reply};
 use bsi_table::{Answer, Index};
@@ -33,6 +35,12 @@ pub(crate) fn tell_report(
             Ok(groups) => write_groups(&groups, line),
             Err(refused) => write_no_groups(refused, line),
         },
+        Report::Pairs(query, first, second) => {
+            match group_by_two(alloc, table, query, [*first, *second], MAX_GROUPS) {
+                Ok(pairs) => write_pairs(&pairs, line),
+                Err(refused) => write_no_groups(refused, line),
+            }
+        }
         Report::Top(end, c, most, pred) => match top(alloc, table, *c, *most as usize, *end, pred) {
             Ok(rows) => write_top(&rows, table.row_feeders(), line),
             Err(refused) => write_refused(refused, line),
@@ -78,9 +86,19 @@ fn write_groups(groups: &[Group], line: &mut Vec<u8>) -> Result<(), NoMemory>
     line.extend_from_slice(b"\n")
 }
 
+/// Appends the line of groups by two columns.
+fn write_pairs(pairs: &[PairGroup], line: &mut Vec<u8>) -> Result<(), NoMemory>
+    ensures { OnOk result (line.new.items ≡ line.old.items ++ pairs_line (Ok pairs.now)) }
+{
+    line.extend_from_slice(b"groups")?;
+    write_each_pair(pairs, line)?;
+    line.extend_from_slice(b"\n")
+}
+
 /// Appends the line that tells why there are no groups.
 fn write_no_groups(refused: GroupError, line: &mut Vec<u8>) -> Result<(), NoMemory>
-    ensures { OnOk result (line.new.items ≡ line.old.items ++ groups_line (Err refused)) }
+    ensures groups { OnOk result (line.new.items ≡ line.old.items ++ groups_line (Err refused)) }
+    ensures pairs { OnOk result (line.new.items ≡ line.old.items ++ pairs_line (Err refused)) }
 {
     match refused {
         GroupError::TooMany => line.extend_from_slice(b"more than 65536 groups\n"),
@@ -108,6 +126,30 @@ fn write_group(group: &Group, line: &mut Vec<u8>) -> Result<(), NoMemory>
     write_entry(group.entry, line)?;
     line.extend_from_slice(b"=")?;
     write_value(&group.answer, line)
+}
+
+/// Appends groups by two columns, each with a space before it.
+fn write_each_pair(pairs: &[PairGroup], line: &mut Vec<u8>) -> Result<(), NoMemory>
+    ensures { OnOk result (line.new.items
+        ≡ line.old.items ++ flat_map pair_text pairs.now) }
+{
+    'pairs: for pair in pairs {
+        write_pair(pair, line)?;
+    }
+    Ok(())
+}
+
+/// Appends a space, the two entries of a group, and its answer.
+fn write_pair(pair: &PairGroup, line: &mut Vec<u8>) -> Result<(), NoMemory>
+    ensures { OnOk result (line.new.items ≡ line.old.items ++ pair_text pair.now) }
+{
+    let [first, second] = pair.entries;
+    line.extend_from_slice(b" ")?;
+    write_entry(first, line)?;
+    line.extend_from_slice(b":")?;
+    write_entry(second, line)?;
+    line.extend_from_slice(b"=")?;
+    write_value(&pair.answer, line)
 }
 
 /// Appends the entry of a group.

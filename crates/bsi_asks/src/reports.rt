@@ -1,12 +1,12 @@
 //! The records that ask for a report: the total of each group, the rows with the greatest or the least numbers, how many
 //! different numbers there are, or the number at the end of a share of them.
 
-ghost use Rattle.std.specs.Prelude.{◌≡◌, ◌∷◌, ◌++◌, [], codes, drop, get_or, option_and_then, Some, IfOk, OnOk};
+ghost use Rattle.std.specs.Prelude.{◌≡◌, ◌≢◌, ◌∷◌, ◌++◌, [], codes, drop, get_or, option_and_then, Some, IfOk, OnOk};
 ghost use Rattle.csv.specs.Records.{field_at, fields_of, partial_of};
 ghost use Rattle.bsi_records.specs.Questions.{IsQuestion};
 ghost use Rattle.bsi_records.specs.Reading.{IsReadAs};
 ghost use Rattle.bsi_schema.specs.Columns.{position_of};
-ghost use Rattle.bsi_asks.specs.Reports.{end_word, spelled_share, IsReport};
+ghost use Rattle.bsi_asks.specs.Reports.{end_word, spelled_share, IsReport, IsUnlisted};
 
 use crate::NoMemory;
 use bsi_groups::{End, Share};
@@ -20,6 +20,8 @@ use std::alloc::Global;
 pub enum Report {
     /// The total of a query over the rows of each entry of a column.
     Groups(Query, u32),
+    /// The total of a query over the rows of each pair of entries of two columns, of which the first one orders first.
+    Pairs(Query, u32, u32),
     /// The rows that come first by their numbers in a column, at most so many of those that a predicate selects.
     Top(End, u32, u64, Pred),
     /// How many different numbers a column has at the rows that a predicate selects.
@@ -28,7 +30,7 @@ pub enum Report {
     Quantile(Share, u32, Pred),
 }
 
-/// Reads a record as a report: `by`, a column, and a question that is no list; `top` or `bottom` and the fields of a rank
+/// Reads a record as a report: `by` and a column, once or twice, and a question that is no list; `top` or `bottom` and the fields of a rank
 /// behind its word; `distinct` and those of a median; or `quantile` and those of a median, with a part and a whole behind
 /// the name, where the whole is at least 1 and the part no more than it. `None` stands for a record that is none of these.
 pub fn read_report(
@@ -42,6 +44,9 @@ pub fn read_report(
         return Ok(None);
     };
     if word == b"by".as_slice() {
+        if field(fields, 2) == b"by".as_slice() {
+            return read_pairs(alloc, schema, fields);
+        }
         return read_groups(alloc, schema, fields);
     }
     if word == b"top".as_slice() {
@@ -59,27 +64,45 @@ pub fn read_report(
     Ok(None)
 }
 
-/// Reads a record that begins with `by`.
+/// Reads a record that begins with `by` and has no other one behind the name.
 fn read_groups(
     alloc: Global,
     schema: &Schema,
     fields: &ByteRecord,
 ) -> Result<Option<Report>, NoMemory>
-    requires { Some (codes "by") ≡ field_at (fields_of fields.now) 0 }
+    requires word { Some (codes "by") ≡ field_at (fields_of fields.now) 0 }
+    requires alone { get_or (fields_of fields.now) 2 [] ≢ codes "by" }
     ensures { IfOk result (IsReadAs (IsReport schema.now (fields_of fields.now))) }
 {
-    let Some(by) = read_column(schema, fields) else {
+    let Some(by) = read_column(schema, fields, 1) else {
         return Ok(None);
     };
-    let mut asked = ByteRecord::new(alloc);
-    push_fields(fields, 2, &mut asked)?;
-    let Some(query) = read_question(alloc, schema, &asked)? else {
+    let Some(query) = read_unlisted(alloc, schema, fields, 2)? else {
         return Ok(None);
     };
-    if matches!(query.total, Total::Rows) {
-        return Ok(None);
-    }
     Ok(Some(Report::Groups(query, by)))
+}
+
+/// Reads a record that begins with `by` and has another one behind the name.
+fn read_pairs(
+    alloc: Global,
+    schema: &Schema,
+    fields: &ByteRecord,
+) -> Result<Option<Report>, NoMemory>
+    requires word { Some (codes "by") ≡ field_at (fields_of fields.now) 0 }
+    requires again { get_or (fields_of fields.now) 2 [] ≡ codes "by" }
+    ensures { IfOk result (IsReadAs (IsReport schema.now (fields_of fields.now))) }
+{
+    let Some(first) = read_column(schema, fields, 1) else {
+        return Ok(None);
+    };
+    let Some(second) = read_column(schema, fields, 3) else {
+        return Ok(None);
+    };
+    let Some(query) = read_unlisted(alloc, schema, fields, 4)? else {
+        return Ok(None);
+    };
+    Ok(Some(Report::Pairs(query, first, second)))
 }
 
 /// Reads a record that begins with the word of the rows at this end.
@@ -160,12 +183,32 @@ fn push_fields(fields: &ByteRecord, from: usize, asked: &mut ByteRecord) -> Resu
     Ok(())
 }
 
-/// Reads the column whose name stands behind the word of a record.
-fn read_column(schema: &Schema, fields: &ByteRecord) -> Option<u32>
+/// Reads the column whose name stands at a place of a record.
+fn read_column(schema: &Schema, fields: &ByteRecord, place: usize) -> Option<u32>
     ensures { result ≡ option_and_then (position_of schema.now.columns)
-        (field_at (fields_of fields.now) 1) }
+        (field_at (fields_of fields.now) place) }
 {
-    schema.find(fields.get(1)?)
+    schema.find(fields.get(place)?)
+}
+
+/// Reads the fields from a place on as a question that is no list.
+fn read_unlisted(
+    alloc: Global,
+    schema: &Schema,
+    fields: &ByteRecord,
+    from: usize,
+) -> Result<Option<Query>, NoMemory>
+    ensures { IfOk result (IsReadAs (IsUnlisted schema.now (drop from (fields_of fields.now)))) }
+{
+    let mut asked = ByteRecord::new(alloc);
+    push_fields(fields, from, &mut asked)?;
+    let Some(query) = read_question(alloc, schema, &asked)? else {
+        return Ok(None);
+    };
+    if matches!(query.total, Total::Rows) {
+        return Ok(None);
+    }
+    Ok(Some(query))
 }
 
 /// Reads the share whose part and whole stand behind the name of a column.
