@@ -80,19 +80,22 @@ def first_rows(sign):
 
 
 def groups(machine, name, *query):
-    """Returns the line of a query over each group."""
-    by = machine.position(name)
+    """Returns the line of a query over each group, by one column or two."""
+    by = [machine.position(name)]
+    if query[:1] == (b"by",):
+        by, query = [*by, machine.position(query[1])] if query[1:] else [None], query[2:]
     is_query = query[:1] != (b"list",) and (query[:1] == (b"rank",) or query[:1] and query[0] not in REPORTS)
-    if by is None or not is_query or answer(machine, list(query)) == files_model.BAD:
+    if None in by or not is_query or answer(machine, list(query)) == files_model.BAD:
         return files_model.BAD
     # (a copy of the machine for each group, whose rows are those that have its entry)
     part = copy.copy(machine)
     told = []
     selected = numbers_at(machine, name, query[PREDICATE_AT.get(query[0], 2) :])[1]
-    entries = {row[by] for _, row in selected}
-    for entry in sorted(entries - {None}) + [None] * (None in entries):
-        part.indexed = [row for row in machine.indexed if row[1][by] == entry]
-        told.append(b" %s=%s" % (b"null" if entry is None else b"%d" % entry, answer(part, list(query)).split()[-1]))
+    found = {tuple(row[at] for at in by) for _, row in selected}
+    for entries in sorted(found, key=lambda entries: [(entry is None, entry or 0) for entry in entries]):
+        part.indexed = [row for row in machine.indexed if all(row[1][at] == entry for at, entry in zip(by, entries))]
+        words = [b"null" if entry is None else b"%d" % entry for entry in entries]
+        told.append(b" %s=%s" % (b":".join(words), answer(part, list(query)).split()[-1]))
     return b"".join([b"groups", *told])
 
 
@@ -166,11 +169,13 @@ class Table:
         shares = [["1", "2"], ["0", "1"], [str(2**64 - 1)] * 2, sorted(self.chance.choices(range(1, 10), k=2)), ["2", "1"], ["0", "0"], ["-1", "2"]]
         heads += [["quantile", self.chance.choice(self.names), *map(str, share)] for share in shares]
         heads += [["distinct", self.chance.choice(self.names)]] + [["by", self.chance.choice(self.names), *head] for head in heads[:8]]
+        heads += [["by", self.chance.choice(self.names), "by", self.chance.choice(self.names), *head] for head in heads[:8]]
         if self.feeders == 1:  # of several, which of two rows was loaded first is not told
             heads += [[word, self.chance.choice(self.names), most] for word in ("top", "bottom") for most in ("0", str(self.chance.randrange(1, 20)), "-1")]
         lines = [",".join([*head, *self.predicate()]) for head in 2 * heads]
-        short = [f"{words}{self.names[0]}{end}" for words in ("rank,", "quantile,", "top,", "distinct,", "by,") for end in ("", ",0", ",0,1")]
-        nested = [f"by,{self.names[0]},{words},{self.names[0]}{end},all" for words, end in (("distinct", ""), ("quantile", ",1,2"))]
+        short = [f"{words}{self.names[0]}{end}" for words in ("rank,", "quantile,", "top,", "distinct,", "by,", f"by,{self.names[0]},by,") for end in ("", ",0", ",0,1")]
+        nested = [f"by,{self.names[0]},{words},{self.names[0]}{end},all" for words, end in (("distinct", ""), ("quantile", ",1,2"), ("by,by", ",count"))]
+        nested += [f"by,{self.names[0]}," * 2 + f"by,{self.names[0]},count,all"]
         return "\n".join([*lines, "wrong", *short, *nested, f"quantile,{self.names[0]},1,2,{self.names[0]},null", ""]).encode()
 
     def answers(self, asks):
