@@ -1,16 +1,16 @@
 -- The lines of reports.
-use Rattle.std.proofs.Common.{◌≡◌, ◌≤◌, ℕ, List, [], ◌∷◌, ◌++◌, None, Result, Ok, Err, length, map, ap, ◌∙◌}
+use Rattle.std.proofs.Common.{◌≡◌, ◌≤◌, ℕ, List, [], ◌∷◌, ◌++◌, None, Result, Ok, Err, length, ap, ◌∙◌}
 use Rattle.bsi_groups.specs.Groups.{missing_grouped, selected_by, AreGroups, IsGroupRefusal}
 use Rattle.bsi_groups.specs.Pairs.{missing_paired, ArePairGroups, IsPairRefusal}
 use Rattle.bsi_groups.specs.declared.grouping.Group.{Group}
 use Rattle.bsi_groups.specs.declared.grouping.GroupError.{GroupError}
-use Rattle.bsi_groups.specs.Replies.{IsReplyOn}
+use Rattle.bsi_groups.specs.Replies.{selected, IsReplyOn}
 use Rattle.bsi_groups.specs.Tops.{AreTop}
 use Rattle.bsi_groups.specs.declared.pairs.PairGroup.{PairGroup}
 use Rattle.bsi_groups.specs.declared.tops.End.{End}
 use Rattle.bsi_groups.specs.declared.tops.TopRow.{TopRow}
 use Rattle.bsi_records.specs.Lines.{ask_line}
-use Rattle.bsi_rows.specs.Rows.{column_of, feeders_of, holds, row_entries, FedRow}
+use Rattle.bsi_rows.specs.Rows.{column_of, feeders_of, FedRow}
 use Rattle.bsi_rows.specs.declared.errors.AskError.{AskError}
 use Rattle.bsi_rows.specs.declared.query.Pred.{Pred}
 use Rattle.bsi_rows.specs.declared.query.Query.{Query}
@@ -40,7 +40,7 @@ module _ (schema : Declared) (rows : List FedRow) (query : Query) (first second 
 module _ (schema : Declared) (rows : List FedRow) (end : End) (c most : ℕ) (pred : Pred) (before line : List ℕ) (empty : before ≡ []) where
   abbrev Is : Result (List TopRow) AskError → Type 0
   Is reply =
-      IsReplyOn schema c pred (λ listed. AreTop end most (map (λ row. holds pred (row_entries row)) rows) (column_of rows c) listed) reply
+      IsReplyOn schema c pred (λ listed. AreTop end most (selected pred rows) (column_of rows c) listed) reply
 
   pub top_told : (listed : List TopRow) (feeders : List ℕ) → Is (Ok listed) → feeders ≡ feeders_of rows → line ≡ before ++ top_line feeders (Ok listed)
       → IsReportLine schema rows (Top end c most pred) line

@@ -1,5 +1,5 @@
 -- The line that answers a report.
-use Rattle.std.specs.Prelude.{◌≡◌, ◌<◌, ◌≤◌, ℕ, ℤ, All, List, [], ◌∷◌, ◌++◌, Option, Some, None, Result, Ok, Err, codes, decimal, length, map, slice_index, slice_index_or}
+use Rattle.std.specs.Prelude.{◌≡◌, ◌<◌, ◌≤◌, ℕ, ℤ, All, List, [], ◌∷◌, ◌++◌, Option, Some, None, Result, Ok, Err, codes, decimal, length, slice_index, slice_index_or}
 use Rattle.std.specs.Fmt.{signed_decimal}
 use Rattle.std.specs.List.{flat_map}
 use Rattle.std.specs.Ordering.{int_eq}
@@ -7,7 +7,7 @@ use Rattle.std.specs.Set.{distinct_count}
 use Rattle.bsi_groups.specs.Groups.{missing_grouped, selected_by, AreGroups, IsGroupRefusal}
 use Rattle.bsi_groups.specs.Pairs.{missing_paired, ArePairGroups, IsPairRefusal}
 use Rattle.bsi_groups.specs.Quantiles.{IsQuantileOf}
-use Rattle.bsi_groups.specs.Replies.{selected_numbers, IsReplyOn}
+use Rattle.bsi_groups.specs.Replies.{selected, selected_numbers, IsReplyOn}
 use Rattle.bsi_groups.specs.Tops.{AreTop}
 use Rattle.bsi_groups.specs.declared.grouping.Group.{Group}
 use Rattle.bsi_groups.specs.declared.grouping.GroupError.{GroupError}
@@ -16,7 +16,7 @@ use Rattle.bsi_groups.specs.declared.pairs.PairGroup.{PairGroup}
 use Rattle.bsi_groups.specs.declared.tops.TopRow.{TopRow}
 use Rattle.bsi_records.specs.Lines.{ask_line, bad_line, no_memory_line}
 use Rattle.bsi_rows.specs.Numbering.{number_within}
-use Rattle.bsi_rows.specs.Rows.{column_of, feeders_of, holds, row_entries, FedRow}
+use Rattle.bsi_rows.specs.Rows.{column_of, feeders_of, FedRow}
 use Rattle.bsi_rows.specs.declared.errors.AskError.{AskError}
 use Rattle.bsi_rows.specs.declared.query.Answer.{Answer}
 use Rattle.bsi_rows.specs.declared.query.Answer.TheVariants.{Count, Sum, Value, Rows}
@@ -109,7 +109,7 @@ IsReportLine schema rows (Pairs query first second) line =
     (reply : Result (List PairGroup) GroupError) × IsPaired schema rows query (first ∷ second ∷ []) reply × (line ≡ pairs_line reply)
 IsReportLine schema rows (Top end c most pred) line =
     (reply : Result (List TopRow) AskError)
-    × IsReplyOn schema c pred (λ listed. AreTop end most (map (λ row. holds pred (row_entries row)) rows) (column_of rows c) listed) reply
+    × IsReplyOn schema c pred (λ listed. AreTop end most (selected pred rows) (column_of rows c) listed) reply
     × (line ≡ top_line (feeders_of rows) reply)
 IsReportLine schema rows (Distinct c pred) line =
     (reply : Result ℕ AskError)

@@ -102,7 +102,10 @@ fn has_quantiles(alloc: Global, form: TestForm) -> Result<bool, IndexError> {
 #[test]
 fn quantiles_of_a_column(rt: HostRuntime) {
     for form in FORMS {
-        assert!(rt; matches!(has_quantiles(rt.alloc(), form), Ok(true)), "{form:?}");
+        assert!(rt;
+            matches!(has_quantiles(rt.alloc(), form), Ok(true)),
+            "{form:?}"
+        );
     }
 }
 
