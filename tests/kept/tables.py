@@ -1,5 +1,6 @@
 """Random tables: a schema, row files and questions, and the plain lists of the rows that each segment of their kept index has."""
 
+import collections
 import copy
 import itertools
 import random
@@ -92,8 +93,11 @@ def groups(machine, name, *query):
     told = []
     selected = numbers_at(machine, name, query[PREDICATE_AT.get(query[0], 2) :])[1]
     found = {tuple(row[at] for at in by) for _, row in selected}
+    rows_of = collections.defaultdict(list)
+    for row in machine.indexed:
+        rows_of[tuple(row[1][at] for at in by)].append(row)
     for entries in sorted(found, key=lambda entries: [(entry is None, entry or 0) for entry in entries]):
-        part.indexed = [row for row in machine.indexed if all(row[1][at] == entry for at, entry in zip(by, entries))]
+        part.indexed = rows_of[entries]
         words = [b"null" if entry is None else b"%d" % entry for entry in entries]
         told.append(b" %s=%s" % (b":".join(words), answer(part, list(query)).split()[-1]))
     return b"".join([b"groups", *told])
