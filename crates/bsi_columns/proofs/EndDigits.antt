@@ -6,8 +6,8 @@ use Rattle.std.proofs.lemmas.Bool.{cases_eq, cases_lt}
 use Rattle.std.proofs.lemmas.Bool.Decides.{nat_tests}
 use Rattle.std.proofs.lemmas.Nat.{div-add-mod', mod_below, mul-le}
 use Rattle.std.proofs.lemmas.List.{get_or-map, get_or_past, length-map}
-use Rattle.bsi_slices.specs.declared.slices.ends.End.{End}
-use Rattle.bsi_slices.specs.declared.slices.ends.End.TheVariants.{Least, Greatest}
+use Rattle.bsi_words.specs.declared.ends.End.{End}
+use Rattle.bsi_words.specs.declared.ends.End.TheVariants.{Least, Greatest}
 use Rattle.bsi_orders.specs.Rows.{number_or_zero}
 use Rattle.bsi_bits.specs.SetRows.{HasRow, HasValue}
 use Rattle.bsi_columns.specs.Ends.{comes_first, leads, number_at}

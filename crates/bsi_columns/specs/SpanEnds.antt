@@ -2,8 +2,8 @@
 use Rattle.std.specs.Prelude.{◌≡◌, ℕ, ◌<◌, ◌&&◌, Bool, true, nat_eq, Option, Some, None}
 use Rattle.bsi_bits.specs.SetRows.{HasRow}
 use Rattle.bsi_slices.specs.Ends.{comes_first}
-use Rattle.bsi_slices.specs.declared.slices.ends.End.{End}
-use Rattle.bsi_slices.specs.declared.slices.ends.End.TheVariants.{Least, Greatest}
+use Rattle.bsi_words.specs.declared.ends.End.{End}
+use Rattle.bsi_words.specs.declared.ends.End.TheVariants.{Least, Greatest}
 use Rattle.bsi_components.specs.EndDigits.{AnswersLeast, AnswersGreatest}
 
 -- the digit is farther from the end than the bound

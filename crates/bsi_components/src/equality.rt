@@ -22,6 +22,7 @@ use std::marker::Model;
 mod binary_places;
 mod counts;
 mod encoding;
+mod ends;
 
 /// A component of a base from 2 to 1,024 that stores a bitmap for each digit. Under base 2 it stores that of digit 1
 /// alone. From base 4 on it also stores the digits in binary, a bit vector for each place.

@@ -6,15 +6,20 @@ use Rattle.std.proofs.lemmas.Bool.{cases_lt}
 use Rattle.std.proofs.lemmas.Bool.Decides.{nat_tests}
 use Rattle.std.proofs.lemmas.List.{get_or-map, get_or_past, length-map}
 use Rattle.bsi_orders.specs.Orders.{values_at}
-use Rattle.bsi_slices.specs.declared.slices.ends.End.{End}
-use Rattle.bsi_slices.specs.declared.slices.ends.End.TheVariants.{Least, Greatest}
-use Rattle.bsi_slices.specs.Ends.{comes_first, number_at, has_number, IsEndAmong, IsEndUpto, IsEndOf, IsBetterIn}
+use Rattle.bsi_orders.specs.Rows.{number_or_zero}
+use Rattle.bsi_words.specs.declared.ends.End.{End}
+use Rattle.bsi_words.specs.declared.ends.End.TheVariants.{Least, Greatest}
+use Rattle.bsi_slices.specs.Ends.{comes_first, goes_before, number_at, has_number, IsEndAmong, IsEndUpto, IsEndOf, IsBetterIn}
 
 -- ---- one span more
 
 pub trans_first : (end : End) (a b c : ℕ) → comes_first end a b → comes_first end b c → comes_first end a c
 trans_first Least a b c first second = omega arith
 trans_first Greatest a b c first second = omega arith
+
+before_first : (end : End) (a b : ℕ) → goes_before end a b → comes_first end a b
+before_first Least a b before = omega arith
+before_first Greatest a b before = omega arith
 
 -- row r is before a span, or in it
 cases_span : (from r : ℕ) → (r < from) ⊎ ((p : ℕ) × (from + p ≡ r))
@@ -70,7 +75,7 @@ module _ (end : End) (found : List Bool) (entries : List (Option ℕ)) (from n :
       on_and_off true on off = absurd (cc)
       on_and_off false on off = absurd (cc)
   span_more (Some best) (Some m) before better =
-      taken_row m better.0 (λ r below there. trans_first end m best (number_at entries r) better.1 (before.first r below there))
+      taken_row m better.0 (λ r below there. trans_first end m best (number_at entries r) (before_first end m best better.1) (before.first r below there))
 
 -- ---- rows and entries
 
@@ -149,3 +154,19 @@ module _ (found : List Bool) (entries : List (Option ℕ)) (n : ℕ) (same : len
     member = member_at found entries is.member.0 m is.member.2 is.member.3;
     none_above = all_at (λ x. nat_le x m ≡ true) found entries (λ r there. at_most_true (number_at entries r) m (is.first r (inside r there) there));
   }
+
+-- each number is below the size
+pub number_small : (entries : List (Option ℕ)) (size : ℕ) → 0 < size → All (λ e. number_or_zero e < size) entries → (r : ℕ) → number_at entries r < size
+number_small entries size some below r = elim (cases_lt r (length entries)) [
+  | inl within ↦ below r None within
+  | inr past ↦ let none : number_at entries r ≡ 0 = ap number_or_zero (get_or_past entries r None past) in omega (arith, none)
+]
+
+-- the number of a row as it is read from a list of numbers
+pub number_read : (entries : List (Option ℕ)) (r : ℕ) → get_or (map number_or_zero entries) r 0 ≡ number_at entries r
+number_read entries r = elim (cases_lt r (length entries)) [
+  | inl within ↦ get_or-map number_or_zero entries r None 0 within
+  | inr past ↦
+      get_or_past (map number_or_zero entries) r 0 (omega (arith, past, length-map entries number_or_zero))
+      ∙ sym (ap number_or_zero (get_or_past entries r None past))
+]

@@ -2,7 +2,6 @@ pub mod Adding
 pub mod BlockNumbers
 pub mod CallerLemmas
 pub mod EndRows
-pub mod EndSpans
 pub mod Exchanging
 pub mod FromPlaces
 pub mod Gathering
@@ -16,4 +15,5 @@ pub mod SliceSpans
 pub mod StateWords
 pub mod Turning
 pub mod WholeRanks
-pub mod WordSpans
+pub use Rattle.bsi_words.proofs.EndSpans
+pub use Rattle.bsi_words.proofs.WordSpans

@@ -1,11 +1,12 @@
 -- The number of a given rank in a found set, by its digits from the most significant down.
-use Rattle.std.proofs.Common.{◌≡◌, ℕ, ◌+◌, ◌-◌, ◌*◌, ◌/◌, ◌%◌, ◌<◌, ◌≤◌, suc, Bool, true, false, cond, List, [], ◌∷◌, Option, Some, None, length, get_or, map, inl, inr, ap, ap₂, sym, ◌∙◌, refl, arith}
+use Rattle.std.proofs.Common.{◌≡◌, ℕ, ◌+◌, ◌-◌, ◌*◌, ◌/◌, ◌%◌, ◌<◌, suc, Bool, true, false, cond, List, [], ◌∷◌, Option, Some, None, length, get_or, map, inl, inr, ap, ap₂, sym, ◌∙◌, refl, arith}
 use Rattle.std.specs.Prelude.{All, Contains, count_by, is_some, nat_eq, nat_lt, nat_le, not, ◌&&◌, ◌||◌}
 use Rattle.std.specs.Simd.Lanes.{zip2}
 use Rattle.std.proofs.Math.Nat.{div-div-eq-div-mul}
 use Rattle.std.proofs.Math.Bool.{and-true, and-false}
-use Rattle.std.proofs.lemmas.Nat.{div-add-mod', mod_below, mul-le}
-use Rattle.bsi_digits.proofs.CallerLemmas.{two_eq, two_lt}
+use Rattle.std.proofs.lemmas.Nat.{div-add-mod', mod_below}
+use Rattle.bsi_digits.proofs.CallerLemmas.{two_lt}
+pub use Rattle.bsi_words.proofs.EndSpans.{next_small, same_parts}
 use Rattle.std.proofs.lemmas.Bool.{cases_Bool}
 use Rattle.std.proofs.lemmas.Bool.Decides.{nat_tests}
 use Rattle.std.proofs.lemmas.List.{nil_from_length}
@@ -161,11 +162,6 @@ where_below_zero (f ∷ chosen) (v ∷ digits) =
 
 -- ---- one digit more
 
-pub same_parts : (x a b d : ℕ) → d < b → (nat_eq (x / b) a && nat_eq (x % b) d) ≡ nat_eq x (a * b + d)
-same_parts x a b d below =
-    let parts : x / b * b + x % b ≡ x = div-add-mod' x b in
-    sym (two_eq b (x % b) d (x / b) a (mod_below x b (omega arith)) below) ∙ ap (λ y. nat_eq y (a * b + d)) parts
-
 apart : (q p : ℕ) (t : Bool) → cond (nat_lt q p || nat_eq q p && t) 1 0 ≡ cond (nat_lt q p) 1 0 + cond (nat_eq q p && t) 1 0
 apart q p true = grind (arith, nat_tests)
 apart q p false = grind (arith, nat_tests)
@@ -176,10 +172,6 @@ lower_parts x a b d below =
     ap {B = ℕ} (λ y. cond (nat_lt y (a * b + d)) 1 0) (sym parts)
     ∙ ap {B = ℕ} (λ t. cond t 1 0) (two_lt b (x % b) d (x / b) a (mod_below x b (omega arith)) below)
     ∙ apart (x / b) a (nat_lt (x % b) d)
-
--- with more digits the number still leaves room for those that are left
-pub next_small : (number w b d s : ℕ) → d < b → number * (w * b) + w * b ≤ s → (number * b + d) * w + w ≤ s
-next_small number w b d s below small = omega (arith, mul-le (d + 1) w b w (omega arith) (omega arith))
 
 -- the rows that are left have this number above the weight, and the rank is that among them
 pub record IsNarrowed (weight : ℕ) (found : List Bool) (entries : List (Option ℕ)) (k number rank : ℕ) (chosen : List Bool) : Type 0 where

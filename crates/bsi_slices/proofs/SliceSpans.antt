@@ -5,19 +5,15 @@ use Rattle.std.specs.Int.{bit_at, bit_not, w64}
 use Rattle.std.specs.Simd.Lanes.{zip2, chunk}
 use Rattle.std.proofs.lemmas.Bool.{cases_lt}
 use Rattle.std.proofs.lemmas.Bool.Decides.{nat_tests}
-use Rattle.std.proofs.lemmas.List.{length-map, get_or_past}
+use Rattle.std.proofs.lemmas.List.{get_or_past}
 use Rattle.std.proofs.lemmas.Nat.Bits.{bit_at-lt, shr_and_one}
 use Rattle.std.proofs.lemmas.Simd.{length-zip2, length-chunk, get_or-chunk}
 use Rattle.bsi_bits.specs.BitList.{BitList}
 use Rattle.bsi_bits.specs.Packed.{bit_of}
 use Rattle.bsi_bits.specs.BitLists.{bits_at}
 use Rattle.bsi_slices.specs.Slices.{number}
-use Rattle.bsi_slices.proofs.WordSpans.{bit_of-chunk, and_bit, or_bit, not_bit}
+use Rattle.bsi_words.proofs.WordSpans.{bit_of-chunk, and_bit, or_bit, cut_bit, cut_long, turned}
 use Rattle.bsi_slices.proofs.SliceNumbers.{above_more, equal_more}
-
--- a truth value, turned if it is to be
-abbrev pub turned : Bool → Bool → Bool
-turned negated b = if negated then not b else b
 
 -- a span of words below 2^64 is of such words
 pub chunk_fits : (at n : ℕ) (words : List ℕ) → ((k : ℕ) → get_or words k 0 < 2 ^ 64) → at + n ≤ length words → (k : ℕ) → get_or (chunk at n words) k 0 < 2 ^ 64
@@ -35,18 +31,6 @@ module _ (n : ℕ) (above slice : List ℕ) (long : length above ≡ n) (same : 
   pub stepped_long : (one : Bool) → length (if one then zip2 bit_and above slice else zip2 bit_or above slice) ≡ n
   stepped_long true = length-zip2 bit_and above slice (long ∙ sym same) ∙ long
   stepped_long false = length-zip2 bit_or above slice (long ∙ sym same) ∙ long
-
-  -- and cut by another
-  pub cut_bit : (negated : Bool) → ((k : ℕ) → get_or slice k 0 < 2 ^ 64) → (p : ℕ) → p < 64 * n
-      → bit_of (if negated then zip2 bit_and above (map (bit_not w64) slice) else zip2 bit_and above slice) p ≡ (bit_of above p && turned negated (bit_of slice p))
-  cut_bit true fits p within =
-      and_bit above (map (bit_not w64) slice) (long ∙ sym same ∙ sym (length-map slice (bit_not w64))) p (omega arith)
-      ∙ ap (λ b. bit_of above p && b) (not_bit slice fits p (omega arith))
-  cut_bit false fits p within = and_bit above slice (long ∙ sym same) p (omega arith)
-
-  pub cut_long : (negated : Bool) → length (if negated then zip2 bit_and above (map (bit_not w64) slice) else zip2 bit_and above slice) ≡ n
-  cut_long true = length-zip2 bit_and above (map (bit_not w64) slice) (long ∙ sym same ∙ sym (length-map slice (bit_not w64))) ∙ long
-  cut_long false = length-zip2 bit_and above slice (long ∙ sym same) ∙ long
 
 -- a place of the constant as it is read
 pub one_read : (c i : ℕ) → (bit_and (c / 2 ^ i) 1 == 1) ≡ (bit_at c i == 1)

@@ -1,6 +1,7 @@
 -- A column as slices: bit r of slice k is binary place k of the number of row r.
 use Rattle.std.specs.Prelude.{◌≡◌, ℕ, ◌+◌, ◌*◌, ◌<◌, ◌≤◌, Bool, false, if◌then◌else◌, List, [], ◌∷◌, length, map, Option, Some, None, slice_index_or}
 use Rattle.std.specs.List.{range_with_len}
+pub use Rattle.bsi_words.specs.Places.{bit_value}
 use Rattle.bsi_words.specs.Places.{max_places}
 use Rattle.bsi_bits.specs.BitList.{max_len, BitList}
 use Rattle.bsi_bits.specs.BitLists.{bits_at}
@@ -10,10 +11,6 @@ pub record SliceRows : Type 0 where
   pub width : ℕ
   pub entries : List (Option ℕ)
   pub room : ℕ
-
--- a bit as a number
-abbrev pub bit_value : Bool → ℕ
-bit_value bit = if bit then 1 else 0
 
 -- the number of row r, the slice of the least place first
 unfoldable pub number : List BitList → ℕ → ℕ

@@ -11,9 +11,10 @@ mod standing;
 pub mod transposing;
 
 pub use bsi_orders::Op;
+pub use bsi_words::End;
 pub use column::Column;
 pub use decision::{Decision, Relation, Test, decide};
 pub use not_null::NotNull;
-pub use slices::{End, Relating, Slices};
+pub use slices::{Relating, Slices};
 pub use standing::Standing;
 pub use std::alloc::AllocError as NoMemory;

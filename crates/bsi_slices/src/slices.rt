@@ -20,6 +20,7 @@ use crate::not_null::NotNull;
 use crate::transposing::{not_null_word, numbers_by_places, transpose, write_numbers};
 use crate::{NoMemory, Op};
 use bsi_bits::{Bitmaps, Bits, MAX_BLOCK, MAX_LEN};
+use bsi_words::End;
 use bsi_words::nulls::are_clear_at_nulls;
 use compare::{keep_selected, select};
 use related::keep_related;
@@ -31,7 +32,6 @@ mod ends;
 mod related;
 mod totals;
 
-pub use ends::End;
 pub use related::Relating;
 
 /// The most slices of a column.

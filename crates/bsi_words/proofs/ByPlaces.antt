@@ -1,12 +1,12 @@
 -- How one binary place more orders a number and a constant.
-use Rattle.std.proofs.Common.{◌≡◌, ℕ, ◌+◌, ◌*◌, ◌/◌, ◌%◌, ◌^◌, ◌<◌, Bool, true, false, ◌&&◌, ◌||◌, List, cond, get_or, length, not, inl, inr, sym, ◌∙◌, ap, arith}
-use Rattle.std.specs.Prelude.{◌==◌, ◌≢◌, if◌then◌else◌, bit_and}
+use Rattle.std.proofs.Common.{◌≡◌, ℕ, ◌+◌, ◌*◌, ◌/◌, ◌%◌, ◌^◌, ◌<◌, Bool, true, false, ◌&&◌, ◌||◌, List, cond, get_or, length, map, not, inl, inr, sym, ◌∙◌, ap, arith}
+use Rattle.std.specs.Prelude.{◌==◌, if◌then◌else◌, bit_and}
 use Rattle.std.specs.Int.{bit_at}
-use Rattle.std.proofs.lemmas.Bool.{cases_eq}
+use Rattle.std.proofs.lemmas.Bool.{cases_eq, cases_lt}
 use Rattle.std.proofs.lemmas.Bool.Decides.{nat_tests}
 use Rattle.std.proofs.lemmas.Nat.{mod-pow-add, mod_below, pow_pos}
-use Rattle.std.proofs.lemmas.Nat.Bits.{bit_at-lt, shr_and_one}
-use Rattle.std.proofs.lemmas.List.{get_or-map}
+use Rattle.std.proofs.lemmas.Nat.Bits.{bit_at-lt, bit_at-zero, shr_and_one}
+use Rattle.std.proofs.lemmas.List.{get_or-map, get_or_past, length-map}
 use Rattle.std.proofs.Math.Nat.{mod-eq_of_lt}
 use Rattle.bsi_bits.specs.BitList.{BitList}
 use Rattle.bsi_words.specs.Places.{at_most_from, has_place, IsEncoded}
@@ -34,19 +34,6 @@ places_more n i =
       | inr other ↦ let t : (b == 1) ≡ false = grind (arith, nat_tests) in rw t (omega arith)
     ]
 
--- a place of the constant as it is read
-one_read : (c i : ℕ) → bit_and (c / 2 ^ i) 1 ≡ 1 → has_place i c ≡ true
-one_read c i is = by (bit_at c i) (sym (shr_and_one c i) ∙ is)
-  where
-    by : (b : ℕ) → b ≡ 1 → (b == 1) ≡ true
-    by b one = grind (arith, nat_tests)
-
-zero_read : (c i : ℕ) → bit_and (c / 2 ^ i) 1 ≢ 1 → has_place i c ≡ false
-zero_read c i other = by (bit_at c i) (λ is. other (shr_and_one c i ∙ is))
-  where
-    by : (b : ℕ) → b ≢ 1 → (b == 1) ≡ false
-    by b not_one = grind (arith, nat_tests)
-
 module _ (low : Bool) (n c i : ℕ) where
   -- by one place more
   ordered_more : at_most_from low (n % 2 ^ (i + 1)) (c % 2 ^ (i + 1))
@@ -55,25 +42,12 @@ module _ (low : Bool) (n c i : ℕ) where
       (λ j. at_most_from low (places_more n i j) (places_more c i j))
       ∙ at_place low (n % 2 ^ i) (c % 2 ^ i) (2 ^ i) (has_place i n) (has_place i c) (mod_below n (2 ^ i) (pow_pos i)) (mod_below c (2 ^ i) (pow_pos i))
 
-  -- where the constant has a 1 there
-  pub ordered_one : bit_and (c / 2 ^ i) 1 ≡ 1 → (before after place : Bool) → before ≡ at_most_from low (n % 2 ^ i) (c % 2 ^ i) → place ≡ has_place i n
-      → after ≡ (before || not place) → after ≡ at_most_from low (n % 2 ^ (i + 1)) (c % 2 ^ (i + 1))
-  ordered_one one before after place was is now_ =
-      now_ ∙ (λ j. was j || not (is j)) ∙ sym (ordered_more ∙ by (has_place i c) (one_read c i one))
-    where
-      by : (y : Bool) → y ≡ true → (if y then (at_most_from low (n % 2 ^ i) (c % 2 ^ i) || not (has_place i n)) else (at_most_from low (n % 2 ^ i) (c % 2 ^ i) && not (has_place i n)))
-          ≡ (at_most_from low (n % 2 ^ i) (c % 2 ^ i) || not (has_place i n))
-      by y is = ap (λ b. if b then (at_most_from low (n % 2 ^ i) (c % 2 ^ i) || not (has_place i n)) else (at_most_from low (n % 2 ^ i) (c % 2 ^ i) && not (has_place i n))) is
-
-  -- and where it has a 0
-  pub ordered_zero : bit_and (c / 2 ^ i) 1 ≢ 1 → (before after place : Bool) → before ≡ at_most_from low (n % 2 ^ i) (c % 2 ^ i) → place ≡ has_place i n
-      → after ≡ (before && not place) → after ≡ at_most_from low (n % 2 ^ (i + 1)) (c % 2 ^ (i + 1))
-  ordered_zero zero before after place was is now_ =
-      now_ ∙ (λ j. was j && not (is j)) ∙ sym (ordered_more ∙ by (has_place i c) (zero_read c i zero))
-    where
-      by : (y : Bool) → y ≡ false → (if y then (at_most_from low (n % 2 ^ i) (c % 2 ^ i) || not (has_place i n)) else (at_most_from low (n % 2 ^ i) (c % 2 ^ i) && not (has_place i n)))
-          ≡ (at_most_from low (n % 2 ^ i) (c % 2 ^ i) && not (has_place i n))
-      by y is = ap (λ b. if b then (at_most_from low (n % 2 ^ i) (c % 2 ^ i) || not (has_place i n)) else (at_most_from low (n % 2 ^ i) (c % 2 ^ i) && not (has_place i n))) is
+  -- as the constant's place is read
+  pub ordered_with : (before after place : Bool) → before ≡ at_most_from low (n % 2 ^ i) (c % 2 ^ i) → place ≡ has_place i n
+      → after ≡ (if bit_and (c / 2 ^ i) 1 == 1 then (before || not place) else (before && not place)) → after ≡ at_most_from low (n % 2 ^ (i + 1)) (c % 2 ^ (i + 1))
+  ordered_with before after place was is now_ =
+      let read : (bit_and (c / 2 ^ i) 1 == 1) ≡ has_place i c = ap (λ b. b == 1) (shr_and_one c i) in
+      now_ ∙ (λ j. if read j then (was j || not (is j)) else (was j && not (is j))) ∙ sym ordered_more
 
 -- by no place
 pub ordered_none : (low : Bool) (n c : ℕ) → low ≡ at_most_from low (n % 2 ^ 0) (c % 2 ^ 0)
@@ -82,12 +56,17 @@ ordered_none low n c =
     let b : c % 1 ≡ 0 = omega arith in
     grind (arith, nat_tests, a, b)
 
--- the bit of a row at a place
+-- the bit of a row at a place, which is clear past the last row
 pub place_read : (places : List BitList) (place : BitList) (i : ℕ) → i < length places → place ≡ get_or places i place → (numbers : List ℕ) → IsEncoded has_place places numbers
-    → (r : ℕ) → r < length numbers → get_or place.bits r false ≡ has_place i (get_or numbers r 0)
-place_read places place i within read numbers encoded r below =
-    ap (λ (b : BitList). get_or b.bits r false) (read_bitmap places i place within read)
-    ∙ (ap (λ bits. get_or bits r false) (encoded.each i within) ∙ get_or-map (has_place i) numbers r 0 false below)
+    → (r : ℕ) → get_or place.bits r false ≡ has_place i (get_or numbers r 0)
+place_read places place i within read numbers encoded r =
+    let bits : place.bits ≡ map (has_place i) numbers = ap (λ (b : BitList). b.bits) (read_bitmap places i place within read) ∙ encoded.each i within in
+    ap (λ bits. get_or bits r false) bits ∙ elim (cases_lt r (length numbers)) [
+      | inl below ↦ get_or-map (has_place i) numbers r 0 false below
+      | inr past ↦
+          get_or_past (map (has_place i) numbers) r false (omega (arith, past, length-map numbers (has_place i)))
+          ∙ sym (ap (has_place i) (get_or_past numbers r 0 past) ∙ ap (λ b. b == 1) (bit_at-zero i))
+    ]
 
 -- by all places
 pub ordered_all : (low : Bool) (n c i : ℕ) → n < 2 ^ i → c < 2 ^ i → at_most_from low (n % 2 ^ i) (c % 2 ^ i) ≡ at_most_from low n c

@@ -2,6 +2,7 @@ pub mod BitmapReads
 mod ByPlaces
 pub mod DigitBlocks
 pub mod DigitMaps
+pub mod EndSpans
 pub mod FoundRows
 pub mod MarkBits
 pub mod MarkPlaces
@@ -15,3 +16,4 @@ pub mod ShortBlocks
 pub mod SpanBits
 pub mod SpanRows
 pub mod Spelling
+pub mod WordSpans

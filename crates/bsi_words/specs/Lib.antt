@@ -1,4 +1,6 @@
+pub mod Ends
 pub mod Marks
 pub mod Nulls
 pub mod Places
 pub mod Ranks
+pub mod Spans

@@ -20,6 +20,10 @@ min_base_with_places = 4
 pub record IsEncoded (holds : ℕ → ℕ → Bool) (bitmaps : List BitList) (numbers : List ℕ) : Type 0 where
   pub each : (j : ℕ) → j < length bitmaps → bits_at bitmaps j ≡ map (holds j) numbers
 
+-- a bit as a number
+abbrev pub bit_value : Bool → ℕ
+bit_value bit = if bit then 1 else 0
+
 -- binary place k of the number is 1
 abbrev pub has_place : ℕ → ℕ → Bool
 has_place k number = bit_at number k == 1

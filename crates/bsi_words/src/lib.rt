@@ -3,12 +3,15 @@
 #![tactic(auto)]
 
 mod comparisons;
+mod ends;
 pub mod marks;
 pub mod nulls;
 mod ranks;
+pub mod registers;
 pub mod spans;
 mod sums;
 
 pub use comparisons::order_by_places;
+pub use ends::{End, better_by_places, end_by_places};
 pub use ranks::{RankedRows, rows_of_rank};
 pub use sums::{is_clear, sum_by_places};

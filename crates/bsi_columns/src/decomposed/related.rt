@@ -4,7 +4,7 @@
 //! Where two digits differ they decide over those below, so one state goes up through the components, and no number is
 //! put together.
 
-ghost use Rattle.std.specs.Prelude.{◌≡◌, ℕ, ◌+◌, ◌*◌, ◌<◌, ◌≤◌, ◌&&◌, is_some, None, length, slice_index, slice_index_or, IsFalse, IsTrue};
+ghost use Rattle.std.specs.Prelude.{◌≡◌, ◌↔◌, ℕ, ◌+◌, ◌*◌, ◌<◌, ◌≤◌, ◌&&◌, is_some, None, length, slice_index, slice_index_or, IsFalse, IsTrue};
 ghost use Rattle.bsi_bits.specs.BitList.{word_count};
 ghost use Rattle.bsi_bits.specs.Packed.{bit_of};
 ghost use Rattle.bsi_columns.specs.Ends.{number_at};
@@ -37,6 +37,8 @@ impl<E: BinaryPlaces> Decomposed<E> {
     ) -> bool
         requires within { at + length span.old ≤ word_count (length self.now.entries) }
         requires same { length other.now.entries ≡ length self.now.entries }
+        ensures told { IsTrue result ↔
+            ((relating.more ≡ relating.others_more) × (self.now.bases ≡ other.now.bases)) }
         ensures kept { IsTrue result → KeepsRelatedRows relating self.now.entries other.now.entries
             at span.old span.new }
         ensures unchanged { IsFalse result → span.new ≡ span.old }

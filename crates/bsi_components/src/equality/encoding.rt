@@ -5,11 +5,12 @@ ghost use Rattle.bsi_digits.specs.Digits.{IsBase};
 
 use crate::NoMemory;
 use crate::encoding::Encoding;
+use crate::equality::ends::just_below;
 use crate::equality::{EqualityComponent, first_stored, push_block};
 use crate::places::{kept_places, push_digit};
 use bsi_bits::{Bitmaps, Bits};
 use bsi_words::spans::{copy_in, drop_in, exceeds, keep_in, meets};
-use bsi_words::{RankedRows, order_by_places, rows_of_rank, sum_by_places};
+use bsi_words::{End, RankedRows, order_by_places, rows_of_rank, sum_by_places};
 use std::alloc::Global;
 
 impl Encoding for EqualityComponent {
@@ -162,7 +163,27 @@ impl Encoding for EqualityComponent {
         }
     }
 
-    // It reads one bitmap. The searches for the least and the greatest digit of a span read one a digit by it.
+    // It reads the bitmaps of the digits up to the bound, or goes down the binary places, whichever are fewer.
+    fn least_in_span(&self, bound: u32, at: usize, span: &[u64]) -> Option<u32> {
+        let places = self.places().len();
+        if 0 < places && places <= bound as usize {
+            self.end_in_span(End::Least, Some(u64::from(bound) + 1), at, span)
+        } else {
+            self.least_by_bitmaps(bound, at, span)
+        }
+    }
+
+    // It reads the bitmaps of the digits from the bound on, or goes down the binary places, whichever are fewer.
+    fn greatest_in_span(&self, bound: u32, at: usize, span: &[u64]) -> Option<u32> {
+        let places = self.places().len();
+        if 0 < places && places < (self.base() - bound) as usize {
+            self.end_in_span(End::Greatest, just_below(bound), at, span)
+        } else {
+            self.greatest_by_bitmaps(bound, at, span)
+        }
+    }
+
+    // It reads one bitmap.
     fn has_digit(&self, d: u32, at: usize, span: &[u64]) -> bool {
         if self.is_stored(d) {
             meets(self.bitmap(d), at, span)

@@ -24,12 +24,10 @@ ghost use Rattle.bsi_slices.specs.Slices.{entries_in, number, IsSliced};
 use crate::decision::{Decision, Relation, Test, decide};
 use crate::not_null::NotNull;
 use crate::{NoMemory, Op};
-use bsi_bits::{Bits, MAX_LEN, know_fits};
+use bsi_bits::Bits;
+use bsi_words::registers::{REGISTER_WORDS, cut, span_at, words_of};
 use std::alloc::Global;
 use std::simd::Simd;
-
-/// The number of words that go through all slices at once.
-pub(crate) const REGISTER_WORDS: usize = 16;
 
 /// Returns for each row whether it is a number that satisfies the comparison `op` with `constant`. It reads no slice if
 /// the answer is already known.
@@ -195,30 +193,4 @@ fn stepped<const N: usize>(above: Simd<u64, N>, part: Simd<u64, N>, is_one: bool
         above.entry part.entry) }
 {
     if is_one { above & part } else { above | part }
-}
-
-/// Keeps the bits that are set in `other` or, if negated, those that are not.
-pub(super) fn cut<const N: usize>(
-    kept: Simd<u64, N>,
-    other: Simd<u64, N>,
-    negated: bool,
-) -> Simd<u64, N>
-    ensures { result ≡ (if negated then zip2 bit_and kept.entry (map (bit_not w64) other.entry) else
-        zip2 bit_and kept.entry other.entry) }
-{
-    if negated { kept & !other } else { kept & other }
-}
-
-/// Returns the words of a slice, at most 2^26 of them.
-pub(super) fn words_of(slice: &Bits) -> &[u64]
-    ensures few { length result.now ≡ word_count (length slice.now.bits) }
-    ensures small { length result.now ≤ max_words }
-    ensures places { (i : ℕ) → bit_of result.now i ≡ slice_index_or slice.now.bits i false }
-    ensures fits { (k : ℕ) → slice_index result.now k < end_of_u64 }
-{
-    // The proof takes from this that there are at most 2^32 bits, so at most 2^26 words.
-    prove!(slice.len() <= MAX_LEN);
-    let words = slice.words();
-    know_fits(words);
-    words
 }

@@ -15,10 +15,10 @@ ghost use Rattle.bsi_slices.specs.Slices.{number};
 ghost use Rattle.bsi_slices.specs.Spans.{IsKept};
 ghost use Rattle.bsi_slices.specs.Standings.{stands};
 
-use super::compare::words_of;
 use crate::Op;
 use crate::standing::{Standing, add_place};
 use bsi_bits::{Bits, know_fits, lanes};
+use bsi_words::registers::words_of;
 
 /// The most words of a block. Those of both columns, the state and the sums take 20 KiB, so they stay in the first cache.
 const BLOCK_WORDS: usize = 512;

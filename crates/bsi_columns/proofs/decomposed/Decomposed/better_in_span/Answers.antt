@@ -10,7 +10,8 @@ use Rattle.std.proofs.lemmas.List.{length-map}
 use Rattle.std.specs.Prelude.{is_some}
 use Rattle.bsi_bits.specs.BitList.{word_count}
 use Rattle.bsi_columns.proofs.Ranking.{next_small}
-use Rattle.bsi_columns.proofs.EndSpans.{IsNearest, nearest_start, nearest_end, number_small}
+use Rattle.bsi_columns.proofs.EndRows.{number_small}
+use Rattle.bsi_columns.proofs.EndSpans.{IsNearest, nearest_start, nearest_end}
 use Rattle.bsi_columns.proofs.EndDigits.{past_leads, row_digit, both_first, kept_marked, digit_low, component_step, not_null_row, not_both}
 use Rattle.bsi_columns.proofs.decomposed.Decomposed.better_in_span.Goals as goal
 

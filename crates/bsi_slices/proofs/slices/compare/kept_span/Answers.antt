@@ -4,7 +4,7 @@ use Rattle.std.proofs.lemmas.Bool.Decides.{nat_tests}
 use Rattle.bsi_bits.specs.Packed.{bit_of}
 use Rattle.bsi_slices.specs.Decisions.{as_wanted, relates}
 use Rattle.bsi_slices.specs.Slices.{number}
-use Rattle.bsi_slices.proofs.SliceSpans.{cut_bit, turned}
+use Rattle.bsi_words.proofs.WordSpans.{cut_bit, turned}
 use Rattle.bsi_slices.proofs.slices.compare.kept_span.Goals.{in-Equal, in-AtMost}
 use Rattle.bsi_slices.proofs.slices.compare.kept_span.Goals as goal
 

@@ -1,23 +1,22 @@
 -- The number at an end of some rows, by its digits from the most significant down.
-use Rattle.std.proofs.Common.{◌≡◌, ℕ, ◌+◌, ◌-◌, ◌*◌, ◌/◌, ◌%◌, ◌^◌, ◌<◌, ◌≤◌, Bool, true, false, ◌&&◌, not, List, Option, None, length, get_or, map, inl, inr, ap, ap₂, subst, sym, ◌∙◌, refl, arith}
-use Rattle.std.specs.Prelude.{nat_eq, ◌==◌, if◌then◌else◌, bit_and, All}
+use Rattle.std.proofs.Common.{◌≡◌, ℕ, ◌+◌, ◌-◌, ◌*◌, ◌/◌, ◌%◌, ◌^◌, ◌<◌, ◌≤◌, Bool, true, false, ◌&&◌, not, List, Option, Some, None, length, get_or, map, inl, inr, ap, ap₂, subst, sym, ◌∙◌, refl, arith, ◌⊎◌}
+use Rattle.std.specs.Prelude.{nat_eq, ◌==◌, if◌then◌else◌, bit_and}
 use Rattle.std.specs.Int.{bit_at, bit_not, w64}
 use Rattle.std.proofs.Math.Nat.{div-div-eq-div-mul, div-mul-le_self, div-eq_of_lt}
 use Rattle.std.proofs.lemmas.Bool.{cases_eq, cases_lt}
 use Rattle.std.proofs.lemmas.Bool.Decides.{nat_tests}
 use Rattle.std.proofs.lemmas.Nat.{div-add-mod', mod_below, mul-le, pow_pos}
-use Rattle.std.proofs.lemmas.List.{get_or-map, get_or_past, length-map}
 use Rattle.std.specs.Simd.Lanes.{zip2}
-use Rattle.std.proofs.lemmas.Nat.Bits.{bit_at-zero, bit_at-lt}
+use Rattle.std.specs.Option.{option_or}
+use Rattle.std.proofs.lemmas.Nat.Bits.{bit_at-lt}
 use Rattle.bsi_bits.specs.SetRows.{HasRow}
 use Rattle.bsi_bits.specs.Packed.{bit_of}
-use Rattle.bsi_slices.specs.Slices.{bit_value}
-use Rattle.bsi_slices.specs.declared.slices.ends.End.{End}
-use Rattle.bsi_slices.specs.declared.slices.ends.End.TheVariants.{Least, Greatest}
-use Rattle.bsi_slices.specs.Ends.{comes_first, first_is_clear, nearest_place, number_at, IsEndAmong}
-use Rattle.bsi_orders.specs.Rows.{number_or_zero}
-use Rattle.bsi_slices.proofs.SliceSpans.{cut_bit, turned}
-use Rattle.bsi_slices.proofs.Ranking.{same_parts}
+use Rattle.bsi_words.specs.Places.{bit_value}
+use Rattle.bsi_words.specs.declared.ends.End.{End}
+use Rattle.bsi_words.specs.declared.ends.End.TheVariants.{Least, Greatest}
+use Rattle.bsi_words.specs.Ends.{comes_first, first_is_clear, goes_before, leads, nearest_place, yields, IsBetterIn, IsEndAmong}
+use Rattle.bsi_words.proofs.WordSpans.{cut_bit, turned}
+use Rattle.bsi_digits.proofs.CallerLemmas.{two_eq}
 
 -- ---- what leads
 
@@ -31,6 +30,15 @@ greatest_leads best number w x some bound below =
     omega (arith, parts, bound, mul-le (x / w) w number w below (omega arith), mod_below x w some)
 
 -- ---- one digit more
+
+pub same_parts : (x a b d : ℕ) → d < b → (nat_eq (x / b) a && nat_eq (x % b) d) ≡ nat_eq x (a * b + d)
+same_parts x a b d below =
+    let parts : x / b * b + x % b ≡ x = div-add-mod' x b in
+    sym (two_eq b (x % b) d (x / b) a (mod_below x b (omega arith)) below) ∙ ap (λ y. nat_eq y (a * b + d)) parts
+
+-- with more digits the number still leaves room for those that are left
+pub next_small : (number w b d s : ℕ) → d < b → number * (w * b) + w * b ≤ s → (number * b + d) * w + w ≤ s
+next_small number w b d s below small = omega (arith, mul-le (d + 1) w b w (omega arith) (omega arith))
 
 pub first_digit : (end : End) (a q b d e : ℕ) → d < b → e < b → comes_first end a q → (q ≡ a → comes_first end d e) → comes_first end (a * b + d) (q * b + e)
 first_digit Least a q b d e low high above tie = elim (cases_eq q a) [
@@ -165,22 +173,6 @@ module _ (end : End) (n : ℕ) (kept slice first : ℕ → Bool) (cut : (p : ℕ
   place_first false none p within there =
       missed_first end (slice p) (sym (ap (λ k. k && turned (first_is_clear end) (slice p)) there) ∙ sym (cut p within) ∙ none refl p within)
 
--- a row's place in a slice
-pub slice_place : (entries : List (Option ℕ)) (i r : ℕ) → get_or (map (λ e. bit_at (number_or_zero e) i == 1) entries) r false ≡ (bit_at (number_at entries r) i == 1)
-slice_place entries i r = elim (cases_lt r (length entries)) [
-  | inl within ↦ get_or-map (λ e. bit_at (number_or_zero e) i == 1) entries r None false within
-  | inr past ↦
-      get_or_past (map (λ e. bit_at (number_or_zero e) i == 1) entries) r false (omega (arith, length-map entries (λ e. bit_at (number_or_zero e) i == 1)))
-      ∙ sym (ap (λ e. bit_at (number_or_zero e) i == 1) (get_or_past entries r None past) ∙ ap (λ b. b == 1) (bit_at-zero i))
-]
-
--- each number is below the size
-pub number_small : (entries : List (Option ℕ)) (size : ℕ) → 0 < size → All (λ e. number_or_zero e < size) entries → (r : ℕ) → number_at entries r < size
-number_small entries size some below r = elim (cases_lt r (length entries)) [
-  | inl within ↦ below r None within
-  | inr past ↦ let none : number_at entries r ≡ 0 = ap number_or_zero (get_or_past entries r None past) in omega (arith, none)
-]
-
 place_is : (b : ℕ) → b < 2 → bit_value (b == 1) ≡ b
 place_is b low = elim (cases_eq b 1) [
   | inl one ↦ let t : (b == 1) ≡ true = grind (arith, nat_tests) in rw t (sym one)
@@ -223,3 +215,88 @@ nearest_slice end marked number n i above prefix kept slice first kept' met abov
 pub off_from_not : (b : Bool) → not b ≡ true → b ≡ true → ⊥
 off_from_not true off on = absurd (cc)
 off_from_not false off on = absurd (cc)
+
+-- ---- one span more
+
+before_first : (end : End) (a b : ℕ) → goes_before end a b → comes_first end a b
+before_first Least a b before = omega arith
+before_first Greatest a b before = omega arith
+
+then_first : (end : End) (a b c : ℕ) → comes_first end a b → comes_first end b c → comes_first end a c
+then_first Least a b c first second = omega arith
+then_first Greatest a b c first second = omega arith
+
+before_then : (end : End) (a b c : ℕ) → goes_before end a b → goes_before end b c → goes_before end a c
+before_then Least a b c first second = omega arith
+before_then Greatest a b c first second = omega arith
+
+first_led : (end : End) (best : Option ℕ) (a x : ℕ) → yields end a best → leads end best x → comes_first end a x
+first_led end None a x before led = absurd led
+first_led end (Some b) a x before led = then_first end a b x (before_first end a b before) led
+
+yields_too : (end : End) (best : Option ℕ) (a b : ℕ) → goes_before end a b → yields end b best → yields end a best
+yields_too end None a b before after = tt
+yields_too end (Some c) a b before after = before_then end a b c before after
+
+-- row p is among the first n, or behind them
+cases_rows : (n p : ℕ) → (p < n) ⊎ ((q : ℕ) × (n + q ≡ p))
+cases_rows n p = elim (cases_lt p n) [
+  | inl first ↦ inl first
+  | inr past ↦ inr (p - n, omega arith)
+]
+
+-- no row, and so none better
+pub better_none : (end : End) (rows : ℕ → Bool) (number : ℕ → ℕ) (n : ℕ) (best : Option ℕ) → n ≡ 0 → IsBetterIn end rows number n best None
+better_none end rows number n best none p within there = absurd (omega (arith, none))
+
+module _ (end : End) (rows : ℕ → Bool) (number : ℕ → ℕ) (n m : ℕ) (best : Option ℕ) where
+  all_lead : (answer : ℕ) → IsEndAmong end rows number n answer → ((p : ℕ) → p < m → rows (n + p) ≡ true → comes_first end answer (number (n + p))) → IsEndAmong end rows number (n + m) answer
+  all_lead answer first later = record {
+    member = (first.member.0, omega (arith, first.member.1), first.member.2, first.member.3);
+    first = λ p below there. elim (cases_rows n p) [
+      | inl before ↦ first.first p before there
+      | inr after ↦
+          let First : ℕ → Type 0 = λ k. comes_first end answer (number k) in
+          rw after.1 at (later after.0 (omega (arith, after.1)) (ap rows after.1 ∙ there))
+    ];
+  }
+
+  taken : (answer : ℕ) → IsEndAmong end (λ p. rows (n + p)) (λ p. number (n + p)) m answer → ((p : ℕ) → p < n → rows p ≡ true → comes_first end answer (number p)) → IsEndAmong end rows number (n + m) answer
+  taken answer later first = record {
+    member = (n + later.member.0, omega (arith, later.member.1), later.member.2, later.member.3);
+    first = λ p below there. elim (cases_rows n p) [
+      | inl before ↦ first p before there
+      | inr after ↦
+          let First : ℕ → Type 0 = λ k. comes_first end answer (number k) in
+          rw after.1 at (later.first after.0 (omega (arith, after.1)) (ap rows after.1 ∙ there))
+    ];
+  }
+
+  -- the rows before, and those of one span more
+  pub better_more : (before answer : Option ℕ) → IsBetterIn end rows number n best before
+      → IsBetterIn end (λ p. rows (n + p)) (λ p. number (n + p)) m (option_or before best) answer
+      → IsBetterIn end rows number (n + m) best (option_or answer before)
+  better_more None None first later = λ p below there. elim (cases_rows n p) [
+    | inl before ↦ first p before there
+    | inr after ↦
+        let Leads : ℕ → Type 0 = λ k. leads end best (number k) in
+        rw after.1 at (later after.0 (omega (arith, after.1)) (ap rows after.1 ∙ there))
+  ]
+  better_more (Some b) None first later = (all_lead b first.0 later, first.1)
+  better_more None (Some a) first later = (taken a later.0 (λ p below there. first_led end best a (number p) later.1 (first p below there)), later.1)
+  better_more (Some b) (Some a) first later = (
+    taken a later.0 (λ p below there. then_first end a b (number p) (before_first end a b later.1) (first.0.first p below there)),
+    yields_too end best a b later.1 first.1,
+  )
+
+-- the same of rows that are alike
+pub better_same : (end : End) (rows others : ℕ → Bool) (number : ℕ → ℕ) (n : ℕ) (best answer : Option ℕ) → ((p : ℕ) → p < n → others p ≡ rows p)
+    → IsBetterIn end rows number n best answer → IsBetterIn end others number n best answer
+better_same end rows others number n best None same none = λ p below there. none p below (sym (same p below) ∙ there)
+better_same end rows others number n best (Some a) same is = (
+  record {
+    member = (is.0.member.0, is.0.member.1, same is.0.member.0 is.0.member.1 ∙ is.0.member.2, is.0.member.3);
+    first = λ p below there. is.0.first p below (sym (same p below) ∙ there);
+  },
+  is.1,
+)

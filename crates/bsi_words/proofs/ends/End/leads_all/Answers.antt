@@ -1,8 +1,8 @@
 use Rattle.std.proofs.Common.{◌≡◌, ℕ, ◌+◌, ◌*◌, ◌-◌, ◌≤◌, true, arith}
 use Rattle.std.specs.Prelude.{nat_le}
 use Rattle.std.proofs.lemmas.Bool.Decides.{nat_tests}
-use Rattle.bsi_slices.proofs.EndSpans.{least_leads, greatest_leads}
-use Rattle.bsi_slices.proofs.slices.ends.End.leads_all.Goals as goal
+use Rattle.bsi_words.proofs.EndSpans.{least_leads, greatest_leads}
+use Rattle.bsi_words.proofs.ends.End.leads_all.Goals as goal
 
 at_most : (a b : ℕ) → nat_le a b ≡ true → a ≤ b
 at_most a b test = grind (arith, nat_tests, test)

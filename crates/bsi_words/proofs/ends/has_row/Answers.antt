@@ -2,8 +2,8 @@ use Rattle.std.proofs.Common.{ℕ, ◌*◌, List, length, ap, ◌∙◌, subst}
 use Rattle.bsi_bits.specs.Packed.{bit_of}
 use Rattle.bsi_bits.specs.SetRows.{HasRow}
 use Rattle.bsi_bits.proofs.SetRows.{some_set}
-use Rattle.bsi_slices.proofs.EndSpans.{off_from_not}
-use Rattle.bsi_slices.proofs.slices.ends.has_row.Goals as goal
+use Rattle.bsi_words.proofs.EndSpans.{off_from_not}
+use Rattle.bsi_words.proofs.ends.has_row.Goals as goal
 
 -- a word is not 0, and so has a bit
 pub returns-clause-some : goal.returns-clause-some
