@@ -3,8 +3,11 @@
 //! Built by `rustc -C opt-level=3 -C target-cpu=x86-64-v2`. A comparison goes over the rows in spans of words that stay in
 //! registers, reads each bitmap that it needs once, and writes its result once. A sum takes the found set in spans that stay
 //! in the first cache. A median narrows the found set and takes the next count in one pass. The scan goes over a plain list.
-//! A build takes blocks of 64 entries, turns each into words, and pushes a word to each bitmap, which grows as a `Vec` does.
-//! Slices are turned by six stages of exchanges, which took a fifth of the time of a plain double loop; range by a running or.
+//! Under bases the binary places of the digits are kept beside their bitmaps: a sum counts them, and `<=` under equality
+//! encoding reads them where they are fewer. Its median counts the bitmaps, which took less time in a cache. A build takes
+//! blocks of 64 entries, turns each into words, and pushes a word to each bitmap, which grows as a `Vec` does. Slices, and the
+//! places, which are the number's since each base is 2^5, are turned by six stages of exchanges, which took a fifth of the time
+//! of a plain double loop; range by a running or.
 
 use std::hint::black_box;
 use std::time::Instant;
@@ -19,6 +22,9 @@ const BUILDS: u32 = 3;
 
 const BASE: u64 = 32;
 const COMPONENTS: usize = 4;
+
+/// The binary places of a digit.
+const PLACES: usize = 5;
 
 /// Every third bit of a word.
 const THIRDS: u64 = 0x9249_2492_4924_9249;
@@ -45,6 +51,13 @@ fn set(words: &mut Words, row: u64) {
     words[(row / 64) as usize] |= 1 << (row % 64);
 }
 
+/// Sets the bits of a number's binary places.
+fn set_places(places: &mut [Words], row: u64, number: u64) {
+    for (i, place) in places.iter_mut().enumerate() {
+        place[(row / 64) as usize] |= (number >> i & 1) << (row % 64);
+    }
+}
+
 /// What a comparison does with one bitmap after the other, from all ones.
 #[derive(Clone, Copy)]
 enum Step<'a> {
@@ -52,6 +65,12 @@ enum Step<'a> {
     Or(&'a [u64]),
     AndNot(&'a [u64]),
     OrNot(&'a [u64]),
+}
+
+/// The steps of "at most" by binary places: the complement of "above", from the least significant place up.
+fn steps_by_places(places: &[Words], c: u64) -> impl Iterator<Item = Step<'_>> {
+    let places = places.iter().enumerate();
+    places.map(move |(i, place)| if c >> i & 1 == 1 { Step::OrNot(place) } else { Step::AndNot(place) })
 }
 
 /// Runs the steps over a span of N words from `at` on, from what is found so far.
@@ -112,6 +131,12 @@ fn weigh(weighted: &[(u64, &[u64])], found: &[u64]) -> u128 {
         }
     }
     counts.iter().zip(weighted).map(|(count, (weight, _))| u128::from(*count) * u128::from(*weight)).sum()
+}
+
+/// The sum of the found rows' numbers by their binary places, the least first.
+fn sum_by_places(places: &[Words], found: &[u64]) -> u128 {
+    let weighted: Vec<(u64, &[u64])> = places.iter().enumerate().map(|(i, place)| (1 << i, &place[..])).collect();
+    weigh(&weighted, found)
 }
 
 /// Makes each word of the chosen rows anew, and counts those that are in the next bitmap too.
@@ -188,6 +213,12 @@ fn push_words(bitmaps: &mut [Words], words: &[u64]) {
     }
 }
 
+/// Appends the binary places of a block's numbers.
+fn push_places(places: &mut [Words], mut numbers: [u64; 64]) {
+    transpose(&mut numbers);
+    push_words(places, &numbers);
+}
+
 trait Column {
     fn name(&self) -> &'static str;
     fn push(&mut self, row: u64);
@@ -216,26 +247,18 @@ impl Column for Slices {
     }
 
     fn push_block(&mut self, block: &Block) {
-        let (mut words, present) = numbers_of(block);
-        transpose(&mut words);
-        push_words(&mut self.slices, &words);
+        let (numbers, present) = numbers_of(block);
+        push_places(&mut self.slices, numbers);
         self.present.push(present);
     }
 
     fn push(&mut self, row: u64) {
-        let value = value_of(row);
-        for (i, slice) in self.slices.iter_mut().enumerate() {
-            slice[(row / 64) as usize] |= (value >> i & 1) << (row % 64);
-        }
+        set_places(&mut self.slices, row, value_of(row));
         set(&mut self.present, row);
     }
 
     fn le(&self, c: u64) -> Words {
-        // the complement of "above", from the least significant slice up
-        let steps: Vec<Step> = (0..WIDTH)
-            .map(|i| if c >> i & 1 == 1 { Step::OrNot(&self.slices[i]) } else { Step::AndNot(&self.slices[i]) })
-            .collect();
-        run(steps, &self.present)
+        run(steps_by_places(&self.slices, c).collect(), &self.present)
     }
 
     fn eq(&self, c: u64) -> Words {
@@ -246,8 +269,7 @@ impl Column for Slices {
     }
 
     fn sum(&self, found: &[u64]) -> u128 {
-        let weighted: Vec<(u64, &[u64])> = self.slices.iter().enumerate().map(|(i, slice)| (1 << i, &slice[..])).collect();
-        weigh(&weighted, found)
+        sum_by_places(&self.slices, found)
     }
 
     fn median(&self, found: &[u64]) -> u64 {
@@ -275,13 +297,15 @@ fn digit(value: u64, component: usize) -> usize {
 
 struct Range {
     bitmaps: Vec<Vec<Words>>,
+    places: Vec<Words>,
     present: Words,
 }
 
 impl Range {
     fn new(n: u64) -> Range {
         let words = n.div_ceil(64) as usize;
-        Range { bitmaps: vec![vec![vec![0; words]; BASE as usize - 1]; COMPONENTS], present: vec![0; words] }
+        let bitmaps = vec![vec![vec![0; words]; BASE as usize - 1]; COMPONENTS];
+        Range { bitmaps, places: vec![vec![0; words]; WIDTH], present: vec![0; words] }
     }
 }
 
@@ -331,6 +355,7 @@ impl Column for Range {
             }
             push_words(bitmaps, &words);
         }
+        push_places(&mut self.places, numbers);
         self.present.push(present);
     }
 
@@ -341,6 +366,7 @@ impl Column for Range {
                 set(bitmap, row);
             }
         }
+        set_places(&mut self.places, row, value);
         set(&mut self.present, row);
     }
 
@@ -353,12 +379,7 @@ impl Column for Range {
     }
 
     fn sum(&self, found: &[u64]) -> u128 {
-        // each bitmap that a found row is not in adds one weight to its number
-        let mut weighted = Vec::new();
-        for (i, bitmaps) in self.bitmaps.iter().enumerate() {
-            weighted.extend(bitmaps.iter().map(|bitmap| (1 << (5 * i), &bitmap[..])));
-        }
-        u128::from(count(found)) * u128::from((1u64 << WIDTH) - 1) - weigh(&weighted, found)
+        sum_by_places(&self.places, found)
     }
 
     fn median(&self, found: &[u64]) -> u64 {
@@ -382,13 +403,15 @@ impl Column for Range {
 
 struct Equality {
     bitmaps: Vec<Vec<Words>>,
+    places: Vec<Words>,
     present: Words,
 }
 
 impl Equality {
     fn new(n: u64) -> Equality {
         let words = n.div_ceil(64) as usize;
-        Equality { bitmaps: vec![vec![vec![0; words]; BASE as usize]; COMPONENTS], present: vec![0; words] }
+        let bitmaps = vec![vec![vec![0; words]; BASE as usize]; COMPONENTS];
+        Equality { bitmaps, places: vec![vec![0; words]; WIDTH], present: vec![0; words] }
     }
 }
 
@@ -402,6 +425,7 @@ impl Column for Equality {
         for (i, bitmaps) in self.bitmaps.iter_mut().enumerate() {
             push_words(bitmaps, &mark(&numbers, i));
         }
+        push_places(&mut self.places, numbers);
         self.present.push(present);
     }
 
@@ -410,6 +434,7 @@ impl Column for Equality {
         for (i, bitmaps) in self.bitmaps.iter_mut().enumerate() {
             set(&mut bitmaps[digit(value, i)], row);
         }
+        set_places(&mut self.places, row, value);
         set(&mut self.present, row);
     }
 
@@ -417,7 +442,9 @@ impl Column for Equality {
         let mut steps = Vec::new();
         for (i, bitmaps) in self.bitmaps.iter().enumerate() {
             let d = digit(c, i);
-            if d < BASE as usize / 2 {
+            if PLACES < (d + 1).min(BASE as usize - d) {
+                steps.extend(steps_by_places(&self.places[PLACES * i..][..PLACES], d as u64));
+            } else if d < BASE as usize / 2 {
                 steps.push(Step::And(&bitmaps[d]));
                 steps.extend(bitmaps[..d].iter().map(|bitmap| Step::Or(bitmap)));
             } else {
@@ -434,11 +461,7 @@ impl Column for Equality {
     }
 
     fn sum(&self, found: &[u64]) -> u128 {
-        let mut weighted = Vec::new();
-        for (i, bitmaps) in self.bitmaps.iter().enumerate() {
-            weighted.extend((1..BASE).map(|d| (d << (5 * i), &bitmaps[d as usize][..])));
-        }
-        weigh(&weighted, found)
+        sum_by_places(&self.places, found)
     }
 
     fn median(&self, found: &[u64]) -> u64 {
