@@ -1,3 +1,4 @@
+pub mod Adders
 pub mod BitList
 pub mod BitLists
 pub mod SetRows

@@ -11,9 +11,11 @@ ghost use Rattle.std.specs.Prelude.{◌≡◌, ◌*◌, ◌^◌, ◌≤◌, ◌<
 ghost use Rattle.std.specs.Int.{bit_not, w64};
 ghost use Rattle.std.specs.Simd.Lanes.{zip2};
 
+use adders::{BLOCK, count_blocks};
 use operations::{AndNotWords, AndWords, Operation, OrNotWords, OrWords, XorWords};
 use std::simd::u64x4;
 
+mod adders;
 mod operations;
 
 /// The number of words that a kernel takes at a time.
@@ -68,9 +70,9 @@ fn ones_in(words: u64x4) -> u64
     (a.count_ones() + b.count_ones() + c.count_ones() + d.count_ones()) as u64
 }
 
-/// Counts the ones in the operation's words for each pair of words. There are few enough pairs that 64 bits hold the
-/// count.
-fn count_few_combined<O: Operation>(a: &[u64], b: &[u64]) -> u64
+/// Counts the ones in the operation's words for each pair of words, four pairs at a time. There are few enough pairs that
+/// 64 bits hold the count.
+fn count_by_fours<O: Operation>(a: &[u64], b: &[u64]) -> u64
     requires same { length a.now ≡ length b.now }
     requires few { length a.now ≤ MAX_COUNTED }
     ensures ones { result ≡ sum_by count_ones (zip2 O.word_of a.now b.now) }
@@ -87,6 +89,22 @@ fn count_few_combined<O: Operation>(a: &[u64], b: &[u64]) -> u64
         ones += O::word(a[i], b[i]).count_ones() as u64;
     }
     ones
+}
+
+/// Counts the ones in the operation's words for each pair of words, block by block. There are few enough pairs that 64
+/// bits hold the count.
+fn count_few_combined<O: Operation>(a: &[u64], b: &[u64]) -> u64
+    requires same { length a.now ≡ length b.now }
+    requires few { length a.now ≤ MAX_COUNTED }
+    ensures ones { result ≡ sum_by count_ones (zip2 O.word_of a.now b.now) }
+    ensures few { result ≤ 64 * length a.now }
+{
+    if a.len() < BLOCK {
+        return count_by_fours::<O>(a, b);
+    }
+    let blocks = a.len() / BLOCK;
+    let whole = BLOCK * blocks;
+    count_blocks::<O>(a, b, blocks) + count_by_fours::<O>(&a[whole..], &b[whole..])
 }
 
 /// Counts the ones in the operation's words for each pair of words.

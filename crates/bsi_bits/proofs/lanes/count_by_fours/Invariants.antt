@@ -1,7 +1,7 @@
 use Rattle.std.proofs.Common.{◌≡◌, ◌*◌, ◌≤◌, take}
 use Rattle.std.specs.Prelude.{sum_by, count_ones}
 use Rattle.std.specs.Simd.Lanes.{zip2}
-use Rattle.bsi_bits.proofs.lanes.count_few_combined.Given as goal
+use Rattle.bsi_bits.proofs.lanes.count_by_fours.Given as goal
 
 abbrev pub invariant-fours : goal.invariant-fours
 invariant-fours g l = record {
