@@ -24,4 +24,3 @@ abbrev pub IsEndUpto : End → List Bool → List (Option ℕ) → ℕ → Optio
 IsEndUpto end found entries n answer =
     MatchOption answer ((r : ℕ) → r < n → has_number found entries r ≡ false)
     (IsEndAmong end (has_number found entries) (number_at entries) n)
-

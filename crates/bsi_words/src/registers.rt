@@ -38,11 +38,7 @@ pub fn span_at<const N: usize>(bits: &Bits, at: usize) -> Simd<u64, N>
 }
 
 /// Keeps the bits that are set in `other` or, if negated, those that are not.
-pub fn cut<const N: usize>(
-    kept: Simd<u64, N>,
-    other: Simd<u64, N>,
-    negated: bool,
-) -> Simd<u64, N>
+pub fn cut<const N: usize>(kept: Simd<u64, N>, other: Simd<u64, N>, negated: bool) -> Simd<u64, N>
     ensures { result ≡ (if negated then zip2 bit_and kept.entry (map (bit_not w64) other.entry) else
         zip2 bit_and kept.entry other.entry) }
 {
