@@ -1,4 +1,4 @@
-//! What the forms of a column do with words: steps on spans of them, the words of digits, and the sum and the rows of a rank
+//! What the forms of a column do with words: steps on spans of them, the words of digits, and the sum, an end and the rows of a rank
 //! over those of a found set.
 #![tactic(auto)]
 
