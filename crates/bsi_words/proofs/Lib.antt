@@ -4,10 +4,12 @@ pub mod DigitBlocks
 pub mod DigitMaps
 pub mod EndSpans
 pub mod FoundRows
+pub mod Listing
 pub mod MarkBits
 pub mod MarkPlaces
 pub mod Narrowing
 pub mod NullBits
+pub mod Passing
 pub mod PlaceBitmaps
 pub mod PlaceRanks
 pub mod PlaceSums

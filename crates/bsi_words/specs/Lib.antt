@@ -1,4 +1,5 @@
 pub mod Ends
+pub mod Listing
 pub mod Marks
 pub mod Nulls
 pub mod Places

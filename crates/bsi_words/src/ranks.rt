@@ -1,19 +1,24 @@
 //! The number of a rank at the rows of a found set, by its binary places from the most significant down.
 //!
-//! A step narrows the rows by the place of the step before, and at once counts those that are clear in its own. It passes
-//! over cache lines that have no row any more, and reads nothing else there.
+//! A step narrows the rows by the place of the step before, and at once counts those that are clear in its own. Where few
+//! words have a row, it goes over these alone. Otherwise it passes over cache lines that have no row any more, and reads
+//! nothing else there.
 
-ghost use Rattle.std.specs.Prelude.{◌≡◌, ℕ, List, ◌+◌, ◌*◌, ◌^◌, ◌≤◌, ◌<◌, ◌&&◌, false, if◌then◌else◌, length, not, slice_index, sum_by, count_by, count_ones};
+ghost use Rattle.std.specs.Prelude.{◌≡◌, ℕ, List, ◌+◌, ◌*◌, ◌^◌, ◌≤◌, ◌<◌, ◌&&◌, false, if◌then◌else◌, length, not, slice_index, sum_by, count_by, count_ones, IfSome};
 ghost use Rattle.std.specs.Simd.Lanes.{zip2};
 ghost use Rattle.bsi_bits.specs.BitList.{max_words, without};
 ghost use Rattle.bsi_bits.specs.BitLists.{bits_at};
 ghost use Rattle.bsi_bits.specs.Packed.{bits_of, IsPacked};
+ghost use Rattle.bsi_words.specs.Listing.{AreListed};
 ghost use Rattle.bsi_words.specs.Places.{has_place, max_places, IsEncoded};
 ghost use Rattle.bsi_words.specs.Ranks.{word_kept, IsRankedRows};
 
 use crate::sums::{LINE_WORDS, is_clear};
 use bsi_bits::{Bits, MAX_LEN, know_fits};
+use listing::{Listed, list_words};
 use std::simd::u64x8;
+
+mod listing;
 
 /// The rows that have the number of a rank, that number, and the rank of its row among them.
 #[derive(Drop)]
@@ -45,14 +50,21 @@ pub fn rows_of_rank(places: &[Bits], rank: u64, found: Bits) -> RankedRows
     let mut choice = choose(rank, count_clear(&found, &places[last]));
     let mut number = 0;
     let mut rows = found.into_words();
+    let listed = list_words(&rows);
     'places: while last > 0 {
-        let clear = narrow(&mut rows, &places[last], choice.is_set, &places[last - 1]);
+        let clear = narrow(
+            &mut rows,
+            &listed,
+            &places[last],
+            choice.is_set,
+            &places[last - 1],
+        );
         number = number * 2 + u64::from(choice.is_set);
         choice = choose(choice.rank, clear);
         last -= 1;
     }
     // No place is next, so the count is of no use.
-    narrow(&mut rows, &places[0], choice.is_set, &places[0]);
+    narrow(&mut rows, &listed, &places[0], choice.is_set, &places[0]);
     RankedRows {
         number: number * 2 + u64::from(choice.is_set),
         rank: choice.rank,
@@ -123,10 +135,20 @@ fn count_words(words: &[u64], others: &[u64]) -> u64
 
 /// Keeps those of the chosen rows that have a binary place set or, as wanted, those that have it clear. Returns how many
 /// of them have the next place clear.
-fn narrow(chosen: &mut [u64], place: &Bits, is_set: bool, next: &Bits) -> u64
+fn narrow(
+    chosen: &mut [u64],
+    listed: &Option<Listed>,
+    place: &Bits,
+    is_set: bool,
+    next: &Bits,
+) -> u64
     requires packed { IsPacked (length place.now.bits) chosen.old }
+    requires listed { IfSome listed.now (λ l.
+        AreListed (length chosen.old) l.places l.count chosen.old) }
     requires same { length next.now.bits ≡ length place.now.bits }
     ensures packed { IsPacked (length place.now.bits) chosen.new }
+    ensures listed { IfSome listed.now (λ l.
+        AreListed (length chosen.new) l.places l.count chosen.new) }
     ensures chosen { bits_of (length place.now.bits) chosen.new
         ≡ zip2 (λ f b. f && (if is_set then b else not b))
         (bits_of (length place.now.bits) chosen.old) place.now.bits }
@@ -136,11 +158,60 @@ fn narrow(chosen: &mut [u64], place: &Bits, is_set: bool, next: &Bits) -> u64
     let (words, others) = (place.words(), next.words());
     know_fits(words);
     know_fits(others);
-    narrow_words(chosen, words, is_set, others)
+    narrow_words(chosen, listed, words, is_set, others)
 }
 
-/// Narrows words as `narrow` does. It passes over lines that have no chosen row any more.
-fn narrow_words(chosen: &mut [u64], words: &[u64], is_set: bool, next: &[u64]) -> u64
+/// Narrows words as `narrow` does: those that are listed, or all.
+fn narrow_words(
+    chosen: &mut [u64],
+    listed: &Option<Listed>,
+    words: &[u64],
+    is_set: bool,
+    next: &[u64],
+) -> u64
+    requires few { length chosen.old ≤ max_words }
+    requires same { length words.now ≡ length chosen.old }
+    requires same_next { length next.now ≡ length chosen.old }
+    requires listed { IfSome listed.now (λ l.
+        AreListed (length chosen.old) l.places l.count chosen.old) }
+    ensures chosen { chosen.new ≡ zip2 (word_kept is_set) chosen.old words.now }
+    ensures clear { result ≡ sum_by count_ones (zip2 (word_kept false) chosen.new next.now) }
+    ensures listed { IfSome listed.now (λ l.
+        AreListed (length chosen.new) l.places l.count chosen.new) }
+{
+    match listed {
+        Some(listed) => narrow_listed(chosen, listed, words, is_set, next),
+        None => narrow_all(chosen, words, is_set, next),
+    }
+}
+
+/// Narrows the words that are listed. The others have no chosen row.
+fn narrow_listed(
+    chosen: &mut [u64],
+    listed: &Listed,
+    words: &[u64],
+    is_set: bool,
+    next: &[u64],
+) -> u64
+    requires few { length chosen.old ≤ max_words }
+    requires same { length words.now ≡ length chosen.old }
+    requires same_next { length next.now ≡ length chosen.old }
+    requires listed { AreListed (length chosen.old) listed.now.places listed.now.count chosen.old }
+    ensures chosen { chosen.new ≡ zip2 (word_kept is_set) chosen.old words.now }
+    ensures clear { result ≡ sum_by count_ones (zip2 (word_kept false) chosen.new next.now) }
+{
+    let mut clear = 0u64;
+    'listed: for i in 0..listed.count {
+        let at = listed.places[i] as usize;
+        let kept = kept_word(chosen[at], words[at], is_set);
+        chosen[at] = kept;
+        clear += u64::from((kept & !next[at]).count_ones());
+    }
+    clear
+}
+
+/// Narrows all words. It passes over lines that have no chosen row any more.
+fn narrow_all(chosen: &mut [u64], words: &[u64], is_set: bool, next: &[u64]) -> u64
     requires few { length chosen.old ≤ max_words }
     requires same { length words.now ≡ length chosen.old }
     requires same_next { length next.now ≡ length chosen.old }

@@ -1,5 +1,6 @@
 use Rattle.std.proofs.Common.{◌≡◌, ℕ, List, Bool, true, false, ◌+◌, ◌-◌, ◌*◌, ◌^◌, ◌<◌, ◌≤◌, ◌&&◌, cond, length, get_or, ap, ap₂, sym, subst, ◌∙◌, refl, arith}
-use Rattle.std.specs.Prelude.{count_by, not, if◌then◌else◌}
+use Rattle.bsi_words.specs.Listing.{AreListed}
+use Rattle.std.specs.Prelude.{IfSome, count_by, not, if◌then◌else◌}
 use Rattle.std.specs.Simd.Lanes.{zip2}
 use Rattle.std.proofs.lemmas.Nat.{pow-add}
 use Rattle.bsi_bits.specs.BitList.{BitList, without}
@@ -34,6 +35,7 @@ places-init c =
     let all : found ≡ bits_of (length found) words = shown_bits found words c.into_words-rows.ensures.few c.into_words-rows.ensures.places in
     record {
       packed = shown_packed found words c.into_words-rows.ensures.few c.into_words-rows.ensures.places (omega (arith, c.len-len.ensures.len, c.len-len.ensures.within));
+      listed = subst (λ (ws : List ℕ). IfSome c.list_words-listed.result (λ l. AreListed (length ws) l.places l.count ws)) c.deref.ensures.value c.list_words-listed.ensures;
       within = within;
       small = let none : top - top ≡ 0 = omega arith in let one : 2 ^ (top - top) ≡ 1 = ap (λ n. 2 ^ n) none in omega (arith, one);
       ranked = λ numbers encoded below same.
@@ -55,6 +57,14 @@ narrow-clear-requires-clause-packed c =
     ∙ c.requires.same c.places.last c.places.invariant.within in
     let Packed : ℕ → List ℕ → Type 0 = λ n words. IsPacked n words in
     subst (λ (n : ℕ). IsPacked n c.deref_mut.result.now) (sym long) (subst (λ (words : List ℕ). IsPacked (length c.args.found.bits) words) (sym c.deref_mut.ensures.value) c.places.invariant.packed)
+
+pub narrow-clear-requires-clause-listed : goal.narrow-clear-requires-clause-listed
+narrow-clear-requires-clause-listed c =
+    subst (λ (ws : List ℕ). IfSome c.list_words-listed.result (λ l. AreListed (length ws) l.places l.count ws)) (sym c.deref_mut.ensures.value) c.places.invariant.listed
+
+pub narrow-requires-clause-listed : goal.narrow-requires-clause-listed
+narrow-requires-clause-listed c =
+    subst (λ (ws : List ℕ). IfSome c.list_words-listed.result (λ l. AreListed (length ws) l.places l.count ws)) (sym c.deref_mut-2.ensures.value) c.places.invariant.listed
 
 pub narrow-clear-requires-clause-same : goal.narrow-clear-requires-clause-same
 narrow-clear-requires-clause-same c =
@@ -94,6 +104,7 @@ places-preserved c =
     let clear_is : c.narrow-clear.result ≡ count_by (λ b. b) (zip2 without rows next) = c.narrow-clear.ensures.clear ∙ ap (λ m. count_by (λ b. b) (zip2 without (bits_of m words) next)) long in
     rw stored (record {
       packed = subst (λ (m : ℕ). IsPacked m words) long c.narrow-clear.ensures.packed;
+      listed = c.narrow-clear.ensures.listed;
       within = next_within;
       small = omega (arith, flag, flag_small set, twice, ap (λ h. 2 ^ h) height, c.places.invariant.small);
       ranked = λ numbers encoded below same.

@@ -1,5 +1,6 @@
 use Rattle.std.proofs.Common.{◌≡◌, ℕ, List, ◌+◌, ◌-◌, ◌*◌, ◌^◌, ◌<◌, ◌&&◌, cond, length, get_or}
-use Rattle.std.specs.Prelude.{not, if◌then◌else◌}
+use Rattle.bsi_words.specs.Listing.{AreListed}
+use Rattle.std.specs.Prelude.{IfSome, not, if◌then◌else◌}
 use Rattle.std.specs.Simd.Lanes.{zip2}
 use Rattle.bsi_bits.specs.BitLists.{bits_at}
 use Rattle.bsi_bits.specs.Packed.{bits_of, IsPacked}
@@ -13,6 +14,7 @@ invariant-places l =
     let found = l.fn.found.bits in
     record {
       packed : IsPacked (length found) l.rows.items;
+      listed : IfSome l.listed (λ w. AreListed (length l.rows.items) w.places w.count l.rows.items);
       within : l.last < length l.places;
       small : l.number < 2 ^ (length l.places - 1 - l.last);
       ranked : (numbers : List ℕ) → IsEncoded has_place l.places numbers → ((k : ℕ) → get_or numbers k 0 < 2 ^ length l.places) → length numbers ≡ length found

@@ -4,7 +4,7 @@ use Rattle.std.specs.Simd.Lanes.{zip2}
 use Rattle.bsi_bits.proofs.Filling.{IsFilled, paired}
 use Rattle.bsi_words.specs.Ranks.{word_kept}
 use Rattle.bsi_words.proofs.Narrowing.{line_words}
-use Rattle.bsi_words.proofs.ranks.narrow_words.Given as goal
+use Rattle.bsi_words.proofs.ranks.narrow_all.Given as goal
 
 abbrev pub invariant-lines : goal.invariant-lines
 invariant-lines l = record {
