@@ -44,6 +44,13 @@ module _ (n : ℕ) (words : List ℕ) where
       let place : (at + 1) + j ≡ at + suc j = omega arith in
       ap (bit_of words) place ∙ off (suc j) (omega arith))
 
+  -- words with no bit may be skipped
+  pub words_skipped : (i m : ℕ) → i ≤ m → ((k : ℕ) → i ≤ k → k < m → get_or words k 0 ≡ 0) → places_from (64 * i) n words ≡ places_from (64 * m) n words
+  words_skipped i m forward none =
+      places_skipped (64 * (m - i)) (64 * i) (64 * m) (omega arith) (λ j below.
+      let word = none ((64 * i + j) / 64) (omega arith) (omega arith) in
+      ap (λ x. bit_at x ((64 * i + j) % 64) == 1) word ∙ ap (λ b. b == 1) (bit_at-zero ((64 * i + j) % 64)))
+
 -- one bit of a word that was moved down
 moved_down : (w r i : ℕ) → bit_at (w / 2 ^ r) i ≡ bit_at w (r + i)
 moved_down w r i = ap (λ x. x % 2) (shr-shr w r i)

@@ -7,7 +7,7 @@
 //! A count goes by parts whose ones 64 bits hold, since the type of a list allows more words; no memory has them, so
 //! there is one part.
 
-ghost use Rattle.std.specs.Prelude.{◌≡◌, ◌*◌, ◌^◌, ◌≤◌, ◌<◌, length, map, sum_by, bit_and, bit_or, bit_xor, count_ones};
+ghost use Rattle.std.specs.Prelude.{◌≡◌, ◌*◌, ◌^◌, ◌≤◌, ◌<◌, ◌↔◌, ℕ, IsTrue, slice_index, length, map, sum_by, bit_and, bit_or, bit_xor, count_ones};
 ghost use Rattle.std.specs.Int.{bit_not, w64};
 ghost use Rattle.std.specs.Simd.Lanes.{zip2};
 
@@ -245,4 +245,15 @@ pub fn count_and_not(a: &[u64], b: &[u64]) -> u128
     ensures few { result ≤ 64 * length a.now }
 {
     count_combined::<AndNotWords>(a, b)
+}
+
+/// Returns whether no bit of the words is set.
+pub fn is_clear(words: &[u64]) -> bool
+    ensures { IsTrue result ↔ ((k : ℕ) → slice_index words.now k ≡ 0) }
+{
+    let mut seen = 0;
+    'words: for word in words {
+        seen |= *word;
+    }
+    seen == 0
 }

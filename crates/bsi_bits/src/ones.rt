@@ -1,16 +1,21 @@
 //! The iterator over the places of the bits that are set.
 //!
-//! The next place is found from the words as they are, so no half-used word is kept, and the proof needs the places of
-//! one word alone.
+//! The next place is found from the words as they are, so no half-used word is kept. Words with no bit are passed over, a
+//! cache line at a time where it has none.
 
-ghost use Rattle.std.specs.Prelude.{◌≡◌, ℕ, List};
+ghost use Rattle.std.specs.Prelude.{◌≡◌, ℕ, ◌≤◌, ◌<◌, ◌+◌, List, length, slice_index, IsTrue};
+ghost use Rattle.bsi_bits.specs.BitList.{max_words};
 ghost use Rattle.std.specs.Iterator.{YieldsFirst, item_count};
 ghost use Rattle.bsi_bits.specs.Packed.{places_from, IsPacked};
 
+use crate::lanes::is_clear;
 use crate::packing::know_fits;
 use std::marker::Model;
 
-/// Yields the places of the bits that are set, in rising order. A word with no bit left costs one step.
+/// The number of words in a cache line.
+const LINE_WORDS: usize = 8;
+
+/// Yields the places of the bits that are set, in rising order.
 #[derive(Drop)]
 pub struct Ones<'a> {
     words: &'a [u64],
@@ -25,6 +30,38 @@ impl<'a> Model for Ones<'a> {
     ghost view = { λ o. places_from o.at o.len o.words.now };
 
     ghost invariant = { λ o. IsPacked o.len o.words.now };
+}
+
+/// Returns the first word from `at` on that has a bit, or the end where none has.
+fn skip_clear(words: &[u64], at: usize) -> usize
+    requires within { at ≤ length words.now }
+    requires few { length words.now ≤ max_words }
+    ensures forward { at ≤ result }
+    ensures within { result ≤ length words.now }
+    ensures clear { (k : ℕ) → at ≤ k → k < result → slice_index words.now k ≡ 0 }
+{
+    let mut next = at;
+    'words: while next < words.len() && words[next] == 0 {
+        next = if is_line_clear(words, next) {
+            next + LINE_WORDS
+        } else {
+            next + 1
+        };
+    }
+    next
+}
+
+/// Returns whether word `at` is the first one of a line in which no word has a bit.
+fn is_line_clear(words: &[u64], at: usize) -> bool
+    requires few { length words.now ≤ max_words }
+    requires there { at < length words.now }
+    ensures within { IsTrue result → at + LINE_WORDS ≤ length words.now }
+    ensures clear { IsTrue result → (k : ℕ) → at ≤ k → k < at + LINE_WORDS → slice_index words.now k ≡ 0 }
+{
+    if at % LINE_WORDS != 0 || at + LINE_WORDS > words.len() {
+        return false;
+    }
+    is_clear(&words[at..at + LINE_WORDS])
 }
 
 impl<'a> Ones<'a> {
@@ -53,7 +90,8 @@ impl<'a> Iterator for Ones<'a> {
                 self.at = place + 1;
                 return Some(place);
             }
-            self.at = (self.at / 64 + 1) * 64;
+            let next = (self.at / 64) as usize + 1;
+            self.at = 64 * skip_clear(self.words, next) as u64;
         }
         None
     }

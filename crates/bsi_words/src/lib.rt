@@ -11,7 +11,8 @@ pub mod registers;
 pub mod spans;
 mod sums;
 
+pub use bsi_bits::lanes::is_clear;
 pub use comparisons::order_by_places;
 pub use ends::{End, better_by_places, end_by_places};
 pub use ranks::{RankedRows, rows_of_rank};
-pub use sums::{is_clear, sum_by_places};
+pub use sums::sum_by_places;

@@ -13,7 +13,8 @@ ghost use Rattle.bsi_words.specs.Listing.{AreListed};
 ghost use Rattle.bsi_words.specs.Places.{has_place, max_places, IsEncoded};
 ghost use Rattle.bsi_words.specs.Ranks.{word_kept, IsRankedRows};
 
-use crate::sums::{LINE_WORDS, is_clear};
+use crate::sums::LINE_WORDS;
+use bsi_bits::lanes::is_clear;
 use bsi_bits::{Bits, MAX_LEN, know_fits};
 use listing::{Listed, list_words};
 use std::simd::u64x8;
@@ -50,7 +51,7 @@ pub fn rows_of_rank(places: &[Bits], rank: u64, found: Bits) -> RankedRows
     let mut choice = choose(rank, count_clear(&found, &places[last]));
     let mut number = 0;
     let mut rows = found.into_words();
-    let listed = list_words(&rows);
+    let listed = list_words(&rows, rank);
     'places: while last > 0 {
         let clear = narrow(
             &mut rows,

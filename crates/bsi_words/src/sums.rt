@@ -4,13 +4,14 @@
 //! within it. A cache line without a found row is passed over in all of them. The first span is one line, and each
 //! is twice as long as the one before it, as long as no line is passed over.
 
-ghost use Rattle.std.specs.Prelude.{◌≡◌, ℕ, List, ◌+◌, ◌^◌, ◌<◌, ◌≤◌, ◌↔◌, IsTrue, length, slice_index, sum};
+ghost use Rattle.std.specs.Prelude.{◌≡◌, ℕ, List, ◌+◌, ◌^◌, ◌<◌, ◌≤◌, IsTrue, length, slice_index, sum};
 ghost use Rattle.std.specs.List.{items_where_true};
 ghost use Rattle.bsi_bits.specs.BitList.{in_words, max_len, max_words, sum_end, word_count};
 ghost use Rattle.bsi_bits.specs.BitLists.{bits_at};
 ghost use Rattle.bsi_words.specs.Places.{has_place, max_places, IsEncoded};
 
 use crate::spans::MAX_SPAN_WORDS;
+use bsi_bits::lanes::is_clear;
 use bsi_bits::{Bits, MAX_LEN};
 
 /// The number of words in a cache line.
@@ -109,15 +110,4 @@ fn sum_in(places: &[Bits], found: &Bits, start: usize, end: usize) -> u128
         sum += u128::from(found.count_and_in(place, start, end)) << k;
     }
     sum
-}
-
-/// Returns whether no bit of the words is set.
-pub fn is_clear(words: &[u64]) -> bool
-    ensures { IsTrue result ↔ ((k : ℕ) → slice_index words.now k ≡ 0) }
-{
-    let mut seen = 0;
-    'words: for word in words {
-        seen |= *word;
-    }
-    seen == 0
 }

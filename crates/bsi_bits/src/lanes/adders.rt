@@ -118,6 +118,8 @@ fn count_singly<O: Operation>(a: &[u64], b: &[u64], at: usize) -> u64
 }
 
 /// Counts the ones in the operation's words for the pairs of words of so many blocks.
+// Within its caller it would keep the counts of a few words from being taken into the loops that ask for them.
+#[inline(never)]
 pub(crate) fn count_blocks<O: Operation>(a: &[u64], b: &[u64], count: usize) -> u64
     requires same { length a.now ≡ length b.now }
     requires few { length a.now ≤ MAX_COUNTED }

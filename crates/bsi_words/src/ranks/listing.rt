@@ -6,7 +6,8 @@ ghost use Rattle.std.specs.Prelude.{◌≤◌, length, IfSome, IsTrue};
 ghost use Rattle.bsi_bits.specs.BitList.{max_words};
 ghost use Rattle.bsi_words.specs.Listing.{AreListed};
 
-use crate::sums::{LINE_WORDS, is_clear};
+use crate::sums::LINE_WORDS;
+use bsi_bits::lanes::is_clear;
 
 /// The most words that are listed. A set of fewer words is passed over as soon.
 const MAX_LISTED: usize = 2048;
@@ -18,14 +19,15 @@ pub(crate) struct Listed {
     pub(crate) count: usize,
 }
 
-/// Lists the words that have a row. Returns none where there are more than `MAX_LISTED`, or where there are fewer words
-/// than that.
-pub(crate) fn list_words(words: &[u64]) -> Option<Listed>
+/// Lists the words that have a row. Returns none where there are more than `MAX_LISTED`, where there are fewer words than
+/// that, or where a rank tells that there are many rows.
+pub(crate) fn list_words(words: &[u64], rank: u64) -> Option<Listed>
     requires { length words.now ≤ max_words }
     ensures { IfSome result (λ listed.
         AreListed (length words.now) listed.places listed.count words.now) }
 {
-    if words.len() < MAX_LISTED {
+    // A median of so few rows has a rank of half as many.
+    if words.len() < MAX_LISTED || rank >= MAX_LISTED as u64 / 2 {
         return None;
     }
     let mut listed = Listed {

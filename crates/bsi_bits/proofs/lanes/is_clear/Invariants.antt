@@ -1,5 +1,5 @@
 use Rattle.std.proofs.Common.{◌≡◌, ℕ, ◌<◌, get_or}
-use Rattle.bsi_words.proofs.sums.is_clear.Given as goal
+use Rattle.bsi_bits.proofs.lanes.is_clear.Given as goal
 
 abbrev pub invariant-words : goal.invariant-words
 invariant-words l = record {

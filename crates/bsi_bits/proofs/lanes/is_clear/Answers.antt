@@ -4,7 +4,7 @@ use Rattle.std.proofs.lemmas.Bool.{cases_lt}
 use Rattle.std.proofs.lemmas.Bool.Decides.{nat_tests}
 use Rattle.std.proofs.lemmas.List.{get_or_past}
 use Rattle.std.proofs.lemmas.Nat.{le_or_l, le_or_r}
-use Rattle.bsi_words.proofs.sums.is_clear.Goals as goal
+use Rattle.bsi_bits.proofs.lanes.is_clear.Goals as goal
 
 -- neither what was seen nor this word has a bit
 pub words-preserved : goal.words-preserved
