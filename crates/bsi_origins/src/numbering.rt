@@ -30,22 +30,28 @@ pub fn number_rows(
     ensures { IfOk result (λ rows. rows.items
         ≡ numbered_at origins.now.rows (set_places found.now.bits)) }
 {
-    if found.count() > origins.len() / MIN_ROWS_PER_FOUND {
-        number_many(alloc, found, origins)
+    let count = found.count();
+    if count > origins.len() / MIN_ROWS_PER_FOUND {
+        number_many(alloc, found, count, origins)
     } else {
-        number_few(alloc, found, origins)
+        number_few(alloc, found, count, origins)
     }
 }
 
-/// Numbers the found rows, going from one to the next.
-fn number_few(alloc: Global, found: &Bits, origins: &Origins) -> Result<Vec<(u32, u64)>, NoMemory>
+/// Numbers the found rows, going from one to the next. It takes memory for `count` rows at first.
+fn number_few(
+    alloc: Global,
+    found: &Bits,
+    count: u64,
+    origins: &Origins,
+) -> Result<Vec<(u32, u64)>, NoMemory>
     requires { length found.now.bits ≡ length origins.now.rows }
     ensures { IfOk result (λ rows. rows.items
         ≡ numbered_at origins.now.rows (set_places found.now.bits)) }
 {
     let mut counts = [0u64; MAX_FEEDERS as usize];
     let mut at = 0;
-    let mut rows = Vec::with_capacity(alloc, found.count() as usize)?;
+    let mut rows = Vec::with_capacity(alloc, count as usize)?;
     'rows: for r in found.ones() {
         count_forward(origins, &mut counts, at, r);
         at = r;
@@ -55,23 +61,28 @@ fn number_few(alloc: Global, found: &Bits, origins: &Origins) -> Result<Vec<(u32
     Ok(rows)
 }
 
-/// Numbers the found rows in one pass over all rows.
+/// Numbers the found rows in one pass over all rows. It takes memory for `count` rows at first.
 // In a caller that has much else to hold, the loop would read its pointers from the stack for each row.
 #[inline(never)]
-fn number_many(alloc: Global, found: &Bits, origins: &Origins) -> Result<Vec<(u32, u64)>, NoMemory>
+fn number_many(
+    alloc: Global,
+    found: &Bits,
+    count: u64,
+    origins: &Origins,
+) -> Result<Vec<(u32, u64)>, NoMemory>
     requires { length found.now.bits ≡ length origins.now.rows }
     ensures { IfOk result (λ rows. rows.items
         ≡ numbered_at origins.now.rows (set_places found.now.bits)) }
 {
     let mut counts = [0u64; MAX_FEEDERS as usize];
-    let mut listed = Vec::with_capacity(alloc, found.count() as usize)?;
+    let mut listed = Vec::with_capacity(alloc, count as usize)?;
     'rows: for r in 0..origins.len() {
         let feeder = origins.feeder(r);
-        let count = counts[feeder as usize];
+        let before = counts[feeder as usize];
         if found.get(r) {
-            listed.push((u32::from(feeder), count))?;
+            listed.push((u32::from(feeder), before))?;
         }
-        counts[feeder as usize] = count + 1;
+        counts[feeder as usize] = before + 1;
     }
     Ok(listed)
 }

@@ -15,7 +15,7 @@ ghost use Rattle.bsi_words.specs.Places.{has_place, max_places, IsEncoded};
 ghost use Rattle.bsi_words.specs.Spans.{max_lanes};
 
 use crate::registers::{REGISTER_WORDS, cut, span_at};
-use crate::sums::is_clear;
+use bsi_bits::lanes::is_clear;
 use bsi_bits::{Bits, know_fits};
 use std::simd::Simd;
 

@@ -48,7 +48,6 @@ fn add(a: u64x4, b: u64x4, c: u64x4) -> Added
 
 impl Adders {
     /// Adds the operation's words for the eight pairs of words from `at` on. Returns the carries, which are twos.
-    #[inline(always)]
     fn add_two<O: Operation>(&mut self, a: &[u64], b: &[u64], at: usize) -> u64x4
         requires same { length a.now ≡ length b.now }
         requires within { at + 2 * LANES ≤ length a.now }
@@ -67,7 +66,6 @@ impl Adders {
     }
 
     /// Adds the operation's words for the 16 pairs of words from `at` on. Returns the carries, which are fours.
-    #[inline(always)]
     fn add_four<O: Operation>(&mut self, a: &[u64], b: &[u64], at: usize) -> u64x4
         requires same { length a.now ≡ length b.now }
         requires within { at + 4 * LANES ≤ length a.now }
@@ -85,7 +83,6 @@ impl Adders {
     }
 
     /// Adds the operation's words for the 32 pairs of words from `at` on. Returns the carries, which are eights.
-    #[inline(always)]
     fn add_eight<O: Operation>(&mut self, a: &[u64], b: &[u64], at: usize) -> u64x4
         requires same { length a.now ≡ length b.now }
         requires within { at + ADDED ≤ length a.now }
@@ -103,7 +100,6 @@ impl Adders {
 }
 
 /// Counts the ones in the operation's words for the 32 pairs of words from `at` on, word by word.
-#[inline(always)]
 fn count_singly<O: Operation>(a: &[u64], b: &[u64], at: usize) -> u64
     requires same { length a.now ≡ length b.now }
     requires within { at + ADDED ≤ length a.now }
