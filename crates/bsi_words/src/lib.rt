@@ -1,5 +1,5 @@
-//! What the forms of a column do with words: steps on spans of them, the words of digits, and the sum, an end and the rows of a rank
-//! over those of a found set.
+//! What the forms of a column do with words: steps on spans of them, the words of digits, and the sum, an end and the rows of
+//! a rank over those of a found set.
 #![tactic(auto)]
 
 mod comparisons;
@@ -11,7 +11,6 @@ pub mod registers;
 pub mod spans;
 mod sums;
 
-pub use bsi_bits::lanes::is_clear;
 pub use comparisons::order_by_places;
 pub use ends::{End, better_by_places, end_by_places};
 pub use ranks::{RankedRows, rows_of_rank};
