@@ -68,11 +68,19 @@ class _Threads(Gathered):
                 raise why
         return [answer for _, answer, _ in found]
 
+    def _step(self, rows: int) -> int:
+        """Returns how many of so many rows each part takes but the last: a multiple of 8, so that no bitmap is moved."""
+        return -(-rows // (8 * len(self.handles))) * 8
+
+    def reserve(self, rows: int, block: int) -> None:
+        """Makes room for rows that are appended in blocks."""
+        with self.alone():
+            self._each("reserve", rows // block * self._step(block) + self._step(rows % block))
+
     def append(self, columns: Sequence[Entries]) -> Tuple[int, int]:
-        """Gives each part a run of the rows, which all fit. A run but the last has a multiple of 8 rows, so that no
-        bitmap is moved."""
+        """Gives each part a run of the rows, which all fit."""
         rows = len(columns[0][0])
-        step = -(-rows // (8 * len(self.handles))) * 8
+        step = self._step(rows)
         with self.alone():
             if self.rows() + rows > self.limit:
                 return INDEX_FULL, 0

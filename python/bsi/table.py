@@ -211,6 +211,7 @@ class Table:
         """Appends many rows in blocks, and tells the progress."""
         rows, done = chosen.rows(), 0
         self._refuse_full(rows)
+        self._store.reserve(rows, self._block())
         with told(progress, rows, "rows") as tell:
             for encoded in chosen.taken(self._block()):
                 done += self._append(encoded)

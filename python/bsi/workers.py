@@ -27,7 +27,14 @@ from .spelling import TextReader
 
 # How many bytes of text are worth the start of processes.
 LARGE = 1 << 25
-CODE = "import sys; sys.path[:] = {path!r}; from bsi import workers; workers.main()"
+# What a worker runs. Of the package it has the modules that read, and not the library.
+CODE = """import sys, types
+sys.path[:] = {path!r}
+sys.modules["bsi"] = bsi = types.ModuleType("bsi")
+bsi.__path__ = [{home!r}]
+import bsi.workers
+bsi.workers.main()
+"""
 LOST = (OSError, EOFError, ValueError, pickle.PickleError)
 
 
@@ -85,7 +92,8 @@ class _Process:
     """A worker, as its caller sees it."""
 
     def __init__(self) -> None:
-        code = CODE.format(path=[*(path for path in sys.path if isinstance(path, str)), _home()])
+        path = [place for place in sys.path if isinstance(place, str)]
+        code = CODE.format(path=path, home=os.path.dirname(os.path.abspath(__file__)))
         pipes: Dict[str, Any] = {"stdin": subprocess.PIPE, "stdout": subprocess.PIPE, "stderr": subprocess.DEVNULL}
         # (in a session of its own it gets no Ctrl-C)
         self._process = subprocess.Popen([sys.executable, "-I", "-S", "-c", code], **pipes, start_new_session=True)
@@ -116,10 +124,6 @@ class _Process:
         for pipe in (self._process.stdin, self._process.stdout):
             with contextlib.suppress(OSError):
                 pipe.close()  # type: ignore[union-attr]
-
-
-def _home() -> str:
-    return os.path.dirname(os.path.dirname(os.path.abspath(__file__)))
 
 
 def _can_start() -> bool:
