@@ -105,10 +105,16 @@ class Gathered:
             return (min if word == b"least" else max)(numbers, default=None)
 
     def _median(self, name: bytes, fields: Fields) -> Optional[int]:
-        """Finds the median between those of the parts."""
+        """Finds the median near that of the first part, or else between those of all parts."""
         if len(fields) + BOUND > MAX_FIELDS:
             rule = f"a median over several parts takes a predicate of at most {MAX_FIELDS - BOUND} fields"
             raise BadQuery(f"{rule}, and this one has {len(fields):,}")
+        [(count, ends)] = self._each_of("middle", [(name, fields)])
+        if count:
+            each, parts = zip(*self._each("count_and_near", name, *ends, FEW, fields))
+            number = _ranked(parts, (sum(each) - 1) // 2)
+            if number is not None:
+                return number
         numbers, counts = zip(*self._each("median_and_count", name, fields))
         known = [(max(0, count - 1) // 2, number) for number, count in zip(numbers, counts)]
         return self._between(name, fields, known, (sum(counts) - 1) // 2) if any(counts) else None
@@ -153,10 +159,10 @@ class Gathered:
                 known = known if left.below is None else [(int(below), None) for below in left.below]
                 asked = [(name, left.low, left.high, FEW, fields, one) for one in known]
                 parts = self._each_of("near", asked)
+                number = _ranked(parts, rank)
+                if number is not None:
+                    return number
                 below = np.array([part.below for part in parts])
-                if all(part.numbers is not None for part in parts):
-                    place = rank - int(below.sum())
-                    return int(np.partition(np.concatenate([part.numbers for part in parts]), place)[place])
                 left = _Left(left.low, left.high, below, below + [part.many for part in parts])
             bounds = left.expected(self._bounds, rank) if left.is_smooth else self._middles(name, fields, left)
             counted = self._each("counts", [[*fields, name, b"<=", b"%d" % bound, b"and"] for bound in bounds])
@@ -227,3 +233,11 @@ class Gathered:
     def nbytes(self) -> int:
         with self.alone():
             return sum(self._each("nbytes"))
+
+
+def _ranked(parts: Sequence[Any], rank: int) -> Optional[int]:
+    """Returns the number of a rank where it is among those that all parts give."""
+    place = rank - sum(part.below for part in parts)
+    if any(part.numbers is None for part in parts) or not 0 <= place < sum(part.many for part in parts):
+        return None
+    return int(np.partition(np.concatenate([part.numbers for part in parts]), place)[place])

@@ -58,7 +58,10 @@ class _Threads(Gathered):
         return len(self.handles)
 
     def _at_once(self, calls: Sequence[Tuple[Callable[..., Any], Sequence[Any]]]) -> List[Any]:
-        """Makes a call on the thread of each part, or of the first so many."""
+        """Makes a call on the thread of each part, or of the first so many: one alone on that of the caller."""
+        if len(calls) == 1:
+            [(call, arguments)] = calls
+            return [call(*arguments)]
         answers: "SimpleQueue[Any]" = SimpleQueue()
         for place, (tasks, (call, arguments)) in enumerate(zip(self._tasks, calls)):
             tasks.put((place, call, arguments, answers))

@@ -1,4 +1,4 @@
-"""Runs of records as numbers, column by column: what a thread of this process and a worker of its own do alike."""
+"""Runs of records as numbers, column by column: what the caller and the processes that read do alike."""
 
 from __future__ import annotations
 

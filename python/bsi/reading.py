@@ -27,7 +27,7 @@ from .parts import Parts, refuse_no_parts
 from .pieces import ColumnReader, Piece, RunReader
 from .progress import Progress, told
 from .spelling import THOUSANDS, Bad, Meaning, Options, Reader, TextReader, misread
-from .workers import Answers, Workers
+from .processes import Answers, Processes
 
 # How many bytes say what columns hold, how many are read at once of four columns, and up to how many columns these are
 # more for more columns.
@@ -73,8 +73,8 @@ def read_csv(
     refuse_no_parts(parts)
     asked = _Asked(columns, drop, kinds, forms, spare, _options(nulls, decimal, thousands), dates, round)
     layout = _layout(delimiter, quotechar, skiprows, encoding)
-    with Workers(parts if parts > 1 else 0) as workers:
-        reader = _Reader(asked, layout, bad == "skip", workers)
+    with Processes(parts if parts > 1 else 0) as processes:
+        reader = _Reader(asked, layout, bad == "skip", processes)
         reader.read_all(paths, progress)
     chosen = reader.chosen()
     index: Any = Index(chosen.forms, limit=limit) if parts == 1 else Parts(parts, chosen.forms, limit=limit)
@@ -243,11 +243,11 @@ def _as_text(source: Source) -> Iterator[None]:
 class _Reader:
     """What has been read of the files: their header, and the blocks of each wanted column."""
 
-    def __init__(self, asked: _Asked, layout: _Layout, skips: bool, workers: Workers):
-        self._asked, self._layout, self._skips, self._workers = asked, layout, skips, workers
+    def __init__(self, asked: _Asked, layout: _Layout, skips: bool, processes: Processes):
+        self._asked, self._layout, self._skips, self._processes = asked, layout, skips, processes
         self._header: List[str] = []
         self._columns: List[_Column] = []
-        # (runs that have been begun, and where a worker's answers are)
+        # (runs that have been begun, and where a answers of a process are)
         self._waiting: Deque[Tuple[Run, Optional[Answers]]] = deque()
         self._rows: List[_Rows] = []
         self._room = Room()
@@ -264,7 +264,7 @@ class _Reader:
         if not files:
             raise BadColumns("there is no file")
         size = sum(map(size_of, files))
-        self._workers.start_for(size)
+        self._processes.start_for(size)
         with told(progress, size, "B") as tell:
             for path in files:
                 self.read(path, tell)
@@ -341,9 +341,9 @@ class _Reader:
         """Begins to read a run. Where it may not end as a record does, it is read with what follows it."""
         if run.is_whole:
             # (the first one is read alone, since it says what columns hold)
-            answers = self._workers.read(self._runs, run, self._wanted()) if self._count else None
+            answers = self._processes.read(self._runs, run, self._wanted()) if self._count else None
             self._waiting.append((run, answers))
-            self._keep_all(source, name, 0 if answers is None else 2 * self._workers.ready)
+            self._keep_all(source, name, 0 if answers is None else 2 * self._processes.ready)
             return
         self._keep_all(source, name)
         with _as_text(source):

@@ -11,13 +11,13 @@ import numpy as np
 import pytest
 
 import bsi
-from bsi import workers
+from bsi import processes
 
 
 @pytest.fixture
-def by_workers(monkeypatch):
+def by_processes(monkeypatch):
     """Lets files be read by processes from the first run on, and by so many bytes at once. Returns how many runs were."""
-    start, read, answered = workers.Workers.start_for, workers._Process.read, []
+    start, read, answered = processes.Processes.start_for, processes._Process.read, []
 
     def started(self, size):
         start(self, size)
@@ -28,9 +28,9 @@ def by_workers(monkeypatch):
         answered.append(answer is not None)
         return answer
 
-    monkeypatch.setattr(workers, "LARGE", 0)
-    monkeypatch.setattr(workers.Workers, "start_for", started)
-    monkeypatch.setattr(workers._Process, "read", noted)
+    monkeypatch.setattr(processes, "LARGE", 0)
+    monkeypatch.setattr(processes.Processes, "start_for", started)
+    monkeypatch.setattr(processes._Process, "read", noted)
     for name in ("FIRST", "RUN"):
         monkeypatch.setattr(f"bsi.reading.{name}", 400)
     return answered
@@ -83,7 +83,7 @@ STYLES = ["whole", "late whole", "decimal", "text", "late text", "quoted", "day"
 
 
 @pytest.mark.parametrize("seed", range(8))
-def test_random_files_beside_one_process(by_workers, seed):
+def test_random_files_beside_one_process(by_processes, seed):
     rng = np.random.default_rng(seed)
     styles = [str(style) for style in rng.choice(STYLES, rng.integers(2, 6))]
     lines = [",".join(field(rng, style, row) for style in styles) for row in range(400)]
@@ -92,7 +92,7 @@ def test_random_files_beside_one_process(by_workers, seed):
     text = ",".join(f"c{place}" for place in range(len(styles))) + "\n" + "\n".join(lines) + "\n"
     more = {"bad": ("refuse", "skip")[seed % 2], "spare": int(rng.choice([0, 2]))}
     assert come_of(text, 3, **more) == come_of(text, 1, **more)
-    assert any(by_workers) and not children()
+    assert any(by_processes) and not children()
 
 
 ROWS = "n,t\n" + "".join(f"{row},t{row % 7}\n" for row in range(600))
@@ -114,41 +114,41 @@ ROWS = "n,t\n" + "".join(f"{row},t{row % 7}\n" for row in range(600))
         (ROWS.encode("utf-16"), {}),
     ],
 )
-def test_a_refusal_is_that_of_one_process(by_workers, text, more):
+def test_a_refusal_is_that_of_one_process(by_processes, text, more):
     assert come_of(text, 3, **more) == come_of(text, 1, **more)
-    assert any(by_workers) and not children()
+    assert any(by_processes) and not children()
 
 
-def test_workers_that_are_killed(by_workers, monkeypatch):
-    noted, killed = workers._Process.read, []
+def test_processes_that_are_killed(by_processes, monkeypatch):
+    noted, killed = processes._Process.read, []
 
     def read(self, *given):
-        if len(by_workers) in (3, 8):
+        if len(by_processes) in (3, 8):
             killed.append(self.end())
         return noted(self, *given)
 
-    monkeypatch.setattr(workers._Process, "read", read)
+    monkeypatch.setattr(processes._Process, "read", read)
     assert come_of(ROWS, 2) == come_of(ROWS, 1) and killed and not children()
 
 
 @pytest.mark.parametrize("program", ["/nowhere/python3", "/bin/false", None])
-def test_workers_that_do_not_start(monkeypatch, tmp_path, program):
+def test_processes_that_do_not_start(monkeypatch, tmp_path, program):
     (tmp_path / "python3").symlink_to("/bin/false")
-    monkeypatch.setattr(workers, "LARGE", 0)
+    monkeypatch.setattr(processes, "LARGE", 0)
     monkeypatch.setattr(sys, "executable", str(tmp_path / "python3") if program == "/bin/false" else program)
     assert come_of(ROWS, 3) == come_of(ROWS, 1) and not children()
 
 
-def test_a_kind_that_no_other_program_knows(by_workers):
+def test_a_kind_that_no_other_program_knows(by_processes):
     class Own(bsi.Whole):
         pass
 
     assert come_of(ROWS, 3, kinds={"n": Own()})[1] == come_of(ROWS, 1)[1]
-    assert not any(by_workers) and not children()
+    assert not any(by_processes) and not children()
 
 
 def test_small_files_start_none(monkeypatch):
-    monkeypatch.setattr(workers, "_Process", None)
+    monkeypatch.setattr(processes, "_Process", None)
     assert come_of(ROWS, 3) == come_of(ROWS, 1)
 
 
@@ -156,8 +156,8 @@ def test_small_files_start_none(monkeypatch):
 PROGRAM = """
 import io, sys, threading, time
 import bsi
-from bsi import workers
-workers.LARGE = 0
+from bsi import processes
+processes.LARGE = 0
 print("begins", flush=True)
 lock = threading.Lock()
 lock.acquire()

@@ -27,19 +27,19 @@ from .spelling import TextReader
 
 # How many bytes of text are worth the start of processes.
 LARGE = 1 << 25
-# What a worker runs. Of the package it has the modules that read, and not the library.
+# What a process runs. Of the package it has the modules that read, and not the library.
 CODE = """import sys, types
 sys.path[:] = {path!r}
 sys.modules["bsi"] = bsi = types.ModuleType("bsi")
 bsi.__path__ = [{home!r}]
-import bsi.workers
-bsi.workers.main()
+import bsi.processes
+bsi.processes.main()
 """
 LOST = (OSError, EOFError, ValueError, pickle.PickleError)
 
 
 class How(NamedTuple):
-    """How runs are read, packed for a worker, and how many texts each column has that the worker then knows."""
+    """How runs are read, packed for a process, and how many texts each column has that the process then knows."""
 
     reader: bytes
     texts: List[int]
@@ -60,7 +60,7 @@ def _counts(reader: RunReader) -> List[int]:
 
 
 class Answer(NamedTuple):
-    """What a worker has read: the pieces of a run, and of each column the texts that are new to the worker, and the
+    """What a process has read: the pieces of a run, and of each column the texts that are new to the process, and the
     places that all texts it knew before have here."""
 
     pieces: Pieces
@@ -89,7 +89,7 @@ Answers = SimpleQueue  # of one Answer, or None where the run is to be read here
 
 
 class _Process:
-    """A worker, as its caller sees it."""
+    """A process, as its caller sees it."""
 
     def __init__(self) -> None:
         path = [place for place in sys.path if isinstance(place, str)]
@@ -105,7 +105,7 @@ class _Process:
         pickle.load(self._process.stdout)  # type: ignore[arg-type]
 
     def read(self, how: How, run: Run, wanted: Sequence[bool]) -> Optional[Answer]:
-        """Reads a run, or raises one of LOST where the worker has ended."""
+        """Reads a run, or raises one of LOST where the process has ended."""
         is_new, self._how = how is not self._how, how
         if is_new:
             self._known = [array("q", range(count)) for count in how.texts]
@@ -131,7 +131,7 @@ def _can_start() -> bool:
     return "python" in os.path.basename(sys.executable or "").lower() and not getattr(sys, "frozen", False)
 
 
-class Workers:
+class Processes:
     """Some processes, started when there is so much to read that it is worth it, and a thread for each that waits for
     it."""
 
@@ -160,7 +160,7 @@ class Workers:
         self._most = 0
 
     def read(self, reader: RunReader, run: Run, wanted: Sequence[bool]) -> Optional[Answers]:
-        """Lets a worker read a run, and returns where its answer will be, or None where there is none that can."""
+        """Lets a process read a run, and returns where its answer will be, or None where there is none that can."""
         self._size += len(run.text)
         self.start_for(self._size)
         with self._lock:
@@ -201,7 +201,7 @@ class Workers:
             answer.put(found)
 
     def _leave(self) -> None:
-        """Takes a worker out. With the last one, what waits is left to the caller."""
+        """Takes a process out. With the last one, what waits is left to the caller."""
         with self._lock:
             self.ready -= 1
             while not self.ready and not self._tasks.empty():
@@ -209,7 +209,7 @@ class Workers:
                 if task is not None:
                     task[-1].put(None)
 
-    def __enter__(self) -> "Workers":
+    def __enter__(self) -> "Processes":
         return self
 
     def __exit__(self, *why: Any) -> None:
@@ -223,7 +223,7 @@ class Workers:
 
 
 def main() -> None:
-    """Reads the runs that come by standard input, as a worker does, up to its end."""
+    """Reads the runs that come by standard input, as a process does, up to its end."""
     tasks, answers = sys.stdin.buffer, sys.stdout.buffer
     reader: Optional[RunReader] = None
     told: List[int] = []
