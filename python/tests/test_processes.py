@@ -43,6 +43,13 @@ def children(process=None):
         return file.read().split()
 
 
+@pytest.fixture
+def left_none():
+    """Returns what tells whether all processes have ended that a test has started."""
+    before = set(children())
+    return lambda: set(children()) <= before
+
+
 def awaited(call):
     """Returns what a call gives as soon as that is something, or in the end nothing."""
     end = time.monotonic() + 60
@@ -83,7 +90,7 @@ STYLES = ["whole", "late whole", "decimal", "text", "late text", "quoted", "day"
 
 
 @pytest.mark.parametrize("seed", range(8))
-def test_random_files_beside_one_process(by_processes, seed):
+def test_random_files_beside_one_process(by_processes, seed, left_none):
     rng = np.random.default_rng(seed)
     styles = [str(style) for style in rng.choice(STYLES, rng.integers(2, 6))]
     lines = [",".join(field(rng, style, row) for style in styles) for row in range(400)]
@@ -92,34 +99,35 @@ def test_random_files_beside_one_process(by_processes, seed):
     text = ",".join(f"c{place}" for place in range(len(styles))) + "\n" + "\n".join(lines) + "\n"
     more = {"bad": ("refuse", "skip")[seed % 2], "spare": int(rng.choice([0, 2]))}
     assert come_of(text, 3, **more) == come_of(text, 1, **more)
-    assert any(by_processes) and not children()
+    assert any(by_processes) and left_none()
 
 
 ROWS = "n,t\n" + "".join(f"{row},t{row % 7}\n" for row in range(600))
 
 
-@pytest.mark.parametrize(
-    "text, more",
-    [
-        (ROWS + "x,t1\n" + "5,t1\n" * 300 + "y,t1\n", {}),
-        (ROWS + "x,t1\n" + "5,t1\n" * 300 + "y,t1\n", {"bad": "skip"}),
-        (ROWS + "5,t1,6\n" + "x,t1\n" * 300, {}),
-        (ROWS + '5,"t1\n' + "5,t1\n" * 300, {}),
-        (ROWS + '5,"t\n1"\n' + "5,t1\n" * 300 + "y,t1\n", {}),
-        (ROWS.encode() + b"5,\xff\n" + b"6\n" * 300, {}),
-        (ROWS.encode() + b"6\n" + b"5,t1\n" * 300 + b"5,\xff\n", {}),
-        (ROWS + "".join(f"1,u{row}\n" for row in range(2000)), {}),
-        (ROWS + "9999,t1\n" + "5,t1\n" * 300, {"forms": {"n": bsi.slices(10)}}),
-        (ROWS.replace("\n", "\r\n") + "x,t1\r\n" + "5,t1\r\n" * 300, {}),
-        (ROWS.encode("utf-16"), {}),
-    ],
-)
-def test_a_refusal_is_that_of_one_process(by_processes, text, more):
+REFUSED = [
+    (ROWS + "x,t1\n" + "5,t1\n" * 300 + "y,t1\n", {}),
+    (ROWS + "x,t1\n" + "5,t1\n" * 300 + "y,t1\n", {"bad": "skip"}),
+    (ROWS + "5,t1,6\n" + "x,t1\n" * 300, {}),
+    (ROWS + '5,"t1\n' + "5,t1\n" * 300, {}),
+    (ROWS + '5,"t\n1"\n' + "5,t1\n" * 300 + "y,t1\n", {}),
+    (ROWS.encode() + b"5,\xff\n" + b"6\n" * 300, {}),
+    (ROWS.encode() + b"6\n" + b"5,t1\n" * 300 + b"5,\xff\n", {}),
+    (ROWS + "".join(f"1,u{row}\n" for row in range(2000)), {}),
+    (ROWS + "9999,t1\n" + "5,t1\n" * 300, {"forms": {"n": bsi.slices(10)}}),
+    (ROWS.replace("\n", "\r\n") + "x,t1\r\n" + "5,t1\r\n" * 300, {}),
+    (ROWS.encode("utf-16"), {}),
+]
+
+
+@pytest.mark.parametrize("place", range(len(REFUSED)))
+def test_a_refusal_is_that_of_one_process(by_processes, place, left_none):
+    text, more = REFUSED[place]
     assert come_of(text, 3, **more) == come_of(text, 1, **more)
-    assert any(by_processes) and not children()
+    assert any(by_processes) and left_none()
 
 
-def test_processes_that_are_killed(by_processes, monkeypatch):
+def test_processes_that_are_killed(by_processes, monkeypatch, left_none):
     noted, killed = processes._Process.read, []
 
     def read(self, *given):
@@ -128,23 +136,23 @@ def test_processes_that_are_killed(by_processes, monkeypatch):
         return noted(self, *given)
 
     monkeypatch.setattr(processes._Process, "read", read)
-    assert come_of(ROWS, 2) == come_of(ROWS, 1) and killed and not children()
+    assert come_of(ROWS, 2) == come_of(ROWS, 1) and killed and left_none()
 
 
 @pytest.mark.parametrize("program", ["/nowhere/python3", "/bin/false", None])
-def test_processes_that_do_not_start(monkeypatch, tmp_path, program):
+def test_processes_that_do_not_start(monkeypatch, tmp_path, program, left_none):
     (tmp_path / "python3").symlink_to("/bin/false")
     monkeypatch.setattr(processes, "LARGE", 0)
     monkeypatch.setattr(sys, "executable", str(tmp_path / "python3") if program == "/bin/false" else program)
-    assert come_of(ROWS, 3) == come_of(ROWS, 1) and not children()
+    assert come_of(ROWS, 3) == come_of(ROWS, 1) and left_none()
 
 
-def test_a_kind_that_no_other_program_knows(by_processes):
+def test_a_kind_that_no_other_program_knows(by_processes, left_none):
     class Own(bsi.Whole):
         pass
 
     assert come_of(ROWS, 3, kinds={"n": Own()})[1] == come_of(ROWS, 1)[1]
-    assert not any(by_processes) and not children()
+    assert not any(by_processes) and left_none()
 
 
 def test_small_files_start_none(monkeypatch):
