@@ -17,6 +17,8 @@ from .taking import Found, Moments
 Fields = Sequence[bytes]
 # How many fields a comparison takes besides, and how many numbers a part gives at most for a rank.
 BOUND, FEW = 4, 1 << 12
+# By how many times what is expected the number of a rank may lie off.
+SAFETY = 6
 # A rank in a part, and the number that has it.
 Known = Tuple[int, Optional[int]]
 # The number of each column by which rows are grouped.
@@ -105,16 +107,10 @@ class Gathered:
             return (min if word == b"least" else max)(numbers, default=None)
 
     def _median(self, name: bytes, fields: Fields) -> Optional[int]:
-        """Finds the median near that of the first part, or else between those of all parts."""
+        """Finds the median between those of the parts."""
         if len(fields) + BOUND > MAX_FIELDS:
             rule = f"a median over several parts takes a predicate of at most {MAX_FIELDS - BOUND} fields"
             raise BadQuery(f"{rule}, and this one has {len(fields):,}")
-        [(count, ends)] = self._each_of("middle", [(name, fields)])
-        if count:
-            each, parts = zip(*self._each("count_and_near", name, *ends, FEW, fields))
-            number = _ranked(parts, (sum(each) - 1) // 2)
-            if number is not None:
-                return number
         numbers, counts = zip(*self._each("median_and_count", name, fields))
         known = [(max(0, count - 1) // 2, number) for number, count in zip(numbers, counts)]
         return self._between(name, fields, known, (sum(counts) - 1) // 2) if any(counts) else None
@@ -154,20 +150,38 @@ class Gathered:
         a part that has none."""
         numbers = [number for _, number in known if number is not None]
         left = _Left(min(numbers), max(numbers), None, None)
+        if left.high - left.low <= self._bounds:
+            counts = self._counts(name, fields, range(left.low, left.high))
+            return left.low + int((counts.sum(axis=1) <= rank).sum())
+        low, high = _middle(numbers, rank)
+        parts = self._near(name, low, high, FEW >> 3, fields, known)
+        number = _ranked(parts, rank)
+        if number is not None:
+            return number
+        below, many = (np.array([getattr(part, what) for part in parts]) for what in ("below", "many"))
+        if 0 <= rank - below.sum() < many.sum():
+            left = _Left(low, high, below, below + many)
         while left.low < left.high:
             if left.below is None or left.many <= FEW:
                 known = known if left.below is None else [(int(below), None) for below in left.below]
-                asked = [(name, left.low, left.high, FEW, fields, one) for one in known]
-                parts = self._each_of("near", asked)
+                parts = self._near(name, left.low, left.high, FEW, fields, known)
                 number = _ranked(parts, rank)
                 if number is not None:
                     return number
                 below = np.array([part.below for part in parts])
                 left = _Left(left.low, left.high, below, below + [part.many for part in parts])
             bounds = left.expected(self._bounds, rank) if left.is_smooth else self._middles(name, fields, left)
-            counted = self._each("counts", [[*fields, name, b"<=", b"%d" % bound, b"and"] for bound in bounds])
-            left = left.after(bounds, np.array(counted).T, rank)
+            left = left.after(bounds, self._counts(name, fields, bounds), rank)
         return left.low
+
+    def _near(self, name: bytes, low: int, high: int, most: int, fields: Fields, known: Sequence[Known]) -> List[Any]:
+        """Returns of each part the numbers from one to another."""
+        return self._each_of("near", [(name, low, high, most, fields, one) for one in known])
+
+    def _counts(self, name: bytes, fields: Fields, bounds: Sequence[int]) -> np.ndarray:
+        """Returns how many numbers lie up to each bound, of each part."""
+        asked = [[*fields, name, b"<=", b"%d" % bound, b"and"] for bound in bounds]
+        return np.array(self._each("counts", asked)).T if asked else np.zeros((0, self._parts()), np.int64)
 
     def _middles(self, name: bytes, fields: Fields, left: _Left) -> List[int]:
         """Returns some of the numbers in the middle of what is left of each part, in shares of all that is left."""
@@ -233,6 +247,15 @@ class Gathered:
     def nbytes(self) -> int:
         with self.alone():
             return sum(self._each("nbytes"))
+
+
+def _middle(numbers: Sequence[int], rank: int) -> Tuple[int, int]:
+    """Returns the ends of where the number of a rank lies nearly always, between numbers that have the same share of
+    their parts below them, where all parts are alike: how far these lie apart tells how far numbers lie by chance."""
+    parts, low, high, mean = len(numbers), min(numbers), max(numbers), sum(numbers) // len(numbers)
+    share = SAFETY / math.sqrt(2 * parts * math.sqrt(2 * rank / parts + 1))
+    off = int((high - low) * min(share, 1)) + 1
+    return max(low, mean - off), min(high, mean + off)
 
 
 def _ranked(parts: Sequence[Any], rank: int) -> Optional[int]:

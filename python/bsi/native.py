@@ -7,7 +7,6 @@ pointer is null, not even one to nothing.
 from __future__ import annotations
 
 import ctypes
-import math
 import os
 import struct
 import threading
@@ -27,8 +26,6 @@ MAX_NOTES = 1 << 16
 # Of how many numbers that a column may take the library counts each in one pass.
 MAX_TALLIES = 1 << 16
 COUNT, SUM = 1, 2
-# By how many standard deviations a median may lie away from that of a sample.
-DEVIATIONS = 4
 # The numbers of one column, and an Arrow validity bitmap of them or none.
 Entries = Tuple[np.ndarray, Optional[np.ndarray]]
 
@@ -222,36 +219,19 @@ class Handle:
         check(self._call("bsi_top", slices, length, _address(column), len(column), least, *room))
         return rows[: count.value]
 
-    def middle(self, name: bytes, fields: Sequence[bytes]) -> Tuple[int, List[Optional[int]]]:
-        """Returns how many numbers there are in these rows, and two of them between which the median of more rows of
-        their kind lies nearly always."""
-        count = self.count([*fields, name, b"null", b"not", b"and"])
-        if not count:
-            return 0, []
-        middle, off = (count - 1) // 2, DEVIATIONS * math.isqrt(count) // 2
-        return count, self.ranks(name, [max(0, middle - off), min(count - 1, middle + off)], fields)
-
-    def count_and_near(self, name: bytes, low: int, high: int, most: int, fields: Sequence[bytes]) -> Tuple[int, Near]:
-        """Returns how many numbers there are in these rows, and what `near` does."""
-        count = self.count([*fields, name, b"null", b"not", b"and"])
-        return count, self.near(name, low, high, most, fields, None)
-
-    def near(
-        self, name: bytes, low: int, high: int, most: int, fields: Sequence[bytes], known: Optional[Known]
-    ) -> Near:
+    def near(self, name: bytes, low: int, high: int, most: int, fields: Sequence[bytes], known: Known) -> Near:
         """Returns how many numbers in these rows lie below one number, and how many from it up to another, which are
-        given where they are at most so many. Of one of these the rank may be known, or that of the first. The predicate
-        has at most 996 fields."""
+        given where they are at most so many. Of one number the rank is known, or that of the first. The predicate has at
+        most 996 fields."""
         within = [*fields, name, b">=", b"%d" % low, b"and"]
         if len(within) + 4 <= MAX_FIELDS:
             within += [name, b"<=", b"%d" % high, b"and"]
         numbers = self._top(name, most + 1, True, within)[:, 1]
         numbers = numbers[: np.searchsorted(numbers, high, "right")]
-        rank, number = known or (0, None)
+        rank, number = known
         first, last = (0, 1) if number is None else (np.searchsorted(numbers, number, side) for side in ("left", "right"))
         # (of equal numbers it is not known which one has the rank)
-        is_told = known is not None and last == first + 1
-        below = rank - int(first) if is_told else self.count([*fields, name, b"<", b"%d" % low, b"and"])
+        below = rank - int(first) if last == first + 1 else self.count([*fields, name, b"<", b"%d" % low, b"and"])
         if len(numbers) <= most:
             return Near(below, len(numbers), numbers)
         return Near(below, self.count([*fields, name, b"<=", b"%d" % high, b"and"]) - below, None)

@@ -20,6 +20,8 @@ from .progress import Progress
 from .table import MAX_ROWS, Table, opened, schema_of
 
 BOUNDS = 3
+# How many rows of each part are worth a thread.
+FEW_ROWS = 1 << 16
 
 
 def _work(tasks: "SimpleQueue[Any]") -> None:
@@ -40,6 +42,8 @@ class _Threads(Gathered):
     def __init__(self, handles: List[Handle], limit: int):
         super().__init__(BOUNDS)
         self.handles, self.limit, self._process = handles, limit, os.getpid()
+        # (how many runs of rows have been summed up, and their rows)
+        self._summed = self._rows = 0
         self._tasks: List["SimpleQueue[Any]"] = [SimpleQueue() for _ in handles]
         for tasks in self._tasks:
             threading.Thread(target=_work, args=(tasks,), name="bsi", daemon=True).start()
@@ -52,16 +56,20 @@ class _Threads(Gathered):
         return self._each_of(call, [arguments] * len(self.handles))
 
     def _each_of(self, call: str, arguments: Sequence[Sequence[Any]]) -> List[Any]:
-        return self._at_once([(getattr(handle, call), given) for handle, given in zip(self.handles, arguments)])
+        calls = [(getattr(handle, call), given) for handle, given in zip(self.handles, arguments)]
+        return [call(*given) for call, given in calls] if self._are_few() else self._at_once(calls)
+
+    def _are_few(self) -> bool:
+        """Returns whether there are so few rows that a question takes less than its hand-over."""
+        if len(self.runs) != self._summed:
+            self._summed, self._rows = len(self.runs), sum(rows for _, rows in self.runs)
+        return self._rows < FEW_ROWS * len(self.handles)
 
     def _parts(self) -> int:
         return len(self.handles)
 
     def _at_once(self, calls: Sequence[Tuple[Callable[..., Any], Sequence[Any]]]) -> List[Any]:
-        """Makes a call on the thread of each part, or of the first so many: one alone on that of the caller."""
-        if len(calls) == 1:
-            [(call, arguments)] = calls
-            return [call(*arguments)]
+        """Makes a call on the thread of each part, or of the first so many."""
         answers: "SimpleQueue[Any]" = SimpleQueue()
         for place, (tasks, (call, arguments)) in enumerate(zip(self._tasks, calls)):
             tasks.put((place, call, arguments, answers))
@@ -176,7 +184,8 @@ class Parts(Table):
         return cls(n, found.forms, limit=limit)._filled(found, progress)
 
     def _block(self) -> int:
-        return super()._block() * len(self._store.handles)
+        # (a part takes more at once, since each hand-over takes its time)
+        return 4 * super()._block() * len(self._store.handles)
 
     def _append(self, encoded: Any) -> int:
         self._refuse_misfits(encoded)

@@ -39,7 +39,7 @@ NAME = re.compile(r"[a-z][a-z0-9_]{0,31}")
 WORDS = {"all", "null", "and", "or", "not"}
 MAX_ROWS, MAX_COLUMNS = 1 << 32, 64
 # How many numbers of all columns are appended at once, and of how many rows at least.
-BLOCK, LEAST_ROWS = 1 << 18, 1 << 14
+BLOCK, LEAST_ROWS = 1 << 16, 1 << 14
 # How many fields it takes that the rows lie on one side of a number besides.
 BOUND = 4
 # A part of rows from 0 to 1.
