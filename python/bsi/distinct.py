@@ -124,6 +124,11 @@ class Distinct:
                 codes[others] = [self._code(text) for text in fields.taken(others).texts()]
         return codes
 
+    def places(self, texts: List[str]) -> List[int]:
+        """Returns the number of each text, which is kept where it is new."""
+        with self._lock:
+            return [self._code(text) for text in texts]
+
     def _code(self, text: str) -> int:
         code = self._codes.setdefault(text, len(self.texts))
         if code == len(self.texts):

@@ -17,6 +17,8 @@ from .taking import Found, Moments
 Fields = Sequence[bytes]
 # How many fields a comparison takes besides, and how many numbers a part gives at most for a rank.
 BOUND, FEW = 4, 1 << 12
+# By how many times what is expected the number of a rank may lie off.
+SAFETY = 6
 # A rank in a part, and the number that has it.
 Known = Tuple[int, Optional[int]]
 # The number of each column by which rows are grouped.
@@ -148,20 +150,38 @@ class Gathered:
         a part that has none."""
         numbers = [number for _, number in known if number is not None]
         left = _Left(min(numbers), max(numbers), None, None)
+        if left.high - left.low <= self._bounds:
+            counts = self._counts(name, fields, range(left.low, left.high))
+            return left.low + int((counts.sum(axis=1) <= rank).sum())
+        low, high = _middle(numbers, rank)
+        parts = self._near(name, low, high, FEW >> 3, fields, known)
+        number = _ranked(parts, rank)
+        if number is not None:
+            return number
+        below, many = (np.array([getattr(part, what) for part in parts]) for what in ("below", "many"))
+        if 0 <= rank - below.sum() < many.sum():
+            left = _Left(low, high, below, below + many)
         while left.low < left.high:
             if left.below is None or left.many <= FEW:
                 known = known if left.below is None else [(int(below), None) for below in left.below]
-                asked = [(name, left.low, left.high, FEW, fields, one) for one in known]
-                parts = self._each_of("near", asked)
+                parts = self._near(name, left.low, left.high, FEW, fields, known)
+                number = _ranked(parts, rank)
+                if number is not None:
+                    return number
                 below = np.array([part.below for part in parts])
-                if all(part.numbers is not None for part in parts):
-                    place = rank - int(below.sum())
-                    return int(np.partition(np.concatenate([part.numbers for part in parts]), place)[place])
                 left = _Left(left.low, left.high, below, below + [part.many for part in parts])
             bounds = left.expected(self._bounds, rank) if left.is_smooth else self._middles(name, fields, left)
-            counted = self._each("counts", [[*fields, name, b"<=", b"%d" % bound, b"and"] for bound in bounds])
-            left = left.after(bounds, np.array(counted).T, rank)
+            left = left.after(bounds, self._counts(name, fields, bounds), rank)
         return left.low
+
+    def _near(self, name: bytes, low: int, high: int, most: int, fields: Fields, known: Sequence[Known]) -> List[Any]:
+        """Returns of each part the numbers from one to another."""
+        return self._each_of("near", [(name, low, high, most, fields, one) for one in known])
+
+    def _counts(self, name: bytes, fields: Fields, bounds: Sequence[int]) -> np.ndarray:
+        """Returns how many numbers lie up to each bound, of each part."""
+        asked = [[*fields, name, b"<=", b"%d" % bound, b"and"] for bound in bounds]
+        return np.array(self._each("counts", asked)).T if asked else np.zeros((0, self._parts()), np.int64)
 
     def _middles(self, name: bytes, fields: Fields, left: _Left) -> List[int]:
         """Returns some of the numbers in the middle of what is left of each part, in shares of all that is left."""
@@ -227,3 +247,20 @@ class Gathered:
     def nbytes(self) -> int:
         with self.alone():
             return sum(self._each("nbytes"))
+
+
+def _middle(numbers: Sequence[int], rank: int) -> Tuple[int, int]:
+    """Returns the ends of where the number of a rank lies nearly always, between numbers that have the same share of
+    their parts below them, where all parts are alike: how far these lie apart tells how far numbers lie by chance."""
+    parts, low, high, mean = len(numbers), min(numbers), max(numbers), sum(numbers) // len(numbers)
+    share = SAFETY / math.sqrt(2 * parts * math.sqrt(2 * rank / parts + 1))
+    off = int((high - low) * min(share, 1)) + 1
+    return max(low, mean - off), min(high, mean + off)
+
+
+def _ranked(parts: Sequence[Any], rank: int) -> Optional[int]:
+    """Returns the number of a rank where it is among those that all parts give."""
+    place = rank - sum(part.below for part in parts)
+    if any(part.numbers is None for part in parts) or not 0 <= place < sum(part.many for part in parts):
+        return None
+    return int(np.partition(np.concatenate([part.numbers for part in parts]), place)[place])

@@ -75,6 +75,7 @@ class Near(NamedTuple):
 
 _CALLS: Dict[str, List[Any]] = {
     "bsi_open": [c_void_p, c_size_t, c_uint32, POINTER(c_uint64)],
+    "bsi_reserve": [c_uint64],
     "bsi_append": [c_uint32, c_void_p, c_size_t, POINTER(c_uint64), POINTER(c_size_t)],
     "bsi_ask": [c_void_p, c_size_t, POINTER(_Answer), c_void_p, c_size_t],
     "bsi_group_by": [c_void_p, c_size_t, c_void_p, c_size_t, c_void_p, c_size_t, POINTER(c_size_t)],
@@ -155,6 +156,10 @@ class Handle:
         with self._lock:
             return getattr(_library, name)(self._at, *arguments)
 
+    def reserve(self, rows: int, block: int = 0) -> None:
+        """Makes room for rows that are appended in blocks, just so much. An append tells of memory that is refused."""
+        self._call("bsi_reserve", rows)
+
     def append(self, columns: Sequence[Entries]) -> Tuple[int, int]:
         """Appends rows, and returns the status and the row that it tells. Which column is refused the caller finds by itself,
         since it tells of each."""
@@ -216,7 +221,7 @@ class Handle:
 
     def near(self, name: bytes, low: int, high: int, most: int, fields: Sequence[bytes], known: Known) -> Near:
         """Returns how many numbers in these rows lie below one number, and how many from it up to another, which are
-        given where they are at most so many. Of one of these the rank is known, or that of the first. The predicate has at
+        given where they are at most so many. Of one number the rank is known, or that of the first. The predicate has at
         most 996 fields."""
         within = [*fields, name, b">=", b"%d" % low, b"and"]
         if len(within) + 4 <= MAX_FIELDS:

@@ -20,6 +20,8 @@ from .progress import Progress
 from .table import MAX_ROWS, Table, opened, schema_of
 
 BOUNDS = 3
+# How many rows of each part are worth a thread.
+FEW_ROWS = 1 << 16
 
 
 def _work(tasks: "SimpleQueue[Any]") -> None:
@@ -40,6 +42,8 @@ class _Threads(Gathered):
     def __init__(self, handles: List[Handle], limit: int):
         super().__init__(BOUNDS)
         self.handles, self.limit, self._process = handles, limit, os.getpid()
+        # (how many runs of rows have been summed up, and their rows)
+        self._summed = self._rows = 0
         self._tasks: List["SimpleQueue[Any]"] = [SimpleQueue() for _ in handles]
         for tasks in self._tasks:
             threading.Thread(target=_work, args=(tasks,), name="bsi", daemon=True).start()
@@ -52,7 +56,14 @@ class _Threads(Gathered):
         return self._each_of(call, [arguments] * len(self.handles))
 
     def _each_of(self, call: str, arguments: Sequence[Sequence[Any]]) -> List[Any]:
-        return self._at_once([(getattr(handle, call), given) for handle, given in zip(self.handles, arguments)])
+        calls = [(getattr(handle, call), given) for handle, given in zip(self.handles, arguments)]
+        return [call(*given) for call, given in calls] if self._are_few() else self._at_once(calls)
+
+    def _are_few(self) -> bool:
+        """Returns whether there are so few rows that a question takes less than its hand-over."""
+        if len(self.runs) != self._summed:
+            self._summed, self._rows = len(self.runs), sum(rows for _, rows in self.runs)
+        return self._rows < FEW_ROWS * len(self.handles)
 
     def _parts(self) -> int:
         return len(self.handles)
@@ -68,11 +79,19 @@ class _Threads(Gathered):
                 raise why
         return [answer for _, answer, _ in found]
 
+    def _step(self, rows: int) -> int:
+        """Returns how many of so many rows each part takes but the last: a multiple of 8, so that no bitmap is moved."""
+        return -(-rows // (8 * len(self.handles))) * 8
+
+    def reserve(self, rows: int, block: int) -> None:
+        """Makes room for rows that are appended in blocks."""
+        with self.alone():
+            self._each("reserve", rows // block * self._step(block) + self._step(rows % block))
+
     def append(self, columns: Sequence[Entries]) -> Tuple[int, int]:
-        """Gives each part a run of the rows, which all fit. A run but the last has a multiple of 8 rows, so that no
-        bitmap is moved."""
+        """Gives each part a run of the rows, which all fit."""
         rows = len(columns[0][0])
-        step = -(-rows // (8 * len(self.handles))) * 8
+        step = self._step(rows)
         with self.alone():
             if self.rows() + rows > self.limit:
                 return INDEX_FULL, 0
@@ -165,7 +184,8 @@ class Parts(Table):
         return cls(n, found.forms, limit=limit)._filled(found, progress)
 
     def _block(self) -> int:
-        return super()._block() * len(self._store.handles)
+        # (a part takes more at once, since each hand-over takes its time)
+        return 4 * super()._block() * len(self._store.handles)
 
     def _append(self, encoded: Any) -> int:
         self._refuse_misfits(encoded)

@@ -1,23 +1,22 @@
 """CSV files as they are: any header names, decimals, dates and times, booleans, texts of few values.
 
 The first fields of a column that are no nulls say what it holds, and a later one that is none of these is refused with
-its line. Runs of records are turned into numbers as they are read, by columns, on as many threads as there are parts.
+its line. Runs of records are turned into numbers as they are read, by columns, in as many processes as there are parts.
 """
 
 from __future__ import annotations
 
 import csv
-from collections import Counter, deque
-from concurrent.futures import ThreadPoolExecutor
-from contextlib import ExitStack
-from typing import Any, Callable, Collection, Deque, Dict, Iterable, List, Mapping, NamedTuple, Optional, Set
-from typing import Tuple, Type, Union
+from collections import deque
+from contextlib import contextmanager
+from typing import Any, Callable, Collection, Deque, Dict, Iterable, Iterator, List, Mapping, NamedTuple, Optional
+from typing import Set, Tuple, Type, Union
 
 import numpy as np
 
 from .choosing import Chosen, PackedBlock, Wishes, by_column, misfits, refuse_no_kind, settled, wanted_of
 from .errors import BadColumns, BadRow, Error, Skipped, several
-from .fields import Fields, Lines, Records, read_each, split
+from .fields import Lines, Records
 from .files import Path, Run, Runs, Source, name_of, opened, size_of
 from .forms import Form
 from .index import Index
@@ -25,8 +24,10 @@ from .kinds import FAR, Kind, Texts, Whole
 from .narrowing import too_many_texts
 from .packing import Packed, Room, all_of, packed
 from .parts import Parts, refuse_no_parts
+from .pieces import ColumnReader, Piece, RunReader
 from .progress import Progress, told
-from .spelling import THOUSANDS, Bad, Meaning, Options, Reader, TextReader, misread, reader_for
+from .spelling import THOUSANDS, Bad, Meaning, Options, Reader, TextReader, misread
+from .processes import Answers, Processes
 
 # How many bytes say what columns hold, how many are read at once of four columns, and up to how many columns these are
 # more for more columns.
@@ -65,17 +66,16 @@ def read_csv(
     stands between groups of three digits (" " for blanks of any width); `dates` how strptime reads dates, also by
     column; `round` the places to which decimals of more are rounded. With `bad="skip"` rows that can't be kept are left
     out, and stand in `skipped`; else they are a BadRow. `spare` widens columns by so many bits. With several `parts`
-    rows are read on as many threads, and split over as many indexes.
+    rows are split over as many indexes, and a large file is read by as many processes, at most one a processor.
     """
     if bad not in ("refuse", "skip"):
         raise ValueError(f"bad is 'refuse' or 'skip', and not {bad!r}")
     refuse_no_parts(parts)
     asked = _Asked(columns, drop, kinds, forms, spare, _options(nulls, decimal, thousands), dates, round)
     layout = _layout(delimiter, quotechar, skiprows, encoding)
-    with ExitStack() as stack:
-        threads = stack.enter_context(ThreadPoolExecutor(parts)) if parts > 1 else None
-        reader = _Reader(asked, layout, bad == "skip", threads)
-        reader.read_all(paths, stack, progress)
+    with Processes(parts if parts > 1 else 0) as processes:
+        reader = _Reader(asked, layout, bad == "skip", processes)
+        reader.read_all(paths, progress)
     chosen = reader.chosen()
     index: Any = Index(chosen.forms, limit=limit) if parts == 1 else Parts(parts, chosen.forms, limit=limit)
     index.skipped = reader.skipped
@@ -187,63 +187,24 @@ class _Rows(NamedTuple):
         return BadRow(column, self.row + row, text, reason, self.place(row))
 
 
-class _Piece(NamedTuple):
-    """Fields of a column in a run: their kind and numbers, and which are not read with their texts; or the fields
-    themselves, where nothing said before how the column is read."""
-
-    packed: Packed
-    kind: Optional[Kind] = None
-    bad: Dict[int, Tuple[str, str]] = {}
-    fields: Optional[Fields] = None
-
-
 class _Column:
-    """A column that is wanted: its place in the header, how its fields are read, and its blocks."""
+    """A column that is wanted: how its fields are read, and its blocks."""
 
-    def __init__(self, name: str, place: int, options: Options):
-        self.name, self.place, self.options = name, place, options
-        self.reader: Optional[Reader] = None
+    def __init__(self, name: str, fields: ColumnReader):
+        self.name, self.fields = name, fields
         self.blocks: List[PackedBlock] = []
         self.refusal: Optional[Error] = None
         self.form: Any = None
 
-    def piece(self, fields: Fields) -> _Piece:
-        """Reads the fields of a run, if it is known how."""
-        stripped = fields.stripped() if self._is_stripped() else fields
-        valid = all_of(len(fields.starts))
-        for text in self.options.nulls:
-            found = stripped.equal(text)
-            valid = valid & ~found if found.any() else valid
-        if self.reader is None or not valid.any():
-            nothing = packed(np.zeros(len(valid), np.int8), np.zeros(len(valid), bool))
-            return _Piece(nothing, fields=fields if valid.any() else None)
-        return self.read(stripped, valid)
+    @property
+    def reader(self) -> Optional[Reader]:
+        """What reads its fields, or None before it is known."""
+        return self.fields.reader
 
-    def _is_stripped(self) -> bool:
-        return not (isinstance(self.reader, TextReader) and self.reader.is_exact)
-
-    def choose(self, fields: Fields) -> _Piece:
-        """Chooses by the fields how the column is read, and reads them."""
-        stripped = fields.stripped()
-        nulls = frozenset(self.options.nulls)
-        texts = Counter(text for text in stripped.texts() if text not in nulls)
-        self.reader = reader_for(texts, self.options)
-        return self.piece(fields)
-
-    def read(self, fields: Fields, valid: np.ndarray) -> _Piece:
-        """Reads the fields that are valid."""
-        assert self.reader is not None
-        places = None if valid.all() else np.flatnonzero(valid)
-        there = fields if places is None else fields.taken(places)
-        kind, numbers, bad = self.reader.read(there)
-        texts = dict(zip(bad, there.taken(list(bad)).texts())) if bad else {}
-        rows = {row: row if places is None else int(places[row]) for row in bad}
-        told = {rows[row]: (texts[row], reason) for row, reason in sorted(bad.items())}
-        if places is not None:
-            spread = np.zeros(len(valid), numbers.dtype)
-            spread[places] = numbers
-            numbers = spread
-        return _Piece(packed(numbers, valid), kind, told)
+    @property
+    def options(self) -> Options:
+        """What is said of its fields."""
+        return self.fields.options
 
     def meaning(self) -> Tuple[Optional[Meaning], Bad, bool]:
         """Returns what the places of texts stand for, which of them stand for nothing, and whether the column is
@@ -270,14 +231,11 @@ class _Column:
             self.blocks[at] = block.meaning(meaning.kind, meaning.numbers)
 
 
-# The records of a run, and its columns: None where a column is refused already.
-_Read = Tuple[Records, List[Optional[_Piece]]]
-
-
-def _taken(waiting: Deque[Callable[[], _Read]], source: Source) -> _Read:
-    """Returns the run that is read next."""
+@contextmanager
+def _as_text(source: Source) -> Iterator[None]:
+    """Refuses a file that is no text."""
     try:
-        return waiting.popleft()()
+        yield
     except UnicodeError as why:
         raise source.no_text(why) from None
 
@@ -285,10 +243,12 @@ def _taken(waiting: Deque[Callable[[], _Read]], source: Source) -> _Read:
 class _Reader:
     """What has been read of the files: their header, and the blocks of each wanted column."""
 
-    def __init__(self, asked: _Asked, layout: _Layout, skips: bool, threads: Optional[ThreadPoolExecutor]):
-        self._asked, self._layout, self._skips, self._threads = asked, layout, skips, threads
+    def __init__(self, asked: _Asked, layout: _Layout, skips: bool, processes: Processes):
+        self._asked, self._layout, self._skips, self._processes = asked, layout, skips, processes
         self._header: List[str] = []
         self._columns: List[_Column] = []
+        # (runs that have been begun, and where a answers of a process are)
+        self._waiting: Deque[Tuple[Run, Optional[Answers]]] = deque()
         self._rows: List[_Rows] = []
         self._room = Room()
         # (without these the system takes the memory of a run back behind it, and the next run asks for it again)
@@ -298,38 +258,48 @@ class _Reader:
 
     # ---- Files ----
 
-    def read_all(self, paths: Union[Path, Iterable[Path]], stack: ExitStack, progress: Progress) -> None:
+    def read_all(self, paths: Union[Path, Iterable[Path]], progress: Progress) -> None:
         """Reads one file or several, and tells how far it is."""
         files = _listed(paths)
         if not files:
             raise BadColumns("there is no file")
-        tell = stack.enter_context(told(progress, sum(map(size_of, files)), "B"))
-        for path in files:
-            self.read(path, tell)
+        size = sum(map(size_of, files))
+        self._processes.start_for(size)
+        with told(progress, size, "B") as tell:
+            for path in files:
+                self.read(path, tell)
 
     def read(self, path: Path, tell: Callable[[int], None]) -> None:
         """Reads a file, and keeps the numbers of its wanted columns."""
-        name, waiting = name_of(path), deque()  # type: Tuple[str, Deque[Callable[[], _Read]]]
+        name = name_of(path)
         with opened(path, self._layout.encoding) as source:
             runs = Runs(source, *self._layout.marks)
-            try:
+            with _as_text(source):
                 self._line = self._head(runs, name)
-            except UnicodeError as why:
-                raise source.no_text(why) from None
-            size = min(WIDE, max(4, len(self._header))) * RUN // 4 * (1 if self._threads is None else 2)
-            while (run := runs.next(size if self._count else FIRST)).text:
-                waiting.append(self._started(run, runs, source))
-                while len(waiting) > self._ahead():
-                    self._keep(*_taken(waiting, source), name)
+            while (run := self._next(runs, source, name)).text:
+                self._start(run, runs, source, name)
                 tell(self._bytes + source.place())
-            while waiting:
-                self._keep(*_taken(waiting, source), name)
+            self._keep_all(source, name)
             self._bytes += source.place()
             tell(self._bytes)
 
-    def _ahead(self) -> int:
-        """Returns how many runs are read at once: the first one alone, since it says what columns hold."""
-        return 2 * self._threads._max_workers if self._threads is not None and self._count else 0
+    def _next(self, runs: Runs, source: Source, name: str) -> Run:
+        """Returns the next run. Where it can't be had, what came before is told first."""
+        size = min(WIDE, max(4, len(self._header))) * RUN // 4
+        try:
+            return runs.next(size if self._count else FIRST)
+        except Exception:
+            self._keep_all(source, name)
+            raise
+
+    def _keep_all(self, source: Source, name: str, ahead: int = 0) -> None:
+        """Keeps the runs that wait, but for so many."""
+        while len(self._waiting) > ahead:
+            run, answers = self._waiting.popleft()
+            with _as_text(source):
+                answer = None if answers is None else answers.get()
+                read = self._runs.read(run, self._wanted()) if answer is None else answer.joined(self._runs.columns)
+            self._keep(*read, name)
 
     def _head(self, runs: Runs, name: str) -> int:
         """Reads the header, and returns the line behind it."""
@@ -361,38 +331,32 @@ class _Reader:
         for column, options in asked.options_of(self._wishes).items():
             if options.kind is not None and options.kind is not Texts:
                 refuse_no_kind(column, options.kind)
-            self._columns.append(_Column(column, header.index(column), options))
+            self._columns.append(_Column(column, ColumnReader(header.index(column), options)))
+        fields = [column.fields for column in self._columns]
+        self._runs = RunReader(len(header), self._layout.marks, self._layout.dialect, fields)
 
     # ---- Runs ----
 
-    def _started(self, run: Run, runs: Runs, source: Source) -> Callable[[], _Read]:
-        """Begins to read a run, on a thread where there are some, and returns what gives its columns. Where the run may
-        not end as a record does, it is read with what follows it."""
-        if not run.is_whole:
-            try:
-                lines = Lines(run.text, lambda: runs.next(RUN).text)
-                records = read_each(lines, len(self._header), self._layout.dialect)
-                runs.back(lines.rest())
-            except UnicodeError as why:
-                raise source.no_text(why) from None
-            return lambda: self._pieces(records)
-        if self._threads is not None and self._ahead():
-            return self._threads.submit(self._pieces_of, run).result
-        return lambda: self._pieces_of(run)
+    def _start(self, run: Run, runs: Runs, source: Source, name: str) -> None:
+        """Begins to read a run. Where it may not end as a record does, it is read with what follows it."""
+        if run.is_whole:
+            # (the first one is read alone, since it says what columns hold)
+            answers = self._processes.read(self._runs, run, self._wanted()) if self._count else None
+            self._waiting.append((run, answers))
+            self._keep_all(source, name, 0 if answers is None else 2 * self._processes.ready)
+            return
+        self._keep_all(source, name)
+        with _as_text(source):
+            lines = Lines(run.text, lambda: runs.next(RUN).text)
+            records = self._runs.each(lines)
+            runs.back(lines.rest())
+        self._keep(*self._runs.pieces(records, self._wanted()), name)
 
-    def _pieces_of(self, run: Run) -> _Read:
-        """Reads a run of whole records."""
-        width = len(self._header)
-        records = split(run, width, *self._layout.marks)
-        return self._pieces(records or read_each(Lines(run.text, bytes), width, self._layout.dialect))
+    def _wanted(self) -> List[bool]:
+        """Returns which of the columns are not refused."""
+        return [column.refusal is None for column in self._columns]
 
-    def _pieces(self, records: Records) -> _Read:
-        """Reads the columns of records, but for those that are refused already."""
-        return records, [
-            None if column.refusal else column.piece(records.column(column.place)) for column in self._columns
-        ]
-
-    def _keep(self, records: Records, pieces: List[Optional[_Piece]], name: str) -> None:
+    def _keep(self, records: Records, pieces: List[Optional[Piece]], name: str) -> None:
         """Keeps the numbers of a run, or refuses what does not fit."""
         rows = _Rows.of(name, self._count, self._line, records.places)
         self._last.append([piece.packed for piece in pieces if piece is not None])
@@ -402,7 +366,7 @@ class _Reader:
             if piece is None or column.refusal:
                 continue
             if piece.fields is not None:
-                piece = column.choose(piece.fields) if column.reader is None else column.piece(piece.fields)
+                piece = column.fields.piece(piece.fields) if column.reader else column.fields.choose(piece.fields)
             moved = self._room.moved(piece.packed)
             column.blocks.append(PackedBlock(piece.kind, moved, self._count, moved.ends))
             for row, (text, reason) in piece.bad.items():

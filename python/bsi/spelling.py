@@ -292,6 +292,17 @@ class TextReader:
         self.is_exact = meaning is texts_meant
         self.distinct = Distinct()
 
+    @classmethod
+    def knowing(cls, texts: List[str], *given: Any) -> "TextReader":
+        """Returns a reader that knows texts already."""
+        reader = cls(*given)
+        reader.distinct.places(texts)
+        reader.distinct.codes(fields_of(texts))
+        return reader
+
+    def __reduce__(self) -> Any:
+        return TextReader.knowing, (self.distinct.texts, self.options, self._meaning, self.most)
+
     def read(self, fields: Fields) -> Read:
         return Read(None, self.distinct.codes(fields), {})
 

@@ -39,7 +39,7 @@ NAME = re.compile(r"[a-z][a-z0-9_]{0,31}")
 WORDS = {"all", "null", "and", "or", "not"}
 MAX_ROWS, MAX_COLUMNS = 1 << 32, 64
 # How many numbers of all columns are appended at once, and of how many rows at least.
-BLOCK, LEAST_ROWS = 1 << 18, 1 << 14
+BLOCK, LEAST_ROWS = 1 << 16, 1 << 14
 # How many fields it takes that the rows lie on one side of a number besides.
 BOUND = 4
 # A part of rows from 0 to 1.
@@ -211,6 +211,7 @@ class Table:
         """Appends many rows in blocks, and tells the progress."""
         rows, done = chosen.rows(), 0
         self._refuse_full(rows)
+        self._store.reserve(rows, self._block())
         with told(progress, rows, "rows") as tell:
             for encoded in chosen.taken(self._block()):
                 done += self._append(encoded)

@@ -940,7 +940,7 @@ def test_kinds_and_forms_that_are_given():
 def test_progress_is_told():
     told = []
     bsi.Index.from_frame({"a": np.arange(1 << 19 | 5)}, progress=lambda done, total: told.append((done, total)))
-    assert told == [(1 << 18, 524293), (1 << 19, 524293), (524293, 524293)]
+    assert told == [(min(done << 16, 524293), 524293) for done in range(1, 10)]
 
 
 def test_columns_of_many_rows_are_compared():

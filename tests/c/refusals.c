@@ -173,6 +173,14 @@ static uint32_t append_from(bsi_index *index, uint64_t first, uint64_t *rows) {
     return status;
 }
 
+/* Makes room for more rows than there are. */
+static uint32_t reserve(bsi_index *index, uint64_t rows) {
+    uint64_t found;
+    uint32_t status = bsi_reserve(index, 2 * ROWS);
+    wrong += !is_fair(status) || bsi_rows(index, &found) != BSI_OK || found != rows;
+    return status;
+}
+
 static uint32_t open_two(bsi_index *index) {
     uint64_t bad;
     uint32_t status = opens(index, "column,a,slices,8\ncolumn,b,range,10 10\nlimit,1000\n", 1, &bad);
@@ -224,6 +232,8 @@ static void use(void) {
     if (status) return;
     status = append_from(&index, 0, &rows);
     if (is_to_repeat(status)) wrong += append_from(&index, rows, &rows) != BSI_OK || rows != ROWS;
+    status = reserve(&index, rows);
+    if (is_to_repeat(status)) wrong += (status = reserve(&index, rows)) != BSI_OK;
     question(&index, rows);
     keep(&index, rows);
     status = share(&index, &other, rows);

@@ -52,6 +52,7 @@ static void of_a_closed_handle(void) {
     check(selects(&closed, "all", words, 0) == BSI_CLOSED, "select: a closed handle");
     check(bsi_rows(&closed, &number) == BSI_CLOSED, "rows: a closed handle");
     check(bsi_memory(&closed, &number) == BSI_CLOSED, "memory: a closed handle");
+    check(bsi_reserve(&closed, 0) == BSI_CLOSED, "reserve: a closed handle");
     check(bsi_schema(&closed, bits, 0, &size) == BSI_CLOSED, "schema: a closed handle");
     check(bsi_share(&closed, &other) == BSI_CLOSED, "share: a closed handle");
     check(bsi_close(&closed) == BSI_CLOSED, "close: a closed handle");
@@ -96,6 +97,10 @@ static void of_columns(void) {
     check(append_at(&open_one, 0, long_one, 2, 0, 1) == BSI_BAD_COLUMNS, "append: a bitmap that is short by a byte");
     long_one[1].valid_len = 0;
     check(append(&open_one, 0, long_one, 2, 0) == BSI_INDEX_FULL, "append: a row more than the limit");
+    uint64_t left = 70 - rows_of(&open_one);
+    check(bsi_reserve(&open_one, left + 1) == BSI_INDEX_FULL, "reserve: a row more than the limit");
+    check(bsi_reserve(&open_one, UINT64_MAX) == BSI_INDEX_FULL, "reserve: more rows than there are numbers of bytes");
+    check(bsi_reserve(&open_one, left) == BSI_OK && rows_of(&open_one) == 70 - left, "reserve: up to the limit");
     two[1] = (bsi_column){low, 3, bits, 0};
     check(append_at(&open_one, 0, two, 2, 2, 1) == BSI_BAD_ROW, "append: a number below the least");
     two[0].values = big;
@@ -256,6 +261,7 @@ static void of_sharing(void) {
     check(append(&open_one, 0, two, 2, 0) == BSI_SHARED && append(&other, 0, two, 2, 0) == BSI_SHARED, "append: a shared index");
     check(bsi_close(&open_one) == BSI_OK && rows_of(&other) == 4, "a handle stays open when the other is closed");
     check(append(&other, 0, two, 2, 0) == BSI_SHARED, "append: an index that was shared");
+    check(bsi_reserve(&other, 1) == BSI_SHARED, "reserve: an index that was shared");
     check(bsi_share(&other, &third) == BSI_OK && bsi_close(&other) == BSI_OK && rows_of(&third) == 4, "share: once more");
     check(bsi_close(&third) == BSI_OK && bsi_close(&third) == BSI_CLOSED, "close: twice");
 }

@@ -3,7 +3,7 @@
 #![tactic(auto)]
 
 ghost use Rattle.std.specs.Prelude.{◌≡◌, ◌≢◌, Err, None, drop, length, map};
-ghost use Rattle.bsi_ffi.specs.Calls.{IsAppending, IsAsking, IsClosing, IsCounting, IsDescribing, IsKeeping, IsOpening, IsReopening, IsSelecting, IsSharing, LeavesRest, LeavesWords};
+ghost use Rattle.bsi_ffi.specs.Calls.{IsAppending, IsAsking, IsClosing, IsCounting, IsDescribing, IsKeeping, IsOpening, IsReopening, IsReserving, IsSelecting, IsSharing, LeavesRest, LeavesWords};
 ghost use Rattle.bsi_ffi.specs.Groups.{IsGrouping};
 ghost use Rattle.bsi_ffi.specs.Memory.{IsMeasuring};
 ghost use Rattle.bsi_ffi.specs.Pairs.{IsGroupingByTwo};
@@ -16,7 +16,7 @@ ghost use Rattle.bsi_ffi.specs.declared.refusal.Refusal.TheVariants.{NoMemory, N
 use bsi_ffi::{
     FlatAnswer, FlatEntry, FlatGroup, FlatPair, FlatRow, GivenColumn, Handle, Place, append, ask,
     close, count, describe, different, first_rows, group, group_pairs, measure, open, open_kept,
-    quantile, ranked, save, select, share, status_of,
+    quantile, ranked, reserve, save, select, share, status_of,
 };
 use std::alloc::Global;
 
@@ -35,6 +35,15 @@ pub extern "C" fn bsi_open(
     ensures kept { result ≢ 0 → index.new.held.value ≡ index.old.held.value }
 {
     status_of(open(alloc, index, schema, feeders, bad_record))
+}
+
+/// Makes room for so many further rows, so that appending them takes no memory for the index.
+#[unsafe(no_mangle)]
+pub extern "C" fn bsi_reserve(alloc: Global, index: &mut Handle, rows: u64) -> u32
+    ensures told { Tells result (IsReserving index.old.held.value rows) }
+    ensures kept { index.new.held.value ≡ index.old.held.value }
+{
+    status_of(reserve(alloc, index, rows))
 }
 
 /// Appends all rows of the columns, and writes how many. If one does not fit, it writes the number of the first such

@@ -117,6 +117,21 @@ IsAppending (Some (shared_state opened)) feeder columns row column after ending 
 IsAppending (Some Moved) feeder columns row column after ending =
     (ending ≡ Err Closed) × (row ≡ 0) × (column ≡ 0) × (after ≡ Some Moved)
 
+-- ---- making room
+
+-- an index makes room for so many further rows, unless they would leave its limit
+abbrev pub IsMakingRoom : Table → ℕ → Ending → Type 0
+IsMakingRoom table rows (Ok done) = length table.rows + rows ≤ table.limit
+IsMakingRoom table rows (Err NoMemory) = length table.rows + rows ≤ table.limit
+IsMakingRoom table rows (Err IndexFull) = table.limit < length table.rows + rows
+IsMakingRoom table rows (Err why) = ⊥
+
+abbrev pub IsReserving : Option State → ℕ → Ending → Type 0
+IsReserving None rows ending = ending ≡ Err Closed
+IsReserving (Some (Alone opened)) rows ending = IsMakingRoom opened.table rows ending
+IsReserving (Some (shared_state opened)) rows ending = ending ≡ Err Shared
+IsReserving (Some Moved) rows ending = ending ≡ Err Closed
+
 -- ---- asking
 
 -- the rows of an answer

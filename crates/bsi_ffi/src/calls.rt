@@ -1,7 +1,7 @@
 //! The calls on a handle.
 
 ghost use Rattle.std.specs.Prelude.{◌≡◌, ◌≢◌, None, drop, is_some, length, map, IfErr, OnErr, OnOk};
-ghost use Rattle.bsi_ffi.specs.Calls.{IsAppending, IsAsking, IsClosing, IsCounting, IsDescribing, IsKeeping, IsOpening, IsReopening, IsSelecting, IsSharing, LeavesRest, LeavesWords};
+ghost use Rattle.bsi_ffi.specs.Calls.{IsAppending, IsAsking, IsClosing, IsCounting, IsDescribing, IsKeeping, IsOpening, IsReopening, IsReserving, IsSelecting, IsSharing, LeavesRest, LeavesWords};
 ghost use Rattle.bsi_ffi.specs.Groups.{IsGrouping};
 ghost use Rattle.bsi_ffi.specs.Memory.{IsMeasuring};
 ghost use Rattle.bsi_ffi.specs.Numbers.{IsCountingDifferent, IsFindingQuantile, IsRanking};
@@ -65,6 +65,19 @@ pub fn open(
     drop(take(index, alloc));
     put(index, state);
     Ok(())
+}
+
+/// Makes room for so many further rows, so that appending them takes no memory for the index.
+pub fn reserve(alloc: Global, index: &mut Handle, rows: u64) -> Result<(), Refusal>
+    ensures ending { IsReserving index.old.held.value rows result }
+    ensures kept { index.new.held.value ≡ index.old.held.value }
+{
+    let Some(mut state) = take(index, alloc) else {
+        return Err(Refusal::Closed);
+    };
+    let ending = state.reserve(rows);
+    put(index, state);
+    ending
 }
 
 /// Appends all rows of the columns, and writes how many. If one does not fit, it writes the number of the first such

@@ -24,7 +24,7 @@ mod tops;
 pub use answers::{COUNT, FlatAnswer, Place, ROWS, SUM, VALUE};
 pub use calls::{
     append, ask, close, count, describe, different, first_rows, group, group_pairs, measure, open,
-    open_kept, quantile, ranked, save, select, share,
+    open_kept, quantile, ranked, reserve, save, select, share,
 };
 pub use columns::GivenColumn;
 pub use groups::FlatGroup;

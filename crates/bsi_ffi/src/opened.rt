@@ -2,7 +2,7 @@
 
 ghost use Rattle.std.specs.Prelude.{◌≡◌, IfErr, OnErr, drop, OnOk};
 ghost use Rattle.bsi_reading.specs.SchemaTexts.{IsSchemaText};
-ghost use Rattle.bsi_ffi.specs.Calls.{with_table, AppendsColumns, IsDescribed};
+ghost use Rattle.bsi_ffi.specs.Calls.{with_table, AppendsColumns, IsDescribed, IsMakingRoom};
 ghost use Rattle.bsi_table.specs.Index.{table_of};
 
 use crate::blocks::append_columns;
@@ -70,6 +70,18 @@ impl Opened {
             return Err(Refusal::NoRoom);
         }
         text[..from.len()].copy_from_slice(from);
+        Ok(())
+    }
+
+    /// Makes room for so many further rows.
+    pub(crate) fn reserve(&mut self, rows: u64) -> Result<(), Refusal>
+        ensures kept { self.new ≡ self.old }
+        ensures told { IsMakingRoom self.old.table rows result }
+    {
+        if rows > self.index.limit() - self.index.len() {
+            return Err(Refusal::IndexFull);
+        }
+        self.index.reserve(rows)?;
         Ok(())
     }
 

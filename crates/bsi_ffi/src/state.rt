@@ -1,7 +1,7 @@
 //! What an open handle holds.
 
 ghost use Rattle.std.specs.Prelude.{◌≡◌, ◌≢◌, Some, option_map, IfErr, IfOk};
-ghost use Rattle.bsi_ffi.specs.Calls.{HoldsShared, IsAppending, IsShareRefusal};
+ghost use Rattle.bsi_ffi.specs.Calls.{HoldsShared, IsAppending, IsReserving, IsShareRefusal};
 ghost use Rattle.bsi_ffi.specs.States.{opened_in};
 
 use crate::columns::GivenColumn;
@@ -32,6 +32,18 @@ impl State {
             State::Alone(opened) => Some(opened),
             State::Shared(opened) => Some(opened),
             State::Moved => None,
+        }
+    }
+
+    /// Makes room for so many further rows, if one handle alone holds the index.
+    pub(crate) fn reserve(&mut self, rows: u64) -> Result<(), Refusal>
+        ensures kept { self.new ≡ self.old }
+        ensures told { IsReserving (Some self.old) rows result }
+    {
+        match self {
+            State::Alone(opened) => opened.reserve(rows),
+            State::Shared(_) => Err(Refusal::Shared),
+            State::Moved => Err(Refusal::Closed),
         }
     }
 

@@ -1,0 +1,252 @@
+"""Processes that read runs of records, since threads of Python take turns.
+
+Each is an interpreter that starts anew. So it has no lock that a thread of the caller holds, as a forked one would, and it
+does not import the caller's program, as those of multiprocessing do. It gets runs by a pipe, gives numbers back by
+another, and ends with these. A run that it can't read, or that it had when it ended, is read by the caller, who then
+tells what is wrong with it.
+"""
+
+from __future__ import annotations
+
+import contextlib
+import os
+import pickle
+import subprocess
+import sys
+import threading
+from array import array
+from queue import SimpleQueue
+from typing import Any, Dict, List, NamedTuple, Optional, Sequence, Tuple
+
+import numpy as np
+
+from .files import Run
+from .packing import packed
+from .pieces import ColumnReader, Piece, Pieces, RunReader
+from .spelling import TextReader
+
+# How many bytes of text are worth the start of processes.
+LARGE = 1 << 25
+# What a process runs. Of the package it has the modules that read, and not the library.
+CODE = """import sys, types
+sys.path[:] = {path!r}
+sys.modules["bsi"] = bsi = types.ModuleType("bsi")
+bsi.__path__ = [{home!r}]
+import bsi.processes
+bsi.processes.main()
+"""
+LOST = (OSError, EOFError, ValueError, pickle.PickleError)
+
+
+class How(NamedTuple):
+    """How runs are read, packed for a process, and how many texts each column has that the process then knows."""
+
+    reader: bytes
+    texts: List[int]
+
+    @classmethod
+    def of(cls, reader: RunReader) -> "How":
+        """Packs how runs are read."""
+        return cls(pickle.dumps(reader), _counts(reader))
+
+
+def _texts(column: ColumnReader) -> List[str]:
+    """Returns the texts that were found in a column."""
+    return column.reader.distinct.texts if isinstance(column.reader, TextReader) else []
+
+
+def _counts(reader: RunReader) -> List[int]:
+    return [len(_texts(column)) for column in reader.columns]
+
+
+class Answer(NamedTuple):
+    """What a process has read: the pieces of a run, and of each column the texts that are new to the process, and the
+    places that all texts it knew before have here."""
+
+    pieces: Pieces
+    new: List[List[str]]
+    known: List[array]
+
+    def joined(self, columns: Sequence[ColumnReader]) -> Pieces:
+        """Returns the pieces with the places that texts have here."""
+        records, pieces = self.pieces
+        each = zip(pieces, columns, self.new, self.known)
+        return records, [piece and self._joined(piece, *one) for piece, *one in each]
+
+    @staticmethod
+    def _joined(piece: Piece, column: ColumnReader, new: List[str], known: array) -> Piece:
+        if new:
+            known.extend(column.reader.distinct.places(new))  # type: ignore[union-attr]
+        if not isinstance(column.reader, TextReader) or piece.packed.ends is None:
+            return piece
+        (low, high), places = piece.packed.ends, np.frombuffer(known, np.int64)
+        if (places[low : high + 1] == np.arange(low, high + 1)).all():
+            return piece
+        return piece._replace(packed=packed(places[piece.packed.numbers], piece.packed.valid))
+
+
+Answers = SimpleQueue  # of one Answer, or None where the run is to be read here
+
+
+class _Process:
+    """A process, as its caller sees it."""
+
+    def __init__(self) -> None:
+        path = [place for place in sys.path if isinstance(place, str)]
+        code = CODE.format(path=path, home=os.path.dirname(os.path.abspath(__file__)))
+        pipes: Dict[str, Any] = {"stdin": subprocess.PIPE, "stdout": subprocess.PIPE, "stderr": subprocess.DEVNULL}
+        # (in a session of its own it gets no Ctrl-C)
+        self._process = subprocess.Popen([sys.executable, "-I", "-S", "-c", code], **pipes, start_new_session=True)
+        self._how: Optional[How] = None
+        self._known: List[array] = []
+
+    def await_start(self) -> None:
+        """Waits until it can read. Raises one of LOST where it does not start."""
+        pickle.load(self._process.stdout)  # type: ignore[arg-type]
+
+    def read(self, how: How, run: Run, wanted: Sequence[bool]) -> Optional[Answer]:
+        """Reads a run, or raises one of LOST where the process has ended."""
+        is_new, self._how = how is not self._how, how
+        if is_new:
+            self._known = [array("q", range(count)) for count in how.texts]
+        pickle.dump((how.reader if is_new else None, run, wanted), self._process.stdin, 5)  # type: ignore[arg-type]
+        self._process.stdin.flush()  # type: ignore[union-attr]
+        found = pickle.load(self._process.stdout)  # type: ignore[arg-type]
+        return None if found is None else Answer(*found, self._known)
+
+    def end(self) -> None:
+        """Ends it, whatever it does."""
+        self._process.kill()
+        self._process.wait()
+
+    def close(self) -> None:
+        """Closes its pipes, which no thread uses any more."""
+        for pipe in (self._process.stdin, self._process.stdout):
+            with contextlib.suppress(OSError):
+                pipe.close()  # type: ignore[union-attr]
+
+
+def _can_start() -> bool:
+    """Returns whether this program is Python itself, which can be started anew."""
+    return "python" in os.path.basename(sys.executable or "").lower() and not getattr(sys, "frozen", False)
+
+
+class Processes:
+    """Some processes, started when there is so much to read that it is worth it, and a thread for each that waits for
+    it."""
+
+    def __init__(self, count: int):
+        processors = len(os.sched_getaffinity(0))
+        self._most = min(count, processors) if processors > 1 and _can_start() else 0
+        self._lock, self._tasks = threading.Lock(), SimpleQueue()  # type: Any, SimpleQueue[Any]
+        self._processes: List[_Process] = []
+        self._threads: List[threading.Thread] = []
+        self._size = 0
+        self._how: Optional[How] = None
+        self._readers: List[Any] = []
+        # How many of them can read.
+        self.ready = 0
+
+    def start_for(self, size: int) -> None:
+        """Starts them for a text of so many bytes, if it is large."""
+        if size < LARGE or self._processes:
+            return
+        with contextlib.suppress(OSError):
+            while len(self._processes) < self._most:
+                self._processes.append(_Process())
+        for process in self._processes:
+            self._threads.append(threading.Thread(target=self._serve, args=(process,), name="bsi", daemon=True))
+            self._threads[-1].start()
+        self._most = 0
+
+    def read(self, reader: RunReader, run: Run, wanted: Sequence[bool]) -> Optional[Answers]:
+        """Lets a process read a run, and returns where its answer will be, or None where there is none that can."""
+        self._size += len(run.text)
+        self.start_for(self._size)
+        with self._lock:
+            if not self.ready:
+                return None
+            how, answers = self._packed(reader), Answers()  # type: Optional[How], Answers
+            if how is None:
+                return None
+            self._tasks.put((how, run, wanted, answers))
+            return answers
+
+    def _packed(self, reader: RunReader) -> Optional[How]:
+        """Returns how runs are read, packed anew where a column has come to be read, or None where that can't be."""
+        readers = [column.reader for column in reader.columns]
+        if readers != self._readers:
+            self._how, self._readers = None, readers
+            with contextlib.suppress(Exception):  # (what the caller's own kinds raise)
+                self._how = How.of(reader)
+        return self._how
+
+    def _serve(self, process: _Process) -> None:
+        """Hands tasks over to a process as long as it lives."""
+        with contextlib.suppress(*LOST):
+            process.await_start()
+            with self._lock:
+                self.ready += 1
+            try:
+                while (task := self._tasks.get()) is not None:
+                    self._answer(process, *task)
+            finally:
+                self._leave()
+
+    def _answer(self, process: _Process, how: How, run: Run, wanted: Sequence[bool], answer: Any) -> None:
+        found = None
+        try:
+            found = process.read(how, run, wanted)
+        finally:
+            answer.put(found)
+
+    def _leave(self) -> None:
+        """Takes a process out. With the last one, what waits is left to the caller."""
+        with self._lock:
+            self.ready -= 1
+            while not self.ready and not self._tasks.empty():
+                task = self._tasks.get()
+                if task is not None:
+                    task[-1].put(None)
+
+    def __enter__(self) -> "Processes":
+        return self
+
+    def __exit__(self, *why: Any) -> None:
+        for process in self._processes:
+            process.end()
+            self._tasks.put(None)
+        for thread in self._threads:
+            thread.join()
+        for process in self._processes:
+            process.close()
+
+
+def main() -> None:
+    """Reads the runs that come by standard input, as a process does, up to its end."""
+    tasks, answers = sys.stdin.buffer, sys.stdout.buffer
+    reader: Optional[RunReader] = None
+    told: List[int] = []
+    with contextlib.suppress(*LOST):
+        pickle.dump(None, answers)
+        answers.flush()
+        while True:
+            how, run, wanted = pickle.load(tasks)
+            if how is not None:
+                reader = pickle.loads(how)
+                told = _counts(reader)
+            pickle.dump(_read(reader, run, wanted, told), answers, 5)
+            answers.flush()
+
+
+def _read(reader: Any, run: Run, wanted: Sequence[bool], told: List[int]) -> Optional[Tuple[Pieces, List[List[str]]]]:
+    """Returns the pieces of a run with the texts that were not told before, or None where the caller has to read it."""
+    try:
+        records, pieces = reader.read(run, wanted)
+    except Exception:  # (the caller meets it too)
+        return None
+    if any(piece is not None and piece.fields is not None for piece in pieces):
+        return None
+    new = [_texts(column)[count:] for column, count in zip(reader.columns, told)]
+    told[:] = _counts(reader)
+    return (records._replace(column=None), pieces), new
