@@ -1,6 +1,7 @@
 //! Batches of queries: those of an asks file that are taken before any of them is answered.
 
 ghost use Rattle.std.specs.Prelude.{◌≡◌, ◌≤◌, None, IfErr, IfOk, true};
+ghost use Rattle.bsi_reading.specs.Sources.{max_records, HasNext};
 ghost use Rattle.bsi_asks.specs.Faults.{is_late};
 ghost use Rattle.bsi_files.specs.Batches.{StopsInBatch, TakesAsk, TakesBatch};
 
@@ -37,7 +38,8 @@ pub(crate) fn read_batch<A: Read + Drop>(
     fields: &mut ByteRecord,
     queries: &mut Vec<Query>,
 ) -> Result<Behind, FilesFault>
-    requires { records.old.end ≡ None }
+    requires going { records.old.end ≡ None }
+    requires few { records.old.taken ≤ max_records }
     ensures late { IfErr result (λ fault. is_late fault ≡ true) }
     ensures taken { IfOk result
         (TakesBatch (λ w. A.remaining w.inner) schema.now records.old records.new queries.new.items) }
@@ -67,6 +69,8 @@ fn take_ask<A: Read + Drop>(
     ensures taken { IfOk result (TakesAsk (λ w. A.remaining w.inner) schema.now records.old
         records.new queries.old.items queries.new.items) }
     ensures kept { IfErr result (λ _. queries.new.items ≡ queries.old.items) }
+    ensures too_long { IfErr result (λ fault. fault ≡ FilesFault.TooLong Which.AsksFile →
+        (records.old.taken ≡ max_records) × HasNext (λ w. A.remaining w.inner) records.old.input) }
 {
     match records.next_record(fields) {
         Ok(true) => {}
@@ -76,7 +80,9 @@ fn take_ask<A: Read + Drop>(
     let Some(query) = read_query(alloc, schema, fields)? else {
         return Ok(Behind::Bad);
     };
-    queries.push(query)?;
+    if queries.push(query).is_err() {
+        return Err(FilesFault::NoMemory);
+    }
     Ok(Behind::More)
 }
 
