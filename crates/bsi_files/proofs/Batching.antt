@@ -1,14 +1,15 @@
 -- Batches of queries, as they grow, and the lines that answer them.
-use Rattle.std.proofs.Common.{◌≡◌, ◌≤◌, ◌<◌, ℕ, zero, suc, ◌+◌, List, [], ◌∷◌, ◌++◌, get_or, length, take, drop, Option, Some, None, IfSome, inl, inr, refl, ap, sym, subst, arith, ◌∙◌}
-use Rattle.std.specs.Prelude.{◌⊎◌, option_to_list}
+use Rattle.std.proofs.Common.{◌≡◌, ◌≤◌, ◌<◌, ℕ, zero, suc, ◌+◌, List, [], ◌∷◌, ◌++◌, get_or, length, take, drop, Option, Some, None, IfSome, MatchOption, Result, Ok, Err, inl, inr, refl, ap, sym, subst, arith, ◌∙◌}
+use Rattle.std.specs.Prelude.{◌⊎◌, IfErr, IfOk, option_to_list}
 use Rattle.std.specs.Io.KnownBytes.{Appends}
 use Rattle.std.specs.List.{concat, AllZip}
-use Rattle.std.proofs.lemmas.List.{append-nil, append_assoc, drop_more, length-append, length-take-le, take_all, take_more}
+use Rattle.std.proofs.lemmas.List.{append-nil, append_assoc, drop_more, length-append, take_all, take_more}
 use Rattle.std.proofs.lemmas.List.Folds.{concat-append}
 use Rattle.csv.proofs.WriteFacts.{appends-more, appends-none}
 use Rattle.csv.specs.Reading.{reader_state, source_of}
 use Rattle.csv.specs.declared.reader.Reader.{Reader}
 use Rattle.bsi_records.specs.Events.{IsQuery}
+use Rattle.bsi_records.specs.Lines.{bad_line}
 use Rattle.bsi_records.specs.Numbers.{Field}
 use Rattle.bsi_reading.proofs.FirstRecords.{first_more, HasReadFirst}
 use Rattle.bsi_reading.proofs.Waiting.{cut_whole}
@@ -18,15 +19,16 @@ use Rattle.bsi_reading.specs.Waiting.{IsCut}
 use Rattle.bsi_rows.specs.Rows.{FedRow}
 use Rattle.bsi_rows.specs.declared.query.Query.{Query}
 use Rattle.bsi_schema.specs.Columns.{Declared}
-use Rattle.bsi_asks.proofs.Asking.{out_after, out_all, StandsAt}
+use Rattle.bsi_asks.proofs.Asking.{out_after, out_all, stands_all, stands_more, stands_part, StandsAt}
+use Rattle.bsi_asks.proofs.Passing.{emptied}
 use Rattle.bsi_asks.specs.AskLines.{IsAskLine}
 use Rattle.bsi_asks.specs.Matching.{AreMatched}
-use Rattle.bsi_asks.specs.Writing.{AreOut, WritesFirst}
+use Rattle.bsi_asks.specs.Writing.{AreOut, WritesAll, WritesFirst}
 use Rattle.bsi_asks.specs.declared.faults.FilesFault.{FilesFault}
 use Rattle.bsi_asks.specs.declared.faults.FilesFault.TheVariants.{NoMemory, TooLong, Write}
 use Rattle.bsi_asks.specs.declared.faults.Which.TheVariants.{AsksFile}
 use Rattle.bsi_asks.specs.declared.wording.Wording.TheVariants.{Queries}
-use Rattle.bsi_files.specs.Batches.{AreFirstReplies, GivesQueries, HasGiven, IsTold, TakesAsk, TakesBatch, TakesQuery, TellsAll, TellsFirst}
+use Rattle.bsi_files.specs.Batches.{AreFirstReplies, GivesQueries, HasGiven, IsTold, StopsInBatch, TakesAsk, TakesBatch, TakesQuery, TellsAll, TellsFirst}
 use Rattle.bsi_files.specs.declared.batches.Behind.{Behind}
 use Rattle.bsi_files.specs.declared.batches.Behind.TheVariants.{Bad, End, More}
 
@@ -172,6 +174,84 @@ module _ (schema : Declared) (rows : List FedRow) {R : Type 0} (rem : R → Opti
         out = out_after fault stands.lines tells.lines before now after stands.written tells.out;
       }
 
+-- whatever stands behind a batch, the source gave its queries
+pub given_some : {R : Type 0} (rem : R → Option (List ℕ)) (schema : Declared) (old new : RecordSource R) (queries : List Query) (found : Result Behind FilesFault)
+    → IfOk found (TakesBatch rem schema old new queries) → IfErr found (StopsInBatch rem schema old queries)
+    → (at : Reader R) × (taken : ℕ) × HasGiven rem schema old queries at taken
+given_some rem schema old new queries (Ok More) takes stops = (new.input, new.taken, takes.0)
+given_some rem schema old new queries (Ok Bad) takes stops = (takes.0, takes.1, takes.2)
+given_some rem schema old new queries (Ok End) takes stops = (takes.0, takes.1, takes.2)
+given_some rem schema old new queries (Err fault) takes stops = (stops.at, stops.taken, stops.given)
+
+-- unless the text ends behind it, the source goes on with more records taken
+pub goes_on : {R : Type 0} (rem : R → Option (List ℕ)) (schema : Declared) (old new : RecordSource R) (queries : List Query) (behind : Behind)
+    → TakesBatch rem schema old new queries behind → (behind ≡ More) ⊎ (behind ≡ Bad) → (new.end ≡ None) × (old.taken + 1 ≤ new.taken) × (new.taken ≤ max_records)
+goes_on rem schema old new queries More takes way = (takes.2, omega (arith, takes.0.counted, takes.1), takes.0.few)
+goes_on rem schema old new queries Bad takes way = (takes.3.going, omega (arith, takes.2.counted, takes.3.counted), takes.3.few)
+goes_on rem schema old new queries End takes (inl way) = absurd (cc (way))
+goes_on rem schema old new queries End takes (inr way) = absurd (cc (way))
+
+-- what follows once the lines of a batch were written
+module _ (schema : Declared) (rows : List FedRow) {R : Type 0} (rem : R → Option (List ℕ)) (bytes : List ℕ) (old new : RecordSource R)
+    (before now middle : Option (List ℕ))
+    (stands : StandsAt (IsAskLine Queries schema rows) bytes (reader_state old.input) (source_of rem old.input) old.taken before now)
+    (queries : List Query) (tells : TellsAll (IsTold schema rows) queries now middle) where
+  -- the record behind it asks no query
+  bad_line_of : (fields : List Field) → ((query : Query) → IsQuery schema fields query → ⊥) → IsAskLine Queries schema rows fields bad_line
+  bad_line_of fields none = inr (λ report asks. asks, inl (record { none = none; line_is = refl }))
+
+  pub stands_bad : (after : Option (List ℕ)) → TakesBatch rem schema old new queries Bad → Appends middle after bad_line
+      → StandsAt (IsAskLine Queries schema rows) bytes (reader_state new.input) (source_of rem new.input) new.taken before after
+  stands_bad after takes written =
+      stands_more (IsAskLine Queries schema rows) rem bytes takes.0 new.input takes.1 takes.2.few before middle
+      (batch_stands schema rows rem bytes old before now middle stands queries takes.0 takes.1 takes.2 tells)
+      takes.3.fields bad_line new.taken after takes.3.read takes.3.counted (bad_line_of takes.3.fields takes.3.none) written
+
+  pub part_bad : (after : Option (List ℕ)) (fault : FilesFault) → TakesBatch rem schema old new queries Bad → AreOut fault (bad_line ∷ []) middle after
+      → (fault ≡ NoMemory) ⊎ (fault ≡ Write) → WritesFirst (AreMatched (IsAskLine Queries schema rows)) bytes fault before after
+  part_bad after fault takes out late =
+      let stood = batch_stands schema rows rem bytes old before now middle stands queries takes.0 takes.1 takes.2 tells in
+      let fields = takes.3.fields in
+      let begun = first_more rem bytes takes.0 new.input stood.records fields stood.begun takes.3.read in
+      record {
+        records = stood.records ++ fields ∷ [];
+        lines = stood.lines ++ bad_line ∷ [];
+        state = reader_state new.input;
+        rest = begun.rest;
+        first = begun.first;
+        few = omega (arith, length-append stood.records (fields ∷ []), stood.many, takes.3.counted, takes.3.few);
+        too_long = λ is. absurd (late_fault fault late is);
+        are = matched_append (IsAskLine Queries schema rows) stood.records (fields ∷ []) stood.lines (bad_line ∷ []) stood.each
+            (bad_line_of fields takes.3.none, tt);
+        out = out_after fault stood.lines (bad_line ∷ []) before middle after stood.written out;
+      }
+
+  -- no record stands behind it
+  pub all_end : TakesBatch rem schema old new queries End → WritesAll (AreMatched (IsAskLine Queries schema rows)) bytes before middle
+  all_end takes =
+      stands_all (IsAskLine Queries schema rows) rem bytes takes.0 takes.0 takes.1 takes.2.few before middle
+      (batch_stands schema rows rem bytes old before now middle stands queries takes.0 takes.1 takes.2 tells) takes.3
+
+  -- a fault stands behind it
+  pub part_stopped : (fault : FilesFault) → StopsInBatch rem schema old queries fault
+      → WritesFirst (AreMatched (IsAskLine Queries schema rows)) bytes fault before middle
+  part_stopped fault stops =
+      stands_part (IsAskLine Queries schema rows) rem bytes stops.at stops.at stops.taken stops.given.few before middle
+      (batch_stands schema rows rem bytes old before now middle stands queries stops.at stops.taken stops.given tells) fault stops.too_long
+
+  -- the next batch is read behind it, or behind a record that asks no query
+  pub stands_on : (after : Option (List ℕ)) (behind : Behind) → TakesBatch rem schema old new queries behind
+      → ((behind ≡ More) × (after ≡ middle)) ⊎ ((behind ≡ Bad) × Appends middle after bad_line)
+      → StandsAt (IsAskLine Queries schema rows) bytes (reader_state new.input) (source_of rem new.input) new.taken before after
+  stands_on after More takes (inl way) =
+      subst (StandsAt (IsAskLine Queries schema rows) bytes (reader_state new.input) (source_of rem new.input) new.taken before) (sym way.1)
+      (batch_stands schema rows rem bytes old before now middle stands queries new.input new.taken takes.0 tells)
+  stands_on after Bad takes (inr way) = stands_bad after takes way.1
+  stands_on after More takes (inr way) = absurd (cc (way.0))
+  stands_on after Bad takes (inl way) = absurd (cc (way.0))
+  stands_on after End takes (inl way) = absurd (cc (way.0))
+  stands_on after End takes (inr way) = absurd (cc (way.0))
+
 -- ---- the lines of a batch
 
 -- the lines of the first queries were written
@@ -203,10 +283,10 @@ module _ (Is : Query → List ℕ → Type 0) (queries : List Query) (count : �
     late = inl memory;
   }
 
-  module _ (d : Query) (line : List ℕ) (within : count < length queries) (is : Is (get_or queries count d) line) where
+  module _ (query d : Query) (line : List ℕ) (within : count < length queries) (at : query ≡ get_or queries count d) (is : Is query line) where
     each_more : AreMatched Is (take (count + 1) queries) (told.lines ++ line ∷ [])
     each_more = subst (λ qs. AreMatched Is qs (told.lines ++ line ∷ [])) (sym (take_more queries count d within))
-        (matched_append Is (take count queries) (get_or queries count d ∷ []) told.lines (line ∷ []) told.each (is, tt))
+        (matched_append Is (take count queries) (get_or queries count d ∷ []) told.lines (line ∷ []) told.each (subst (λ q. Is q line) at is, tt))
 
     text_more : concat (told.lines ++ line ∷ []) ≡ concat told.lines ++ line
     text_more = concat-append told.lines (line ∷ []) ∙ ap (λ last. concat told.lines ++ last) (append-nil line)
@@ -236,16 +316,27 @@ first_replies Is [] (reply ∷ replies) all = all
 first_replies Is (query ∷ queries) [] all = tt
 first_replies Is (query ∷ queries) (reply ∷ replies) all = (all.0, first_replies Is queries replies all.1)
 
--- the next reply is that of the next query
-module _ {A B : Type 0} (Is : A → B → Type 0) (queries : List A) (count : ℕ) (d : A) (within : count < length queries) where
-  next_here : (reply : Option B) (replies left : List B) → AreFirstReplies Is (get_or queries count d ∷ drop (count + 1) queries) replies
-      → replies ≡ option_to_list reply ++ left → (reply ≡ None → left ≡ [])
-      → IfSome reply (Is (get_or queries count d)) × AreFirstReplies Is (drop (count + 1) queries) left
-  next_here None replies left are is none = (tt, subst (AreFirstReplies Is (drop (count + 1) queries)) (sym (none refl)) tt)
-  next_here (Some reply) replies left are is none = subst (AreFirstReplies Is (get_or queries count d ∷ drop (count + 1) queries)) is are
+-- a call that gave nothing
+pub left_none : {B : Type 0} (m n : ℕ) (P : B → Type 0) (o : Option B) → MatchOption o ((m ≡ 0) × (n ≡ 0)) P → o ≡ None → n ≡ 0
+left_none m n P None both is = both.1
+left_none m n P (Some x) p is = absurd (cc (is))
 
-  pub next_reply : (reply : Option B) (replies left : List B) → AreFirstReplies Is (drop count queries) replies
-      → replies ≡ option_to_list reply ++ left → (reply ≡ None → left ≡ [])
-      → IfSome reply (Is (get_or queries count d)) × AreFirstReplies Is (drop (count + 1) queries) left
-  next_reply reply replies left are is none =
-      next_here reply replies left (subst (λ qs. AreFirstReplies Is qs replies) (drop_more queries count d within) are) is none
+-- the next reply is that of the next query
+module _ {A B : Type 0} (Is : A → B → Type 0) (queries : List A) (count : ℕ) (query d : A) (within : count < length queries)
+    (at : query ≡ get_or queries count d) (reply : Option B) (replies left : List B) (are : AreFirstReplies Is (drop count queries) replies)
+    (gave : replies ≡ option_to_list reply ++ left) (none : reply ≡ None → length left ≡ 0) where
+  next_here : (rest : List A) (o : Option B) → AreFirstReplies Is (query ∷ rest) replies → replies ≡ option_to_list o ++ left → (o ≡ None → length left ≡ 0)
+      → IfSome o (Is query) × AreFirstReplies Is rest left
+  next_here rest None first gives empty = (tt, subst (AreFirstReplies Is rest) (sym (emptied left (empty refl))) tt)
+  next_here rest (Some reply) first gives empty = subst (AreFirstReplies Is (query ∷ rest)) gives first
+
+  next_both : IfSome reply (Is query) × AreFirstReplies Is (drop (count + 1) queries) left
+  next_both = next_here (drop (count + 1) queries) reply
+      (subst (λ q. AreFirstReplies Is (q ∷ drop (count + 1) queries) replies) (sym at) (subst (λ qs. AreFirstReplies Is qs replies) (drop_more queries count d within) are))
+      gave none
+
+  pub next_reply : IfSome reply (Is query)
+  next_reply = next_both.0
+
+  pub next_left : AreFirstReplies Is (drop (count + 1) queries) left
+  next_left = next_both.1

@@ -1,7 +1,7 @@
-use Rattle.std.proofs.Common.{◌≡◌, ◌≤◌, [], length, arith, rules, subst, sym, ◌∙◌}
+use Rattle.std.proofs.Common.{◌≡◌, [], arith, rules, subst, sym}
 use Rattle.std.specs.Prelude.{IfErr}
 use Rattle.bsi_reading.specs.Sources.{max_records, HasNext}
-use Rattle.bsi_asks.proofs.Passing.{emptied, if_err_both}
+use Rattle.bsi_asks.proofs.Passing.{if_err_both}
 use Rattle.bsi_asks.specs.declared.faults.FilesFault.TheVariants.{TooLong}
 use Rattle.bsi_asks.specs.declared.faults.Which.TheVariants.{AsksFile}
 use Rattle.bsi_files.specs.Batches.{HasGiven, TakesAsk}

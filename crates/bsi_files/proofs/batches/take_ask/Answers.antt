@@ -1,9 +1,8 @@
-use Rattle.std.proofs.Common.{◌≡◌, None, refl, rules, sym, true, ◌∙◌}
+use Rattle.std.proofs.Common.{None, refl, rules, sym, true, ◌∙◌}
 use Rattle.csv.specs.Records.{fields_of}
 use Rattle.bsi_records.specs.Events.{IsQuery}
 use Rattle.bsi_records.specs.Reading.{IsReadAs}
 use Rattle.bsi_reading.specs.RecordSources.{StopsAt, TakesNext}
-use Rattle.bsi_rows.specs.declared.query.Query.{Query}
 use Rattle.bsi_asks.proofs.Asking.{only_long}
 use Rattle.bsi_files.proofs.batches.take_ask.Goals as goal
 
