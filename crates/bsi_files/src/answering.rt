@@ -29,8 +29,8 @@ use csv::ByteRecord;
 use std::io::{Read, Write};
 use std::thread::Threads;
 
-/// From so many rows on, threads answer a batch sooner than they take to start.
-const MANY_ROWS: u64 = 1 << 18;
+/// From so many rows on, counted once for each query, threads save more time than they take to start.
+const MANY_ROWS: u64 = 1 << 23;
 
 /// Writes a line for each feeder, and then a line for each record of the text: the answer to its question over the rows
 /// of the table, or that it is bad.
@@ -130,8 +130,8 @@ fn answer_batch<R: Threads + AllocGlobal + Sync, W: Write>(
     Ok(())
 }
 
-/// Asks several queries on several threads where there are many rows. Otherwise, or if memory is refused, there are no
-/// replies.
+/// Asks several queries on several threads where they pass over many rows. Otherwise, or if memory is refused, there are
+/// no replies.
 fn ask_together<R: Threads + AllocGlobal + Sync>(
     rt: &R,
     table: &Index,
@@ -140,7 +140,8 @@ fn ask_together<R: Threads + AllocGlobal + Sync>(
     ensures { AreFirstReplies (IsRepliedAlone table.now.schema table.now.rows) queries.now
         result.items }
 {
-    if queries.len() < 2 || table.len() < MANY_ROWS {
+    let rows = table.len().saturating_mul(queries.len() as u64);
+    if queries.len() < 2 || rows < MANY_ROWS {
         return Vec::new(rt.alloc());
     }
     match ask_all(rt, rt.alloc(), table, queries) {
