@@ -15,7 +15,7 @@ ghost use Rattle.bsi_rows.specs.Rows.{FedRow};
 ghost use Rattle.bsi_rows.specs.declared.query.Query.{Query};
 ghost use Rattle.bsi_asks.specs.AskLines.{IsArrangedAnswer, IsAskLine, IsQueryLine};
 ghost use Rattle.bsi_asks.specs.Matching.{AreMatched};
-ghost use Rattle.bsi_asks.specs.Runs.{fed_lines, AreLines};
+ghost use Rattle.bsi_asks.specs.Runs.{fed_lines};
 ghost use Rattle.bsi_asks.specs.Writing.{AreOut, WritesAll, WritesFirst};
 ghost use Rattle.bsi_rows.specs.Table.{max_feeders};
 
@@ -28,28 +28,6 @@ use bsi_table::{Answer, Index};
 use csv::ByteRecord;
 use std::alloc::Global;
 use std::io::{Read, Write};
-
-/// Writes a line for each feeder, and then a line for each record of the text: the answer to its question over the rows
-/// of the table, or that it is bad.
-pub fn answer_all<A: Read + Drop, W: Write>(
-    alloc: Global,
-    table: &Index,
-    fed: &[Fed],
-    asks: A,
-    writer: &mut W,
-) -> Result<(), FilesFault>
-    requires few { length fed.now ≤ max_feeders }
-    ensures late { IfErr result (λ fault. is_late fault ≡ true) }
-    ensures ok { OnOk result (IfSome (A.remaining asks) (λ bytes.
-        WritesAll (AreLines table.now.schema table.now.rows (map fed_counts fed.now)) bytes
-        (W.contents writer.old) (W.contents writer.new))) }
-    ensures part { IfErr result (λ fault. IfSome (A.remaining asks) (λ bytes.
-        WritesFirst (AreLines table.now.schema table.now.rows (map fed_counts fed.now)) bytes fault
-        (W.contents writer.old) (W.contents writer.new))) }
-{
-    tell_feds(alloc, fed, writer)?;
-    answer_asks(alloc, table, Wording::Queries, asks, writer)
-}
 
 /// Writes a line for each record of a text: the answer to its question over the rows of an index, or that it is bad.
 /// Each line is written before more of the text is asked for. It looks for more than 1,000,000 records last.
@@ -170,12 +148,14 @@ fn answer_query(
     let Some(query) = wording.read(alloc, table.schema(), fields)? else {
         return write_bad(line);
     };
-    let reply = table.ask(&query).map(|answer| arranged(alloc, answer));
+    let reply = table
+        .ask(&query)
+        .map(|answer| arrange_answer(alloc, answer));
     write_reply(&Reply::Answered(reply), line)
 }
 
 /// Arranges the rows of an answer in order of feeder, and then of their numbers.
-fn arranged(alloc: Global, answer: Answer) -> Answer
+pub fn arrange_answer(alloc: Global, answer: Answer) -> Answer
     ensures { (query : Query) → (rows : List FedRow) → IsAnswer query rows answer →
         IsArrangedAnswer query rows result }
 {

@@ -10,7 +10,7 @@ mod report_lines;
 mod reports;
 mod wording;
 
-pub use asks::{answer_all, answer_asks, tell_feds};
+pub use asks::{answer_asks, arrange_answer, tell_feds};
 pub use faults::{FaultText, FilesFault, MAX_FAULT_TEXT, Which};
 pub use fed::{Fed, file_number};
 pub use report_lines::MAX_GROUPS;

@@ -21,7 +21,7 @@ use Rattle.bsi_files.specs.Feds.{AreFedFrom, IsAllFed, IsFedFrom}
 use Rattle.bsi_asks.proofs.Mixing.{same_length}
 use Rattle.bsi_asks.proofs.Showing.{file_by_file_too, lines_too}
 use Rattle.bsi_asks.specs.Matching.{AreMatched}
-use Rattle.bsi_asks.specs.Mixes.{file_by_file, IsMixOf}
+use Rattle.bsi_asks.specs.Mixes.{file_by_file}
 use Rattle.bsi_asks.specs.Runs.{AreLines, HasLoaded, IsRun}
 use Rattle.bsi_asks.specs.declared.fed.Fed.{Fed}
 

@@ -1,5 +1,5 @@
 -- What a run has of each file, by what it has of its sources.
-use Rattle.std.proofs.Common.{◌≡◌, ℕ, suc, ◌≤◌, Bool, List, [], ◌∷◌, length, map, Option, Some, IfSome, ap, sym, ◌∙◌, subst, arith}
+use Rattle.std.proofs.Common.{◌≡◌, ℕ, suc, Bool, List, [], ◌∷◌, map, Option, Some, IfSome, ap, sym, ◌∙◌, subst, arith}
 use Rattle.csv.specs.Reading.{reader_state, strip_bom}
 use Rattle.bsi_schema.specs.Columns.{Declared}
 use Rattle.bsi_rows.specs.Rows.{Entries, FedRow}

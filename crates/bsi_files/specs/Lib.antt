@@ -1,3 +1,4 @@
+pub mod Batches
 pub mod Begun
 pub mod Ends
 pub mod Feds

@@ -18,11 +18,12 @@ ghost use Rattle.bsi_asks.specs.Runs.{HasLoaded, IsRun};
 ghost use Rattle.bsi_asks.specs.Writing.{Leaves, WhereFilesKnown, WhereKnown, WritesAll};
 ghost use Rattle.bsi_system.specs.Running.{AlwaysHolds};
 
+use crate::answering::answer_all;
 use crate::headers::{begin_all, capacities};
 use crate::loading::{check_all, load_beside, load_rest, settle_all};
 use crate::threads::{RunFlags, join_all, start_all};
 use crate::{FilesFault, Gate, NoMemory, Stopping};
-use bsi_asks::{Fed, answer_all, file_number};
+use bsi_asks::{Fed, file_number};
 use bsi_reading::{RowSource, read_schema};
 use bsi_records::DeclaredTable;
 use bsi_system::{Feeder, History, Loader, Naming, OpenRefused, System, open};
@@ -91,7 +92,7 @@ pub fn run_files<
     }
     let DeclaredTable { schema, limit } = read_schema(rt.alloc(), schema)?;
     let loaded = load_files(rt, schema, limit, sources, gate)?;
-    answer_all(rt.alloc(), &loaded.table, &loaded.fed, asks, writer)
+    answer_all(rt, &loaded.table, &loaded.fed, asks, writer)
 }
 
 /// Loads the good rows of 1 to 64 files into one index of this schema and limit.

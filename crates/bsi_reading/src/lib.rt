@@ -8,6 +8,7 @@ mod reading;
 mod rows;
 mod schema_text;
 mod texts;
+mod watched;
 mod writing;
 
 pub use bsi_records::{DeclaredTable, NoMemory};
@@ -17,4 +18,5 @@ pub use reading::{MAX_RECORDS, plain_reader, read_next};
 pub use rows::{RowSource, SourceFault};
 pub use schema_text::{SchemaFault, read_schema};
 pub use texts::RecordSource;
+pub use watched::{Watched, has_whole_record};
 pub use writing::{WriteFault, write_bytes};

@@ -9,6 +9,7 @@ ghost use Rattle.bsi_reading.specs.Sources.{max_records};
 
 use crate::reading::{end_of, plain_reader, take_record};
 use crate::rows::SourceFault;
+use crate::watched::{Watched, has_whole_record};
 use csv::{ByteRecord, Reader};
 use std::alloc::Global;
 use std::io::Read;
@@ -70,5 +71,13 @@ impl<R: Read + Drop> RecordSource<R> {
         let found = take_record(&mut self.input, fields, &mut self.taken);
         self.end = end_of(found);
         found
+    }
+}
+
+impl<R: Read + Drop> RecordSource<Watched<R>> {
+    /// Returns whether the next record was read as a whole, so that it is taken without a read. It may return false for
+    /// a record with quotes that was read as a whole.
+    pub fn has_whole_record(&self) -> bool {
+        has_whole_record(&self.input)
     }
 }

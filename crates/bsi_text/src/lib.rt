@@ -3,7 +3,6 @@
 
 mod script;
 mod session;
-mod watched;
 
 pub use bsi_reading::{
     RecordSource, RowSource, SchemaFault, SourceFault, WriteFault, laws, read_schema, write_bytes,

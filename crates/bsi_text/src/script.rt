@@ -13,9 +13,8 @@ ghost use Rattle.bsi_reading.specs.Texts.{FromText, IfKnown, IsAnswered, IsBegun
 ghost use Rattle.bsi_reading.specs.Waiting.{IsCut, IsPut, WhileWritten};
 
 use crate::session::Session;
-use crate::watched::{Watched, has_whole_record};
 use crate::{NoMemory, WriteFault, write_bytes};
-use bsi_reading::{MAX_RECORDS, plain_reader, read_next};
+use bsi_reading::{MAX_RECORDS, Watched, has_whole_record, plain_reader, read_next};
 use csv::{ByteRecord, Reader};
 use std::alloc::Global;
 use std::io::{Read, Write};

@@ -1,9 +1,9 @@
-use Rattle.std.proofs.Common.{◌≡◌, ◌≤◌, ℕ, List, Option, Some, arith, length, map, rules, subst, sym, true, ◌∙◌}
-use Rattle.std.specs.Prelude.{IfErr, IfOk}
+use Rattle.std.proofs.Common.{◌≡◌, ◌≤◌, map, rules, subst, sym, true, ◌∙◌}
+use Rattle.std.specs.Prelude.{IfErr}
 use Rattle.bsi_rows.specs.Table.{max_feeders}
 use Rattle.bsi_reading.proofs.Joining.{is_whole}
 use Rattle.bsi_files.specs.Begun.{Begins}
-use Rattle.bsi_asks.specs.Faults.{is_late, is_of_headers}
+use Rattle.bsi_asks.specs.Faults.{is_of_headers}
 use Rattle.bsi_files.specs.Headers.{IsHeadersFault}
 use Rattle.bsi_files.specs.RunFaults.{IsFaultOf}
 use Rattle.bsi_asks.specs.declared.faults.FilesFault.TheVariants.{NoMemory}

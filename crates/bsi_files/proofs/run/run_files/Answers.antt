@@ -1,9 +1,8 @@
-use Rattle.std.proofs.Common.{◌≡◌, ℕ, All, List, Option, Some, IfSome, map, rules, subst, sym, true}
+use Rattle.std.proofs.Common.{ℕ, List, Option, IfSome, map, rules, subst, sym}
 use Rattle.std.specs.Prelude.{IfErr}
 use Rattle.bsi_schema.specs.Columns.{Declared}
-use Rattle.bsi_records.specs.Numbers.{Field}
 use Rattle.bsi_reading.specs.SchemaTexts.{IsSchemaText}
-use Rattle.bsi_asks.specs.RowFiles.{fed_counts, FedCounts}
+use Rattle.bsi_asks.specs.RowFiles.{fed_counts}
 use Rattle.bsi_files.specs.Parts.{HasLoadedParts}
 use Rattle.bsi_files.specs.RunFaults.{AreGood, IsFaultOver}
 use Rattle.bsi_asks.specs.Runs.{AreLines, HasLoaded, IsRun}

@@ -6,7 +6,7 @@ use Rattle.bsi_text.specs.Sessions.{phase_of}
 use Rattle.bsi_reading.specs.Texts.{FromText, IsStopped}
 use Rattle.bsi_reading.specs.Waiting.{IsPut, OnceWritten}
 use Rattle.bsi_text.specs.declared.script.ScriptFault.TheVariants as fault
-use Rattle.bsi_text.specs.declared.watched.Watched.{Watched}
+use Rattle.bsi_reading.specs.declared.watched.Watched.{Watched}
 use Rattle.bsi_reading.proofs.Standing.{if_err, stands_answered, stands_cut, stands_first, stands_long, stands_next, stands_part, stands_stopped, stands_way}
 use Rattle.bsi_reading.proofs.Waiting.{cut_end}
 use Rattle.bsi_text.proofs.script.serve.Goals as goal

@@ -12,8 +12,9 @@ use std::io::Read;
 
 /// A reader that notes how far the lines reach that were read as a whole.
 #[derive(Drop)]
-pub(crate) struct Watched<R: Read + Drop> {
-    inner: R,
+pub struct Watched<R: Read + Drop> {
+    /// The reader that it reads from.
+    pub inner: R,
     // How many bytes were read, and how many of them stand up to the last line end that surely ends a record.
     read: u64,
     whole: u64,
@@ -32,7 +33,7 @@ impl<R: Read + Drop> Read for Watched<R> {
 
 impl<R: Read + Drop> Watched<R> {
     /// Makes the reader of which no byte has been read.
-    pub(crate) fn new(inner: R) -> Watched<R>
+    pub fn new(inner: R) -> Watched<R>
         ensures { result.inner ≡ inner }
     {
         Watched {
@@ -45,7 +46,7 @@ impl<R: Read + Drop> Watched<R> {
 
 /// Returns whether the next record was read as a whole, so that it can be taken without asking for more bytes. It may
 /// return false for a record with quotes that was read as a whole.
-pub(crate) fn has_whole_record<R: Read + Drop>(input: &Reader<Watched<R>>) -> bool {
+pub fn has_whole_record<R: Read + Drop>(input: &Reader<Watched<R>>) -> bool {
     input.position().byte() < input.get_ref().whole
 }
 

@@ -7,7 +7,7 @@ use Rattle.bsi_asks.specs.declared.faults.FilesFault.TheVariants.{TooLong}
 use Rattle.bsi_asks.specs.declared.faults.Which.TheVariants.{AsksFile}
 use Rattle.bsi_asks.proofs.Asking.{head_part, headed_all, headed_part}
 use Rattle.bsi_asks.proofs.Passing.{if_err, if_err_both, if_some, if_some_follows, on_ok}
-use Rattle.bsi_asks.proofs.asks.answer_all.Goals as goal
+use Rattle.bsi_files.proofs.answering.answer_all.Goals as goal
 
 -- lines of the feeders alone were written
 pub returns-in_err-tell_feds-clause-part : goal.returns-in_err-tell_feds-clause-part
@@ -29,11 +29,11 @@ returns-clause-ok g c =
     let counts = map fed_counts c.args.fed.now in
     let before = g.W.Write.contents c.args.writer.now in
     let middle = g.W.Write.contents c.tell_feds.new.writer in
-    let after = g.W.Write.contents c.answer_asks.new.writer in
-    on_ok c.answer_asks.result
+    let after = g.W.Write.contents c.answer_queries.new.writer in
+    on_ok c.answer_queries.result
     (λ some. if_some_follows (g.A.Read.remaining c.args.asks) some
     (λ bytes all. headed_all schema c.args.table.now.rows counts bytes before middle after c.in_ok-tell_feds.ensures.ok all))
-    c.answer_asks.ensures.ok
+    c.answer_queries.ensures.ok
 
 pub returns-clause-part : goal.returns-clause-part
 returns-clause-part g c =
@@ -41,8 +41,8 @@ returns-clause-part g c =
     let counts = map fed_counts c.args.fed.now in
     let before = g.W.Write.contents c.args.writer.now in
     let middle = g.W.Write.contents c.tell_feds.new.writer in
-    let after = g.W.Write.contents c.answer_asks.new.writer in
-    if_err c.answer_asks.result
+    let after = g.W.Write.contents c.answer_queries.new.writer in
+    if_err c.answer_queries.result
     (λ fault some. if_some_follows (g.A.Read.remaining c.args.asks) some
     (λ bytes part. headed_part schema c.args.table.now.rows counts bytes before middle after fault c.in_ok-tell_feds.ensures.ok part))
-    c.answer_asks.ensures.part
+    c.answer_queries.ensures.part
