@@ -40,7 +40,8 @@ AreRankedBy opened fields name ranks numbers (Ok done) =
     (pred : Pred) × (c : ℕ) × (made : List (Option ℤ)) × IsAskedOn opened.table fields name pred c
     × AreRanked ranks (selected_numbers c pred opened.table.rows) made
     × (length ranks ≤ length numbers) × AllZip IsWrittenEntry made (take (length ranks) numbers)
-AreRankedBy opened fields name ranks numbers (Err NoRoom) = length numbers < length ranks
+AreRankedBy opened fields name ranks numbers (Err NoRoom) =
+    (pred : Pred) × (c : ℕ) × IsAskedOn opened.table fields name pred c × (length numbers < length ranks)
 AreRankedBy opened fields name ranks numbers (Err why) = IsUnasked opened.table fields name why
 
 -- the number at the end of a share of the numbers; none is written where there is no number
