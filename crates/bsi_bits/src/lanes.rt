@@ -19,6 +19,9 @@ use std::simd::u64x4;
 mod adders;
 mod operations;
 
+/// The number of words in a cache line.
+pub const LINE_WORDS: usize = 8;
+
 /// The number of words that a kernel takes at a time.
 const LANES: usize = 4;
 

@@ -4,16 +4,13 @@
 //! cache line at a time where it has none.
 
 ghost use Rattle.std.specs.Prelude.{◌≡◌, ℕ, ◌≤◌, ◌<◌, ◌+◌, List, length, slice_index, IsTrue};
-ghost use Rattle.bsi_bits.specs.BitList.{max_words};
 ghost use Rattle.std.specs.Iterator.{YieldsFirst, item_count};
+ghost use Rattle.bsi_bits.specs.BitList.{max_words};
 ghost use Rattle.bsi_bits.specs.Packed.{places_from, IsPacked};
 
-use crate::lanes::is_clear;
+use crate::lanes::{LINE_WORDS, is_clear};
 use crate::packing::know_fits;
 use std::marker::Model;
-
-/// The number of words in a cache line.
-const LINE_WORDS: usize = 8;
 
 /// Yields the places of the bits that are set, in rising order.
 #[derive(Drop)]
@@ -56,7 +53,8 @@ fn is_line_clear(words: &[u64], at: usize) -> bool
     requires few { length words.now ≤ max_words }
     requires there { at < length words.now }
     ensures within { IsTrue result → at + LINE_WORDS ≤ length words.now }
-    ensures clear { IsTrue result → (k : ℕ) → at ≤ k → k < at + LINE_WORDS → slice_index words.now k ≡ 0 }
+    ensures clear { IsTrue result →
+        (k : ℕ) → at ≤ k → k < at + LINE_WORDS → slice_index words.now k ≡ 0 }
 {
     if at % LINE_WORDS != 0 || at + LINE_WORDS > words.len() {
         return false;

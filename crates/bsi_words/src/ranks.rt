@@ -13,8 +13,7 @@ ghost use Rattle.bsi_words.specs.Listing.{AreListed};
 ghost use Rattle.bsi_words.specs.Places.{has_place, max_places, IsEncoded};
 ghost use Rattle.bsi_words.specs.Ranks.{word_kept, IsRankedRows};
 
-use crate::sums::LINE_WORDS;
-use bsi_bits::lanes::is_clear;
+use bsi_bits::lanes::{LINE_WORDS, is_clear};
 use bsi_bits::{Bits, MAX_LEN, know_fits};
 use listing::{Listed, list_words};
 use std::simd::u64x8;

@@ -11,11 +11,8 @@ ghost use Rattle.bsi_bits.specs.BitLists.{bits_at};
 ghost use Rattle.bsi_words.specs.Places.{has_place, max_places, IsEncoded};
 
 use crate::spans::MAX_SPAN_WORDS;
-use bsi_bits::lanes::is_clear;
+use bsi_bits::lanes::{LINE_WORDS, is_clear};
 use bsi_bits::{Bits, MAX_LEN};
-
-/// The number of words in a cache line.
-pub(crate) const LINE_WORDS: usize = 8;
 
 /// Returns the sum of the numbers at the rows of a found set. `places` has a vector for each of their binary places, the
 /// least first.

@@ -1,13 +1,12 @@
 //! The words of a found set that have a row, by their places, where they are few.
 //!
-//! A pass over these words alone costs as much as they are, and not as much as the set is long.
+//! A pass over these words alone reads no more of the set and of a bit vector than they are.
 
 ghost use Rattle.std.specs.Prelude.{◌≤◌, length, IfSome, IsTrue};
 ghost use Rattle.bsi_bits.specs.BitList.{max_words};
 ghost use Rattle.bsi_words.specs.Listing.{AreListed};
 
-use crate::sums::LINE_WORDS;
-use bsi_bits::lanes::is_clear;
+use bsi_bits::lanes::{LINE_WORDS, is_clear};
 
 /// The most words that are listed. A set of fewer words is passed over as soon.
 const MAX_LISTED: usize = 2048;
