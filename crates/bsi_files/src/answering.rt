@@ -97,7 +97,13 @@ fn answer_batches<R: Threads + AllocGlobal + Sync, A: Read + Drop, W: Write>(
     let mut line = Vec::new(rt.alloc());
     // No text has so many records. The bound lets the proof see that the loop ends.
     'batches: for _ in 0..u64::MAX {
-        let behind = read_batch(rt.alloc(), table.schema(), records, &mut fields, &mut queries);
+        let behind = read_batch(
+            rt.alloc(),
+            table.schema(),
+            records,
+            &mut fields,
+            &mut queries,
+        );
         answer_batch(rt, table, &queries, &mut line, writer)?;
         match behind? {
             Behind::More => {}

@@ -106,7 +106,7 @@ batches-preserved g c =
     c.schema.ensures.schema c.in_ok-behind.ensures.taken in
     let way : ((c.in_ok-behind.field-0 ≡ More) × (after ≡ middle)) ⊎ ((c.in_ok-behind.field-0 ≡ Bad) × Appends middle after bad_line) =
     elim c.match-branch-3.branch [
-      in-More w ↦ inl (w.in-More.is, ap (λ o. g.W.Write.contents o) w.writer-is)
+      | in-More w ↦ inl (w.in-More.is, ap (λ o. g.W.Write.contents o) w.writer-is)
       | in-Bad+in_ok-tell_bad-in-Bad w ↦ inr (w.in-Bad.is, subst (λ o. Appends middle (g.W.Write.contents o) bad_line) (sym w.writer-is) w.in_ok-tell_bad-in-Bad.ensures.ok)
     ] in
     let only : (c.in_ok-behind.field-0 ≡ More) ⊎ (c.in_ok-behind.field-0 ≡ Bad) =
