@@ -88,5 +88,11 @@ fn take_ask<A: Read + Drop>(
 
 /// Returns whether the last query asks for a list.
 fn ends_in_list(queries: &[Query]) -> bool {
-    matches!(queries.last(), Some(query) if matches!(query.total, Total::Rows))
+    matches!(
+        queries.last(),
+        Some(Query {
+            total: Total::Rows,
+            ..
+        })
+    )
 }

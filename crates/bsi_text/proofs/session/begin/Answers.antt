@@ -1,4 +1,4 @@
-use Rattle.std.proofs.Common.{◌≡◌, ◌<◌, ◌&&◌, Bool, true, false, None, nat_lt, length, ap, refl, sym, subst, ◌∙◌, rules, arith}
+use Rattle.std.proofs.Common.{◌<◌, length, subst, rules, arith}
 use Rattle.std.proofs.lemmas.Bool.Decides.{nat_tests}
 use Rattle.bsi_rows.specs.Sizes.{sizes_refusal}
 use Rattle.bsi_rows.specs.declared.sizes.MakeError.TheVariants.{NoMemory}
