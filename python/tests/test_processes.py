@@ -20,8 +20,10 @@ def by_processes(monkeypatch):
     start, read, answered = processes.Processes.start_for, processes._Process.read, []
 
     def started(self, size):
+        before = len(self._threads)
         start(self, size)
-        awaited(lambda: self.ready == len(self._threads))
+        if len(self._threads) > before:
+            awaited(lambda: self.ready == len(self._threads))
 
     def noted(self, *given):
         answer = read(self, *given)

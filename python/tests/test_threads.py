@@ -243,8 +243,8 @@ table.append({"a": list(range(500))})
 heard = []
 signal.signal(signal.SIGALRM, lambda *_: heard.append(table.count(bsi.col.a < 100)))
 while len(heard) < 300:
-    signal.setitimer(signal.ITIMER_REAL, 0.00003 * (1 + len(heard) % 40))
     before = len(heard)
+    signal.setitimer(signal.ITIMER_REAL, 0.00003 * (1 + before % 40))
     while len(heard) == before:
         assert table.sum("a", bsi.col.a < 3) == 3
 assert set(heard) == {100}
