@@ -11,6 +11,10 @@ use bsi_bits::lanes::{LINE_WORDS, is_clear};
 /// The most words that are listed. A set of fewer words is passed over as soon.
 const MAX_LISTED: usize = 2048;
 
+/// The fewest words for each rank before that of the row that is asked for. Among fewer, some passes over all words cost
+/// less than the list.
+const MIN_WORDS_PER_RANK: u64 = 64;
+
 /// The places of the words that have a row, rising.
 #[derive(Drop)]
 pub(crate) struct Listed {
@@ -19,14 +23,15 @@ pub(crate) struct Listed {
 }
 
 /// Lists the words that have a row. Returns none where there are more than `MAX_LISTED`, where there are fewer words than
-/// that, or where a rank tells that there are many rows.
+/// that, or where a rank tells that there are many rows for so many words.
 pub(crate) fn list_words(words: &[u64], rank: u64) -> Option<Listed>
     requires { length words.now ≤ max_words }
     ensures { IfSome result (λ listed.
         AreListed (length words.now) listed.places listed.count words.now) }
 {
     // A median of so few rows has a rank of half as many.
-    if words.len() < MAX_LISTED || rank >= MAX_LISTED as u64 / 2 {
+    let most = (MAX_LISTED as u64 / 2).min(words.len() as u64 / MIN_WORDS_PER_RANK);
+    if words.len() < MAX_LISTED || rank >= most {
         return None;
     }
     let mut listed = Listed {
