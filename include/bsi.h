@@ -138,8 +138,7 @@ uint32_t bsi_open(bsi_index *index, const uint8_t *schema, size_t schema_len, ui
 uint32_t bsi_append(bsi_index *index, uint32_t feeder, const bsi_column *columns, size_t columns_len, uint64_t *row,
                     size_t *column);
 
-/* Makes room for so many further rows, as one knows that they come: appending them then takes no more memory than that, but
- * what each call needs while it runs. Rows that leave the limit are BSI_INDEX_FULL. */
+/* Makes room for so many further rows, which then does not grow bit by bit. Rows that leave the limit are BSI_INDEX_FULL. */
 uint32_t bsi_reserve(bsi_index *index, uint64_t rows);
 
 /* Answers a query, given as the fields of a query record: {"count", "price", "<", "100"}, or of a rank, from 0:

@@ -4,7 +4,7 @@
 //!
 //! A kernel takes its operation as a parameter, of a private trait that gives it on single words and on four side by
 //! side. A count of one list reads its four quarters side by side: four read streams use more memory bandwidth than one.
-//! A count of pairs takes blocks of 64, half of them by carry-save adders (`adders`).
+//! A count of pairs takes blocks of 64, of which 32 go by carry-save adders (`adders`).
 //! A count goes by parts whose ones 64 bits hold, since the type of a list allows more words; no memory has them, so
 //! there is one part.
 

@@ -3,7 +3,7 @@
 //! The next place is found from the words as they are, so no half-used word is kept. Words with no bit are passed over, a
 //! cache line at a time where it has none.
 
-ghost use Rattle.std.specs.Prelude.{◌≡◌, ℕ, ◌≤◌, ◌<◌, ◌+◌, List, length, slice_index, IsTrue};
+ghost use Rattle.std.specs.Prelude.{◌≡◌, ◌≢◌, ℕ, ◌≤◌, ◌<◌, ◌+◌, List, length, slice_index, IsTrue};
 ghost use Rattle.std.specs.Iterator.{YieldsFirst, item_count};
 ghost use Rattle.bsi_bits.specs.BitList.{max_words};
 ghost use Rattle.bsi_bits.specs.Packed.{places_from, IsPacked};
@@ -36,6 +36,7 @@ fn skip_clear(words: &[u64], at: usize) -> usize
     ensures forward { at ≤ result }
     ensures within { result ≤ length words.now }
     ensures clear { (k : ℕ) → at ≤ k → k < result → slice_index words.now k ≡ 0 }
+    ensures first { result < length words.now → slice_index words.now result ≢ 0 }
 {
     let mut next = at;
     'words: while next < words.len() && words[next] == 0 {
@@ -48,7 +49,7 @@ fn skip_clear(words: &[u64], at: usize) -> usize
     next
 }
 
-/// Returns whether word `at` is the first one of a line in which no word has a bit.
+/// Returns true only where word `at` is the first one of a line in which no word has a bit.
 fn is_line_clear(words: &[u64], at: usize) -> bool
     requires few { length words.now ≤ max_words }
     requires there { at < length words.now }

@@ -37,7 +37,7 @@ pub extern "C" fn bsi_open(
     status_of(open(alloc, index, schema, feeders, bad_record))
 }
 
-/// Makes room for so many further rows, so that appending them takes no memory for the index.
+/// Makes room for so many further rows. No row changes.
 #[unsafe(no_mangle)]
 pub extern "C" fn bsi_reserve(alloc: Global, index: &mut Handle, rows: u64) -> u32
     ensures told { Tells result (IsReserving index.old.held.value rows) }

@@ -126,6 +126,7 @@ IsMakingRoom table rows (Err NoMemory) = length table.rows + rows ≤ table.limi
 IsMakingRoom table rows (Err IndexFull) = table.limit < length table.rows + rows
 IsMakingRoom table rows (Err why) = ⊥
 
+-- a handle does so if it alone holds an index
 abbrev pub IsReserving : Option State → ℕ → Ending → Type 0
 IsReserving None rows ending = ending ≡ Err Closed
 IsReserving (Some (Alone opened)) rows ending = IsMakingRoom opened.table rows ending

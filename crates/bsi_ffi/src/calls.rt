@@ -67,7 +67,7 @@ pub fn open(
     Ok(())
 }
 
-/// Makes room for so many further rows, so that appending them takes no memory for the index.
+/// Makes room for so many further rows. No row changes.
 pub fn reserve(alloc: Global, index: &mut Handle, rows: u64) -> Result<(), Refusal>
     ensures ending { IsReserving index.old.held.value rows result }
     ensures kept { index.new.held.value ≡ index.old.held.value }

@@ -17,8 +17,8 @@ use crate::decomposed::keep_wanted;
 use crate::places::{BLOCK_WORDS, MAX_PLACES, add_each, places_of, slice_places, stand};
 use crate::{Column, Relating};
 use bsi_bits::MAX_LEN;
+use bsi_bits::lanes::is_clear;
 use bsi_slices::Standing;
-use bsi_words::is_clear;
 use bsi_words::spans::keep_in;
 
 impl AnyColumn {

@@ -15,7 +15,7 @@ use bsi_words::{End, end_by_places};
 
 impl EqualityComponent {
     /// Returns the digit at an end of the rows that a span of words has, or none if none of them comes before the best
-    /// digit so far. The words stand for the rows from `64 * at` on. It takes binary places.
+    /// digit so far. The words stand for the rows from `64 * at` on. It goes down the binary places, which the base has.
     pub(super) fn end_in_span(
         &self,
         end: End,
