@@ -224,7 +224,9 @@ class Processes:
 
 def main() -> None:
     """Reads the runs that come by standard input, as a process does, up to its end."""
-    tasks, answers = sys.stdin.buffer, sys.stdout.buffer
+    # (what modules of the caller print goes elsewhere)
+    tasks, answers = sys.stdin.buffer, os.fdopen(os.dup(1), "wb")
+    os.dup2(2, 1)
     reader: Optional[RunReader] = None
     told: List[int] = []
     with contextlib.suppress(*LOST):

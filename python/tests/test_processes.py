@@ -1,5 +1,6 @@
 """Files that are read by processes: what comes of them is that of one process, whatever becomes of these."""
 
+import importlib
 import io
 import os
 import signal
@@ -155,6 +156,27 @@ def test_a_kind_that_no_other_program_knows(by_processes, left_none):
 
     assert come_of(ROWS, 3, kinds={"n": Own()})[1] == come_of(ROWS, 1)[1]
     assert not any(by_processes) and left_none()
+
+
+@pytest.fixture
+def own(tmp_path, monkeypatch):
+    """Makes a module of a caller's own kind `Own` of these lines, which processes import too."""
+
+    def made(*lines):
+        (tmp_path / "own.py").write_text("\n".join(["import os", "from bsi.kinds import Whole", *lines, ""]))
+        monkeypatch.syspath_prepend(tmp_path)
+        monkeypatch.delitem(sys.modules, "own", raising=False)
+        return importlib.import_module("own").Own()
+
+    yield made
+    sys.modules.pop("own", None)
+
+
+@pytest.mark.parametrize("call", ["print('x' * 9, flush=True)", "os.write(1, b'x' * 9)", "os.system('echo x')"])
+def test_a_kind_that_prints_when_it_is_imported(by_processes, own, call, left_none):
+    kind = own(call, "class Own(Whole): pass")
+    assert come_of(ROWS, 3, kinds={"n": kind}) == come_of(ROWS, 1, kinds={"n": kind})
+    assert any(by_processes) and left_none()
 
 
 def test_small_files_start_none(monkeypatch):
