@@ -9,6 +9,7 @@ tells what is wrong with it.
 from __future__ import annotations
 
 import contextlib
+import csv
 import os
 import pickle
 import subprocess
@@ -39,15 +40,17 @@ LOST = (OSError, EOFError, ValueError, pickle.PickleError)
 
 
 class How(NamedTuple):
-    """How runs are read, packed for a process, and how many texts each column has that the process then knows."""
+    """How runs are read, packed for a process, how long a field may be, and how many texts each column has that the
+    process then knows."""
 
     reader: bytes
+    longest: int
     texts: List[int]
 
     @classmethod
     def of(cls, reader: RunReader) -> "How":
         """Packs how runs are read."""
-        return cls(pickle.dumps(reader), _counts(reader))
+        return cls(pickle.dumps(reader), csv.field_size_limit(), _counts(reader))
 
 
 def _texts(column: ColumnReader) -> List[str]:
@@ -109,7 +112,7 @@ class _Process:
         is_new, self._how = how is not self._how, how
         if is_new:
             self._known = [array("q", range(count)) for count in how.texts]
-        pickle.dump((how.reader if is_new else None, run, wanted), self._process.stdin, 5)  # type: ignore[arg-type]
+        pickle.dump((how if is_new else None, run, wanted), self._process.stdin, 5)  # type: ignore[arg-type]
         self._process.stdin.flush()  # type: ignore[union-attr]
         found = pickle.load(self._process.stdout)  # type: ignore[arg-type]
         return None if found is None else Answer(*found, self._known)
@@ -235,8 +238,8 @@ def main() -> None:
         while True:
             how, run, wanted = pickle.load(tasks)
             if how is not None:
-                reader = pickle.loads(how)
-                told = _counts(reader)
+                reader, told = pickle.loads(how.reader), how.texts
+                csv.field_size_limit(how.longest)
             pickle.dump(_read(reader, run, wanted, told), answers, 5)
             answers.flush()
 
@@ -247,7 +250,7 @@ def _read(reader: Any, run: Run, wanted: Sequence[bool], told: List[int]) -> Opt
         records, pieces = reader.read(run, wanted)
     except Exception:  # (the caller meets it too)
         return None
-    if any(piece is not None and piece.fields is not None for piece in pieces):
+    if records.broken is not None or any(piece is not None and piece.fields is not None for piece in pieces):
         return None
     new = [_texts(column)[count:] for column, count in zip(reader.columns, told)]
     told[:] = _counts(reader)

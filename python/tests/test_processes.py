@@ -1,5 +1,6 @@
 """Files that are read by processes: what comes of them is that of one process, whatever becomes of these."""
 
+import csv
 import importlib
 import io
 import os
@@ -177,6 +178,39 @@ def test_a_kind_that_prints_when_it_is_imported(by_processes, own, call, left_no
     kind = own(call, "class Own(Whole): pass")
     assert come_of(ROWS, 3, kinds={"n": kind}) == come_of(ROWS, 1, kinds={"n": kind})
     assert any(by_processes) and left_none()
+
+
+@pytest.fixture
+def field_limit():
+    """Returns what limits the size of a field, which is put back in the end."""
+    before = csv.field_size_limit()
+    yield csv.field_size_limit
+    csv.field_size_limit(before)
+
+
+LONG = f"{ROWS}5,{'y' * 200_000}\n" + "5,t1\n" * 300
+
+
+@pytest.mark.parametrize("limit", [1 << 30, 1000])
+def test_a_field_is_as_long_as_in_one_process(by_processes, field_limit, limit, left_none):
+    field_limit(limit)
+    wanted = come_of(LONG, 1)
+    assert (wanted[0] is bsi.BadColumns) == (limit == 1000)
+    assert come_of(LONG, 3) == wanted
+    assert by_processes.count(False) == (limit == 1000) and left_none()
+
+
+def test_a_field_may_be_longer_from_some_row_on(by_processes, field_limit, left_none):
+    field_limit(1000)
+    told = []
+
+    def progress(done, size):
+        told.append(done)
+        if len(told) == 4:
+            field_limit(1 << 30)
+
+    index = bsi.read_csv(io.BytesIO(LONG.encode()), parts=3, progress=progress)
+    assert len(index) == 901 and by_processes.count(False) == 1 and left_none()
 
 
 def test_small_files_start_none(monkeypatch):
