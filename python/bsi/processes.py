@@ -154,13 +154,23 @@ class Processes:
         """Starts them for a text of so many bytes, if it is large."""
         if size < LARGE or self._processes:
             return
-        with contextlib.suppress(OSError):
+        with contextlib.suppress(OSError, RuntimeError):
             while len(self._processes) < self._most:
-                self._processes.append(_Process())
-        for process in self._processes:
-            self._threads.append(threading.Thread(target=self._serve, args=(process,), name="bsi", daemon=True))
-            self._threads[-1].start()
+                self._start()
         self._most = 0
+
+    def _start(self) -> None:
+        """Starts a process and its thread, or neither, and raises OSError or RuntimeError then."""
+        process = _Process()
+        thread = threading.Thread(target=self._serve, args=(process,), name="bsi", daemon=True)
+        try:
+            thread.start()
+        except BaseException:
+            process.end()
+            process.close()
+            raise
+        self._processes.append(process)
+        self._threads.append(thread)
 
     def read(self, reader: RunReader, run: Run, wanted: Sequence[bool]) -> Optional[Answers]:
         """Lets a process read a run, and returns where its answer will be, or None where there is none that can."""

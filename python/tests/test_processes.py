@@ -7,6 +7,7 @@ import os
 import signal
 import subprocess
 import sys
+import threading
 import time
 
 import numpy as np
@@ -149,6 +150,22 @@ def test_processes_that_do_not_start(monkeypatch, tmp_path, program, left_none):
     monkeypatch.setattr(processes, "LARGE", 0)
     monkeypatch.setattr(sys, "executable", str(tmp_path / "python3") if program == "/bin/false" else program)
     assert come_of(ROWS, 3) == come_of(ROWS, 1) and left_none()
+
+
+@pytest.mark.parametrize("most", [0, 1])
+def test_threads_that_do_not_start(by_processes, monkeypatch, most, left_none):
+    start, asked = threading.Thread.start, []
+
+    def started(self):
+        if self._target.__name__ == "_serve":
+            asked.append(self)
+            if len(asked) > most:
+                raise RuntimeError("can't start new thread")
+        start(self)
+
+    monkeypatch.setattr(threading.Thread, "start", started)
+    assert come_of(ROWS, 3) == come_of(ROWS, 1)
+    assert len(asked) == most + 1 and any(by_processes) == bool(most) and left_none()
 
 
 def test_a_kind_that_no_other_program_knows(by_processes, left_none):
