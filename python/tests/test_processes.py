@@ -168,6 +168,49 @@ def test_threads_that_do_not_start(by_processes, monkeypatch, most, left_none):
     assert len(asked) == most + 1 and any(by_processes) == bool(most) and left_none()
 
 
+def wrapper(folder, line):
+    """Makes a program that starts another by a line of the shell, and waits for it. Returns its path, and what tells
+    which processes these were."""
+    program, noted = folder / "python3", folder / "noted"
+    program.write_text(f"#!/bin/sh\nsh -c 'echo $$ >> {noted}; exec {line}' python3 \"$@\"\n:\n")
+    program.chmod(0o755)
+    return str(program), lambda: noted.read_text().split() if noted.exists() else []
+
+
+def have_ended(found):
+    """Returns whether processes of these numbers have ended."""
+    return not any(os.path.exists(f"/proc/{one}") for one in found)
+
+
+def test_a_program_that_starts_python(by_processes, monkeypatch, tmp_path, left_none):
+    program, noted = wrapper(tmp_path, f'{sys.executable} "$@"')
+    monkeypatch.setattr(sys, "executable", program)
+    assert come_of(ROWS, 3) == come_of(ROWS, 1)
+    assert any(by_processes) and left_none() and noted() and awaited(lambda: have_ended(noted()))
+
+
+def test_a_program_that_starts_another(monkeypatch, tmp_path, left_none):
+    # (it says nothing, keeps its pipe, and goes on up to the end of what it reads)
+    program, noted = wrapper(tmp_path, "cat 3>&1 >&2")
+    monkeypatch.setattr(processes, "LARGE", 0)
+    monkeypatch.setattr(sys, "executable", program)
+    assert come_of(ROWS, 3, progress=lambda *done: awaited(noted)) == come_of(ROWS, 1)
+    assert left_none() and noted() and awaited(lambda: have_ended(noted()))
+
+
+@pytest.mark.parametrize("error", ["AttributeError", "ImportError", "MemoryError"])
+def test_answers_that_the_caller_can_not_unpack(by_processes, own, error, left_none):
+    kind = own(
+        "def made(caller):",
+        f"    if os.getpid() == caller: raise {error}",
+        "    return Own()",
+        "class Own(Whole):",
+        f"    def __reduce__(self): return made, ({os.getpid()},)",
+    )
+    assert come_of(ROWS, 3, kinds={"n": kind}) == come_of(ROWS, 1, kinds={"n": kind})
+    assert left_none()
+
+
 def test_a_kind_that_no_other_program_knows(by_processes, left_none):
     class Own(bsi.Whole):
         pass
@@ -232,7 +275,14 @@ def test_a_field_may_be_longer_from_some_row_on(by_processes, field_limit, left_
 
 def test_small_files_start_none(monkeypatch):
     monkeypatch.setattr(processes, "_Process", None)
+    monkeypatch.delattr(os, "sched_getaffinity")
     assert come_of(ROWS, 3) == come_of(ROWS, 1)
+
+
+def test_one_part_starts_none(monkeypatch):
+    monkeypatch.setattr(processes, "LARGE", 0)
+    monkeypatch.delattr(os, "sched_getaffinity")
+    assert len(bsi.read_csv(io.StringIO(ROWS))) == 600
 
 
 # A program without a test of its name, which threads and a lock that is held do not hinder.
@@ -273,4 +323,4 @@ def test_a_program_that_is_ended_leaves_no_process(tmp_path, word):
         started.send_signal(getattr(signal, word))
         err = started.communicate(timeout=60)[1]
     assert found and ("KeyboardInterrupt" in err) == (word == "SIGINT")
-    assert awaited(lambda: not any(os.path.exists(f"/proc/{one}") for one in found))
+    assert awaited(lambda: have_ended(found))
