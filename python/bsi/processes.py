@@ -92,7 +92,8 @@ Answers = SimpleQueue  # of one Answer, or None where the run is to be read here
 
 
 class _Process:
-    """A process, as its caller sees it."""
+    """A process, as its caller sees it, and a socket to it: one that is shut down has ended for all that hold it, also
+    for a Python that a script has started."""
 
     def __init__(self) -> None:
         path = [place for place in sys.path if isinstance(place, str)]
@@ -100,6 +101,8 @@ class _Process:
         self._how: Optional[How] = None
         self._known: List[array] = []
         self._socket, other = socket.socketpair()
+        for one in (self._socket, other):
+            one.setblocking(True)  # (sockets of the caller may have a time limit)
         self._stream = self._socket.makefile("rwb")
         streams: Dict[str, Any] = {"stdin": other, "stdout": other, "stderr": subprocess.DEVNULL}
         try:
@@ -141,7 +144,7 @@ class _Process:
 
 
 def _most(count: int) -> int:
-    """Returns how many of so many processes may be started: one a processor at most, and none where there is but one, or
+    """Returns how many of so many processes may be started: one a processor at most, and none where there is but one or
     where this program is not Python itself, which can be started anew."""
     is_python = "python" in os.path.basename(sys.executable or "").lower() and not getattr(sys, "frozen", False)
     processors = len(os.sched_getaffinity(0)) if count and is_python else 0

@@ -5,6 +5,7 @@ import importlib
 import io
 import os
 import signal
+import socket
 import subprocess
 import sys
 import threading
@@ -196,6 +197,20 @@ def test_a_program_that_starts_another(monkeypatch, tmp_path, left_none):
     monkeypatch.setattr(sys, "executable", program)
     assert come_of(ROWS, 3, progress=lambda *done: awaited(noted)) == come_of(ROWS, 1)
     assert left_none() and noted() and awaited(lambda: have_ended(noted()))
+
+
+@pytest.fixture
+def time_limit():
+    """Gives sockets a time limit, which is put back in the end."""
+    before = socket.getdefaulttimeout()
+    socket.setdefaulttimeout(0.01)
+    yield
+    socket.setdefaulttimeout(before)
+
+
+def test_a_time_limit_of_sockets(by_processes, time_limit, left_none):
+    assert come_of(ROWS, 3) == come_of(ROWS, 1)
+    assert any(by_processes) and left_none()
 
 
 @pytest.mark.parametrize("error", ["AttributeError", "ImportError", "MemoryError"])
