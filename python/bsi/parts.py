@@ -39,11 +39,11 @@ class _Threads(Gathered):
     """The handles of the parts, and a thread for each, which gets its calls by a queue: a signal's handler may put some
     there too."""
 
-    def __init__(self, handles: List[Handle], limit: int):
+    def __init__(self, handles: List[Handle], limit: int, runs: Iterable[Tuple[int, int]] = ()):
         super().__init__(BOUNDS)
         self.handles, self.limit, self._process = handles, limit, os.getpid()
-        # (how many runs of rows have been summed up, and their rows)
-        self._summed = self._rows = 0
+        self.runs += runs
+        self._rows = sum(rows for _, rows in self.runs)
         self._tasks: List["SimpleQueue[Any]"] = [SimpleQueue() for _ in handles]
         for tasks in self._tasks:
             threading.Thread(target=_work, args=(tasks,), name="bsi", daemon=True).start()
@@ -61,8 +61,6 @@ class _Threads(Gathered):
 
     def _are_few(self) -> bool:
         """Returns whether there are so few rows that a question takes less than its hand-over."""
-        if len(self.runs) != self._summed:
-            self._summed, self._rows = len(self.runs), sum(rows for _, rows in self.runs)
         return self._rows < FEW_ROWS * len(self.handles)
 
     def _parts(self) -> int:
@@ -107,6 +105,7 @@ class _Threads(Gathered):
                     raise NoMemory("memory was refused to one of the parts; they are closed") from None
                 raise
             self.runs += [(part, len(run[0][0])) for part, run in enumerate(runs)]
+            self._rows += rows
             return OK, rows
 
     def close(self) -> None:
@@ -216,9 +215,8 @@ def _of(cls: type, each: List[Kept], paths: Sequence[str]) -> Any:
         runs, limit = _placed(each)
     except (ValueError, KeyError, TypeError, AttributeError) as why:
         raise BadNotes(f"it is none of these parts: {why}", paths[0], first.handle.rows()) from None
-    parts, store = object.__new__(cls), _Threads([kept.handle for kept in each], limit)
+    parts, store = object.__new__(cls), _Threads([kept.handle for kept in each], limit, runs)
     Table.__init__(parts, first.forms, limit, store)
-    store.runs = runs
     return parts
 
 

@@ -1,16 +1,18 @@
 """Processes that read runs of records, since threads of Python take turns.
 
 Each is an interpreter that starts anew. So it has no lock that a thread of the caller holds, as a forked one would, and it
-does not import the caller's program, as those of multiprocessing do. It gets runs by a pipe, gives numbers back by
-another, and ends with these. A run that it can't read, or that it had when it ended, is read by the caller, who then
-tells what is wrong with it.
+does not import the caller's program, as those of multiprocessing do. It gets runs by a socket, gives numbers back by
+it, and ends with it. A run that it can't read, or that it had when it ended, is read by the caller, who then tells what
+is wrong with it.
 """
 
 from __future__ import annotations
 
 import contextlib
+import csv
 import os
 import pickle
+import socket
 import subprocess
 import sys
 import threading
@@ -35,19 +37,20 @@ bsi.__path__ = [{home!r}]
 import bsi.processes
 bsi.processes.main()
 """
-LOST = (OSError, EOFError, ValueError, pickle.PickleError)
 
 
 class How(NamedTuple):
-    """How runs are read, packed for a process, and how many texts each column has that the process then knows."""
+    """How runs are read, packed for a process, how long a field may be, and how many texts each column has that the
+    process then knows."""
 
     reader: bytes
+    longest: int
     texts: List[int]
 
     @classmethod
     def of(cls, reader: RunReader) -> "How":
         """Packs how runs are read."""
-        return cls(pickle.dumps(reader), _counts(reader))
+        return cls(pickle.dumps(reader), csv.field_size_limit(), _counts(reader))
 
 
 def _texts(column: ColumnReader) -> List[str]:
@@ -89,46 +92,63 @@ Answers = SimpleQueue  # of one Answer, or None where the run is to be read here
 
 
 class _Process:
-    """A process, as its caller sees it."""
+    """A process, as its caller sees it, and a socket to it: one that is shut down has ended for all that hold it, also
+    for a Python that a script has started."""
 
     def __init__(self) -> None:
         path = [place for place in sys.path if isinstance(place, str)]
         code = CODE.format(path=path, home=os.path.dirname(os.path.abspath(__file__)))
-        pipes: Dict[str, Any] = {"stdin": subprocess.PIPE, "stdout": subprocess.PIPE, "stderr": subprocess.DEVNULL}
-        # (in a session of its own it gets no Ctrl-C)
-        self._process = subprocess.Popen([sys.executable, "-I", "-S", "-c", code], **pipes, start_new_session=True)
         self._how: Optional[How] = None
         self._known: List[array] = []
+        self._socket, other = socket.socketpair()
+        for one in (self._socket, other):
+            one.setblocking(True)  # (sockets of the caller may have a time limit)
+        self._stream = self._socket.makefile("rwb")
+        streams: Dict[str, Any] = {"stdin": other, "stdout": other, "stderr": subprocess.DEVNULL}
+        try:
+            # (in a session of its own it gets no Ctrl-C)
+            line = [sys.executable, "-I", "-S", "-c", code]
+            self._process = subprocess.Popen(line, **streams, start_new_session=True)
+        except BaseException:
+            self.close()
+            raise
+        finally:
+            other.close()
 
     def await_start(self) -> None:
-        """Waits until it can read. Raises one of LOST where it does not start."""
-        pickle.load(self._process.stdout)  # type: ignore[arg-type]
+        """Waits until it can read. Raises an error where it does not start."""
+        pickle.load(self._stream)
 
     def read(self, how: How, run: Run, wanted: Sequence[bool]) -> Optional[Answer]:
-        """Reads a run, or raises one of LOST where the process has ended."""
+        """Reads a run, or raises an error where the process has ended or its answer is none."""
         is_new, self._how = how is not self._how, how
         if is_new:
             self._known = [array("q", range(count)) for count in how.texts]
-        pickle.dump((how.reader if is_new else None, run, wanted), self._process.stdin, 5)  # type: ignore[arg-type]
-        self._process.stdin.flush()  # type: ignore[union-attr]
-        found = pickle.load(self._process.stdout)  # type: ignore[arg-type]
+        pickle.dump((how if is_new else None, run, wanted), self._stream, 5)
+        self._stream.flush()
+        found = pickle.load(self._stream)
         return None if found is None else Answer(*found, self._known)
 
     def end(self) -> None:
-        """Ends it, whatever it does."""
+        """Ends it, whatever it does, and with the socket what it has started and what waits for it."""
+        with contextlib.suppress(OSError):
+            self._socket.shutdown(socket.SHUT_RDWR)
         self._process.kill()
         self._process.wait()
 
     def close(self) -> None:
-        """Closes its pipes, which no thread uses any more."""
-        for pipe in (self._process.stdin, self._process.stdout):
+        """Closes its socket, which no thread uses any more."""
+        for one in (self._stream, self._socket):
             with contextlib.suppress(OSError):
-                pipe.close()  # type: ignore[union-attr]
+                one.close()
 
 
-def _can_start() -> bool:
-    """Returns whether this program is Python itself, which can be started anew."""
-    return "python" in os.path.basename(sys.executable or "").lower() and not getattr(sys, "frozen", False)
+def _most(count: int) -> int:
+    """Returns how many of so many processes may be started: one a processor at most, and none where there is but one or
+    where this program is not Python itself, which can be started anew."""
+    is_python = "python" in os.path.basename(sys.executable or "").lower() and not getattr(sys, "frozen", False)
+    processors = len(os.sched_getaffinity(0)) if count and is_python else 0
+    return min(count, processors) if processors > 1 else 0
 
 
 class Processes:
@@ -136,8 +156,7 @@ class Processes:
     it."""
 
     def __init__(self, count: int):
-        processors = len(os.sched_getaffinity(0))
-        self._most = min(count, processors) if processors > 1 and _can_start() else 0
+        self._count = count
         self._lock, self._tasks = threading.Lock(), SimpleQueue()  # type: Any, SimpleQueue[Any]
         self._processes: List[_Process] = []
         self._threads: List[threading.Thread] = []
@@ -151,13 +170,23 @@ class Processes:
         """Starts them for a text of so many bytes, if it is large."""
         if size < LARGE or self._processes:
             return
-        with contextlib.suppress(OSError):
-            while len(self._processes) < self._most:
-                self._processes.append(_Process())
-        for process in self._processes:
-            self._threads.append(threading.Thread(target=self._serve, args=(process,), name="bsi", daemon=True))
-            self._threads[-1].start()
-        self._most = 0
+        most, self._count = _most(self._count), 0
+        with contextlib.suppress(OSError, RuntimeError):
+            while len(self._processes) < most:
+                self._start()
+
+    def _start(self) -> None:
+        """Starts a process and its thread, or neither, and raises OSError or RuntimeError then."""
+        process = _Process()
+        thread = threading.Thread(target=self._serve, args=(process,), name="bsi", daemon=True)
+        try:
+            thread.start()
+        except BaseException:
+            process.end()
+            process.close()
+            raise
+        self._processes.append(process)
+        self._threads.append(thread)
 
     def read(self, reader: RunReader, run: Run, wanted: Sequence[bool]) -> Optional[Answers]:
         """Lets a process read a run, and returns where its answer will be, or None where there is none that can."""
@@ -183,7 +212,8 @@ class Processes:
 
     def _serve(self, process: _Process) -> None:
         """Hands tasks over to a process as long as it lives."""
-        with contextlib.suppress(*LOST):
+        # (whatever goes wrong with an answer, the caller reads the run)
+        with contextlib.suppress(Exception):
             process.await_start()
             with self._lock:
                 self.ready += 1
@@ -224,17 +254,19 @@ class Processes:
 
 def main() -> None:
     """Reads the runs that come by standard input, as a process does, up to its end."""
-    tasks, answers = sys.stdin.buffer, sys.stdout.buffer
+    # (what modules of the caller print goes elsewhere)
+    tasks, answers = sys.stdin.buffer, os.fdopen(os.dup(1), "wb")
+    os.dup2(2, 1)
     reader: Optional[RunReader] = None
     told: List[int] = []
-    with contextlib.suppress(*LOST):
+    with contextlib.suppress(OSError, EOFError):
         pickle.dump(None, answers)
         answers.flush()
         while True:
             how, run, wanted = pickle.load(tasks)
             if how is not None:
-                reader = pickle.loads(how)
-                told = _counts(reader)
+                reader, told = pickle.loads(how.reader), how.texts
+                csv.field_size_limit(how.longest)
             pickle.dump(_read(reader, run, wanted, told), answers, 5)
             answers.flush()
 
@@ -245,7 +277,7 @@ def _read(reader: Any, run: Run, wanted: Sequence[bool], told: List[int]) -> Opt
         records, pieces = reader.read(run, wanted)
     except Exception:  # (the caller meets it too)
         return None
-    if any(piece is not None and piece.fields is not None for piece in pieces):
+    if records.broken is not None or any(piece is not None and piece.fields is not None for piece in pieces):
         return None
     new = [_texts(column)[count:] for column, count in zip(reader.columns, told)]
     told[:] = _counts(reader)

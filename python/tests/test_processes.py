@@ -1,10 +1,14 @@
 """Files that are read by processes: what comes of them is that of one process, whatever becomes of these."""
 
+import csv
+import importlib
 import io
 import os
 import signal
+import socket
 import subprocess
 import sys
+import threading
 import time
 
 import numpy as np
@@ -149,6 +153,79 @@ def test_processes_that_do_not_start(monkeypatch, tmp_path, program, left_none):
     assert come_of(ROWS, 3) == come_of(ROWS, 1) and left_none()
 
 
+@pytest.mark.parametrize("most", [0, 1])
+def test_threads_that_do_not_start(by_processes, monkeypatch, most, left_none):
+    start, asked = threading.Thread.start, []
+
+    def started(self):
+        if self._target.__name__ == "_serve":
+            asked.append(self)
+            if len(asked) > most:
+                raise RuntimeError("can't start new thread")
+        start(self)
+
+    monkeypatch.setattr(threading.Thread, "start", started)
+    assert come_of(ROWS, 3) == come_of(ROWS, 1)
+    assert len(asked) == most + 1 and any(by_processes) == bool(most) and left_none()
+
+
+def wrapper(folder, line):
+    """Makes a program that starts another by a line of the shell, and waits for it. Returns its path, and what tells
+    which processes these were."""
+    program, noted = folder / "python3", folder / "noted"
+    program.write_text(f"#!/bin/sh\nsh -c 'echo $$ >> {noted}; exec {line}' python3 \"$@\"\n:\n")
+    program.chmod(0o755)
+    return str(program), lambda: noted.read_text().split() if noted.exists() else []
+
+
+def have_ended(found):
+    """Returns whether processes of these numbers have ended."""
+    return not any(os.path.exists(f"/proc/{one}") for one in found)
+
+
+def test_a_program_that_starts_python(by_processes, monkeypatch, tmp_path, left_none):
+    program, noted = wrapper(tmp_path, f'{sys.executable} "$@"')
+    monkeypatch.setattr(sys, "executable", program)
+    assert come_of(ROWS, 3) == come_of(ROWS, 1)
+    assert any(by_processes) and left_none() and noted() and awaited(lambda: have_ended(noted()))
+
+
+def test_a_program_that_starts_another(monkeypatch, tmp_path, left_none):
+    # (it says nothing, keeps its pipe, and goes on up to the end of what it reads)
+    program, noted = wrapper(tmp_path, "cat 3>&1 >&2")
+    monkeypatch.setattr(processes, "LARGE", 0)
+    monkeypatch.setattr(sys, "executable", program)
+    assert come_of(ROWS, 3, progress=lambda *done: awaited(noted)) == come_of(ROWS, 1)
+    assert left_none() and noted() and awaited(lambda: have_ended(noted()))
+
+
+@pytest.fixture
+def time_limit():
+    """Gives sockets a time limit, which is put back in the end."""
+    before = socket.getdefaulttimeout()
+    socket.setdefaulttimeout(0.01)
+    yield
+    socket.setdefaulttimeout(before)
+
+
+def test_a_time_limit_of_sockets(by_processes, time_limit, left_none):
+    assert come_of(ROWS, 3) == come_of(ROWS, 1)
+    assert any(by_processes) and left_none()
+
+
+@pytest.mark.parametrize("error", ["AttributeError", "ImportError", "MemoryError"])
+def test_answers_that_the_caller_can_not_unpack(by_processes, own, error, left_none):
+    kind = own(
+        "def made(caller):",
+        f"    if os.getpid() == caller: raise {error}",
+        "    return Own()",
+        "class Own(Whole):",
+        f"    def __reduce__(self): return made, ({os.getpid()},)",
+    )
+    assert come_of(ROWS, 3, kinds={"n": kind}) == come_of(ROWS, 1, kinds={"n": kind})
+    assert left_none()
+
+
 def test_a_kind_that_no_other_program_knows(by_processes, left_none):
     class Own(bsi.Whole):
         pass
@@ -157,9 +234,70 @@ def test_a_kind_that_no_other_program_knows(by_processes, left_none):
     assert not any(by_processes) and left_none()
 
 
+@pytest.fixture
+def own(tmp_path, monkeypatch):
+    """Makes a module of a caller's own kind `Own` of these lines, which processes import too."""
+
+    def made(*lines):
+        (tmp_path / "own.py").write_text("\n".join(["import os", "from bsi.kinds import Whole", *lines, ""]))
+        monkeypatch.syspath_prepend(tmp_path)
+        monkeypatch.delitem(sys.modules, "own", raising=False)
+        return importlib.import_module("own").Own()
+
+    yield made
+    sys.modules.pop("own", None)
+
+
+@pytest.mark.parametrize("call", ["print('x' * 9, flush=True)", "os.write(1, b'x' * 9)", "os.system('echo x')"])
+def test_a_kind_that_prints_when_it_is_imported(by_processes, own, call, left_none):
+    kind = own(call, "class Own(Whole): pass")
+    assert come_of(ROWS, 3, kinds={"n": kind}) == come_of(ROWS, 1, kinds={"n": kind})
+    assert any(by_processes) and left_none()
+
+
+@pytest.fixture
+def field_limit():
+    """Returns what limits the size of a field, which is put back in the end."""
+    before = csv.field_size_limit()
+    yield csv.field_size_limit
+    csv.field_size_limit(before)
+
+
+LONG = f"{ROWS}5,{'y' * 200_000}\n" + "5,t1\n" * 300
+
+
+@pytest.mark.parametrize("limit", [1 << 30, 1000])
+def test_a_field_is_as_long_as_in_one_process(by_processes, field_limit, limit, left_none):
+    field_limit(limit)
+    wanted = come_of(LONG, 1)
+    assert (wanted[0] is bsi.BadColumns) == (limit == 1000)
+    assert come_of(LONG, 3) == wanted
+    assert by_processes.count(False) == (limit == 1000) and left_none()
+
+
+def test_a_field_may_be_longer_from_some_row_on(by_processes, field_limit, left_none):
+    field_limit(1000)
+    told = []
+
+    def progress(done, size):
+        told.append(done)
+        if len(told) == 4:
+            field_limit(1 << 30)
+
+    index = bsi.read_csv(io.BytesIO(LONG.encode()), parts=3, progress=progress)
+    assert len(index) == 901 and by_processes.count(False) == 1 and left_none()
+
+
 def test_small_files_start_none(monkeypatch):
     monkeypatch.setattr(processes, "_Process", None)
+    monkeypatch.delattr(os, "sched_getaffinity")
     assert come_of(ROWS, 3) == come_of(ROWS, 1)
+
+
+def test_one_part_starts_none(monkeypatch):
+    monkeypatch.setattr(processes, "LARGE", 0)
+    monkeypatch.delattr(os, "sched_getaffinity")
+    assert len(bsi.read_csv(io.StringIO(ROWS))) == 600
 
 
 # A program without a test of its name, which threads and a lock that is held do not hinder.
@@ -200,4 +338,4 @@ def test_a_program_that_is_ended_leaves_no_process(tmp_path, word):
         started.send_signal(getattr(signal, word))
         err = started.communicate(timeout=60)[1]
     assert found and ("KeyboardInterrupt" in err) == (word == "SIGINT")
-    assert awaited(lambda: not any(os.path.exists(f"/proc/{one}") for one in found))
+    assert awaited(lambda: have_ended(found))

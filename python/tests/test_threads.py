@@ -1,5 +1,6 @@
 """Threads that ask one index, and parts that each have a thread of their own."""
 
+import pickle
 import subprocess
 import sys
 import threading
@@ -129,6 +130,24 @@ def test_parts_put_answers_together():
                             name,
                             where,
                         )
+
+
+def test_parts_do_not_count_their_rows_anew(monkeypatch):
+    class Runs(list):
+        def __iter__(self):
+            raise AssertionError("all runs are gone through")
+
+    calls, at_once = [], bsi.parts._Threads._at_once
+    monkeypatch.setattr("bsi.parts.FEW_ROWS", 100)
+    monkeypatch.setattr("bsi.parts._Threads._at_once", lambda *given: calls.append(1) or at_once(*given))
+    made = bsi.Parts(2, FORMS)
+    made.append(table(150))
+    for parts in (made, pickle.loads(pickle.dumps(made))):
+        calls.clear()
+        parts._store.runs = Runs(parts._store.runs)
+        assert (parts.count(), len(calls)) == (150, 0)
+        parts.append(table(50))
+        assert (parts.count(), len(calls)) == (200, 2)
 
 
 def test_parts_give_rows_back_as_one_index(monkeypatch):
