@@ -302,7 +302,8 @@ def test_one_part_starts_none(monkeypatch):
 
 # A program without a test of its name, which threads and a lock that is held do not hinder.
 PROGRAM = """
-import io, sys, threading, time
+import io, signal, sys, threading, time
+signal.signal(signal.SIGINT, signal.default_int_handler)  # (a program that begins in the background ignores it)
 import bsi
 from bsi import processes
 processes.LARGE = 0
