@@ -7,7 +7,10 @@ use Rattle.std.proofs.lemmas.List.Elements.{All-nil, All-append}
 use Rattle.std.proofs.lemmas.List.FromFn.{fill_by_all}
 use Rattle.bsi_digits.specs.Digits.{product, digit_of, digits_of, components, weighted_sum}
 use Rattle.bsi_digits.proofs.CallerLemmas.{weighted_sum-digits_of}
+use Rattle.bsi_orders.specs.Blocks.{block_entries, IsNumberBlock}
 use Rattle.bsi_orders.specs.Rows.{number_or_zero}
+use Rattle.bsi_orders.proofs.BlockEntries.{length-block_entries}
+use Rattle.bsi_slices.proofs.BlockWords.{number-block_entries}
 use Rattle.bsi_columns.specs.Decomposed.{digits_at, weighed_entry, entries_of, Decomposes, IsRoomy}
 
 -- an entry, from whether it is a number and from the number
@@ -99,16 +102,16 @@ component_rows digits cs bs not_null entries kept k d within =
     ∙ length-map entries (λ (e : Option ℕ). digit_of bs (number_or_zero e) k)
 
 -- the digits of a block's numbers are those of its entries
-pub block_digits : (digit : ℕ → ℕ) (block : List (Option ℕ)) (numbers : List ℕ) → ((r : ℕ) → get_or numbers r 0 ≡ number_or_zero (get_or block r None)) → length block ≤ length numbers
-    → map digit (take (length block) numbers) ≡ map (λ e. digit (number_or_zero e)) block
-block_digits digit block numbers read enough =
-    let count = length block in
-    let long : length (take count numbers) ≡ count = length-take-le count numbers enough in
-    same_lists _ _ (length-map (take count numbers) digit ∙ long ∙ sym (length-map block (λ e. digit (number_or_zero e)))) (λ r d within.
-    let below : r < count = omega (arith, length-map (take count numbers) digit, long, within) in
-    get_or-map digit (take count numbers) r 0 d (omega (arith, below, long))
-    ∙ ap digit (get_or-take count numbers r 0 below ∙ read r)
-    ∙ sym (get_or-map (λ e. digit (number_or_zero e)) block r None d below))
+pub block_digits : (digit : ℕ → ℕ) (numbers : List ℕ) (not_null : ℕ) → IsNumberBlock numbers not_null
+    → map digit numbers ≡ map (λ e. digit (number_or_zero e)) (block_entries numbers not_null)
+block_digits digit numbers not_null is =
+    let entries = block_entries numbers not_null in
+    let long : length entries ≡ length numbers = length-block_entries numbers not_null in
+    same_lists _ _ (length-map numbers digit ∙ sym (length-map entries (λ e. digit (number_or_zero e)) ∙ long)) (λ r d within.
+    let below : r < length numbers = omega (arith, length-map numbers digit, within) in
+    get_or-map digit numbers r 0 d below
+    ∙ ap digit (number-block_entries numbers not_null is r)
+    ∙ sym (get_or-map (λ e. digit (number_or_zero e)) entries r None d (omega (arith, below, long))))
 
 -- room that is used
 pub roomy_less : (rows room not_null used rows' not_null' : ℕ) (rooms rooms' : List ℕ) → IsRoomy rows room not_null rooms → used ≤ room → rows' ≡ rows + used → not_null ≤ not_null' + used

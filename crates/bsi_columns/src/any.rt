@@ -167,11 +167,11 @@ impl Column for AnyColumn {
         }
     }
 
-    fn push_block_reserved(&mut self, block: &[Option<u64>]) {
+    fn push_block_reserved(&mut self, numbers: &[u64], not_null: u64) {
         match self {
-            AnyColumn::Slices(column) => column.push_block_reserved(block),
-            AnyColumn::Equality(column) => column.push_block_reserved(block),
-            AnyColumn::Range(column) => column.push_block_reserved(block),
+            AnyColumn::Slices(column) => column.push_block_reserved(numbers, not_null),
+            AnyColumn::Equality(column) => column.push_block_reserved(numbers, not_null),
+            AnyColumn::Range(column) => column.push_block_reserved(numbers, not_null),
         }
     }
 

@@ -10,9 +10,8 @@ ghost use Rattle.bsi_orders.specs.Totals.{IsGreatestOf, IsLeastOf};
 
 use crate::growth::{clear_each, push_all_digits, push_blocks, push_digits, reserve_each};
 use crate::{Column, Encoding, NoMemory, Op};
-use bsi_bits::{Bits, MAX_BLOCK, MAX_LEN, room_to_make};
+use bsi_bits::{Bits, MAX_LEN, room_to_make};
 use bsi_digits::Bases;
-use bsi_slices::transposing::{not_null_word, write_numbers};
 use bsi_slices::{End, NotNull};
 use std::alloc::Global;
 use std::marker::Model;
@@ -156,13 +155,10 @@ impl<E: Encoding> Column for Decomposed<E> {
         self.room -= 1;
     }
 
-    fn push_block_reserved(&mut self, block: &[Option<u64>]) {
-        let mut numbers = [0; MAX_BLOCK];
-        write_numbers(block, &mut numbers);
-        push_blocks(&mut self.components, &self.bases, &numbers[..block.len()]);
-        let count = block.len() as u64;
-        self.not_null
-            .push_word_reserved(not_null_word(block), count);
+    fn push_block_reserved(&mut self, numbers: &[u64], not_null: u64) {
+        push_blocks(&mut self.components, &self.bases, numbers);
+        let count = numbers.len() as u64;
+        self.not_null.push_word_reserved(not_null, count);
         self.room -= count;
     }
 

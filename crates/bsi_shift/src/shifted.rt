@@ -5,6 +5,7 @@ ghost use Rattle.std.specs.Option.{option_map};
 ghost use Rattle.bsi_digits.specs.Digits.{max_end, max_size};
 ghost use Rattle.bsi_bits.specs.BitList.{max_block, max_len};
 ghost use Rattle.bsi_columns.specs.AnyRows.{any_entries, any_size};
+ghost use Rattle.bsi_orders.specs.Blocks.{offset_entries, IsNumberBlock};
 ghost use Rattle.bsi_shift.specs.Shifted.{shifted_entries, shifted_size, shifted_room, number_of, IsAlike, IsInRange};
 
 use crate::NoMemory;
@@ -155,19 +156,28 @@ impl Shifted {
         self.stored.push_reserved(stored_from(self.offset, entry));
     }
 
-    /// Appends a block of at most 64 entries, nulls and numbers as `push_reserved` takes them, into room that is
-    /// already there.
-    pub fn push_block_reserved(&mut self, block: &[Option<i64>])
-        requires few { length block.now ≤ max_block }
-        requires room { length block.now ≤ shifted_room self.old }
-        requires range { All (IsInRange self.old.offset (shifted_size self.old)) block.now }
-        ensures entries { shifted_entries self.new ≡ shifted_entries self.old ++ block.now }
+    /// Appends a block of at most 64 entries into room that is already there. Bit `r` of the word `not_null` tells
+    /// whether entry `r` is a number, as `push_reserved` takes it: `offset` and the number at place `r`, which is 0 for
+    /// a null. Where `offset` is the column's own, the numbers go in as they are.
+    pub fn push_block_reserved(&mut self, offset: i64, numbers: &[u64], not_null: u64)
+        requires few { length numbers.now ≤ max_block }
+        requires block { IsNumberBlock numbers.now not_null }
+        requires room { length numbers.now ≤ shifted_room self.old }
+        requires range { All (IsInRange self.old.offset (shifted_size self.old))
+            (offset_entries offset numbers.now not_null) }
+        ensures entries { shifted_entries self.new
+            ≡ shifted_entries self.old ++ offset_entries offset numbers.now not_null }
         ensures alike { IsAlike self.old self.new }
-        ensures room { shifted_room self.old ≤ shifted_room self.new + length block.now }
+        ensures room { shifted_room self.old ≤ shifted_room self.new + length numbers.now }
     {
-        let mut entries = [None; MAX_BLOCK];
-        store_block(self.offset, block, &mut entries);
-        self.stored.push_block_reserved(&entries[..block.len()]);
+        if offset == self.offset {
+            self.stored.push_block_reserved(numbers, not_null);
+            return;
+        }
+        let mut stored = [0; MAX_BLOCK];
+        let stored = &mut stored[..numbers.len()];
+        move_block(offset, numbers, not_null, self.offset, stored);
+        self.stored.push_block_reserved(stored, not_null);
     }
 
     /// Appends all entries of another column of the same offset and form, in their order, into room that is already
@@ -220,16 +230,22 @@ fn stored_from(offset: i64, entry: Option<i64>) -> Option<u64>
     Some((number - offset) as u64)
 }
 
-/// Writes what is stored of each entry of a block.
-fn store_block(offset: i64, block: &[Option<i64>], entries: &mut [Option<u64>; MAX_BLOCK])
-    requires few { length block.now ≤ max_block }
-    requires range { All (IsInRange offset max_size) block.now }
-    ensures long { length entries.new ≡ max_block }
-    ensures each { (r : ℕ) → r < length block.now →
-        option_map (number_of offset) (slice_index_or entries.new r None)
-        ≡ slice_index_or block.now r None }
+/// Writes what is stored from the offset `to` on of a block of entries whose numbers stand less the offset `from`.
+fn move_block(from: i64, numbers: &[u64], not_null: u64, to: i64, stored: &mut [u64])
+    requires few { length numbers.now ≤ max_block }
+    requires block { IsNumberBlock numbers.now not_null }
+    requires range { All (IsInRange to max_size) (offset_entries from numbers.now not_null) }
+    requires same { length stored.old ≡ length numbers.now }
+    ensures block { IsNumberBlock stored.new not_null }
+    ensures entries { offset_entries to stored.new not_null
+        ≡ offset_entries from numbers.now not_null }
 {
-    'entries: for (r, entry) in block.iter().enumerate() {
-        entries[r] = stored_from(offset, *entry);
+    let apart = i128::from(from) - i128::from(to);
+    'entries: for (r, number) in numbers.iter().enumerate() {
+        stored[r] = if not_null >> r & 1 == 1 {
+            (i128::from(*number) + apart) as u64
+        } else {
+            0
+        };
     }
 }

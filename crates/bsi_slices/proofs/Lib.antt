@@ -1,10 +1,10 @@
 pub mod Adding
 pub mod BlockNumbers
+pub mod BlockWords
 pub mod CallerLemmas
 pub mod EndRows
 pub mod Exchanging
 pub mod FromPlaces
-pub mod Gathering
 pub mod Ranking
 pub mod Related
 pub mod SliceEntries

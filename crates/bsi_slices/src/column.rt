@@ -6,6 +6,7 @@
 ghost use Rattle.std.specs.Prelude.{◌≡◌, ◌↔◌, ℕ, ◌^◌, ◌+◌, ◌≤◌, ◌<◌, List, Option, [], ◌∷◌, ◌++◌, All, length, map, is_some, is_none, nat_lt, sum, IfOk, OnOk, OnErr, IsOk, IsTrue};
 ghost use Rattle.bsi_digits.specs.Digits.{max_size};
 ghost use Rattle.bsi_bits.specs.BitList.{max_block, max_len, sum_end};
+ghost use Rattle.bsi_orders.specs.Blocks.{block_entries, IsNumberBlock};
 ghost use Rattle.bsi_orders.specs.Rows.{number_or_zero, selects};
 ghost use Rattle.bsi_orders.specs.Orders.{values_at};
 ghost use Rattle.bsi_orders.specs.Totals.{IsRanked, IsLeastOf, IsGreatestOf, IsMedianOf};
@@ -80,18 +81,21 @@ pub trait Column: Drop {
         ensures form { form_of self.new ≡ form_of self.old }
         ensures room { room_of self.old ≤ room_of self.new + 1 };
 
-    /// Appends a block of at most 64 entries, numbers below the size and nulls, into room that is already there. The
+    /// Appends a block of at most 64 entries into room that is already there. Entry `r` is the number at place `r`,
+    /// which is below the size, or a null if bit `r` of the word `not_null` is clear; the number of a null is 0. The
     /// provided body appends them one by one.
-    fn push_block_reserved(&mut self, block: &[Option<u64>])
-        requires few { length block.now ≤ max_block }
-        requires room { length block.now ≤ room_of self.old }
-        requires below { All (λ e. number_or_zero e < size_of (form_of self.old)) block.now }
-        ensures entries { entries self.new ≡ entries self.old ++ block.now }
+    fn push_block_reserved(&mut self, numbers: &[u64], not_null: u64)
+        requires few { length numbers.now ≤ max_block }
+        requires block { IsNumberBlock numbers.now not_null }
+        requires room { length numbers.now ≤ room_of self.old }
+        requires below { All (λ n. n < size_of (form_of self.old)) numbers.now }
+        ensures entries { entries self.new
+            ≡ entries self.old ++ block_entries numbers.now not_null }
         ensures form { form_of self.new ≡ form_of self.old }
-        ensures room { room_of self.old ≤ room_of self.new + length block.now }
+        ensures room { room_of self.old ≤ room_of self.new + length numbers.now }
     {
-        'entries: for entry in block {
-            self.push_reserved(*entry);
+        'entries: for (r, number) in numbers.iter().enumerate() {
+            self.push_reserved((not_null >> r & 1 == 1).then_some(*number));
         }
     }
 

@@ -7,6 +7,7 @@ ghost use Rattle.bsi_words.specs.Places.{max_places};
 ghost use Rattle.bsi_bits.specs.BitList.{max_block, max_len, word_count};
 ghost use Rattle.bsi_bits.specs.BitLists.{bits_at};
 ghost use Rattle.bsi_slices.specs.Spans.{KeepsRows};
+ghost use Rattle.bsi_orders.specs.Blocks.{block_entries, IsNumberBlock};
 ghost use Rattle.bsi_orders.specs.Orders.{values_at};
 ghost use Rattle.bsi_orders.specs.Rows.{number_or_zero, selects};
 ghost use Rattle.bsi_digits.specs.Digits.{max_size};
@@ -17,7 +18,7 @@ ghost use Rattle.bsi_orders.specs.Totals.{IsLeastOf, IsGreatestOf};
 
 use crate::column::Column;
 use crate::not_null::NotNull;
-use crate::transposing::{not_null_word, numbers_by_places, transpose, write_numbers};
+use crate::transposing::{numbers_by_places, transpose};
 use crate::{NoMemory, Op};
 use bsi_bits::{Bitmaps, Bits, MAX_BLOCK, MAX_LEN};
 use bsi_words::End;
@@ -194,8 +195,8 @@ impl Column for Slices {
         push_row(&mut self.slices, &mut self.not_null, entry);
     }
 
-    fn push_block_reserved(&mut self, block: &[Option<u64>]) {
-        push_rows(&mut self.slices, &mut self.not_null, block);
+    fn push_block_reserved(&mut self, numbers: &[u64], not_null: u64) {
+        push_rows(&mut self.slices, &mut self.not_null, numbers, not_null);
     }
 
     fn push_all_reserved(&mut self, other: &Slices) {
@@ -314,25 +315,26 @@ fn push_row(slices: &mut Bitmaps, not_null: &mut NotNull, entry: Option<u64>)
 }
 
 /// Appends a block of rows into room that is already there: each slice gets the word of its binary place of the
-/// numbers.
-fn push_rows(slices: &mut Bitmaps, not_null: &mut NotNull, block: &[Option<u64>])
+/// numbers. The word `there` tells which rows have a number.
+fn push_rows(slices: &mut Bitmaps, not_null: &mut NotNull, numbers: &[u64], there: u64)
     requires sliced { IsSliced not_null.old.bits slices.old.vectors }
-    requires few { length block.now ≤ max_block }
-    requires room { length block.now ≤ min slices.old.room not_null.old.room }
-    requires below { All (λ e. number_or_zero e < 2 ^ length slices.old.vectors) block.now }
+    requires few { length numbers.now ≤ max_block }
+    requires block { IsNumberBlock numbers.now there }
+    requires room { length numbers.now ≤ min slices.old.room not_null.old.room }
+    requires below { All (λ n. n < 2 ^ length slices.old.vectors) numbers.now }
     ensures sliced { IsSliced not_null.new.bits slices.new.vectors }
     ensures width { length slices.new.vectors ≡ length slices.old.vectors }
     ensures entries { entries_in not_null.new.bits slices.new.vectors
-        ≡ entries_in not_null.old.bits slices.old.vectors ++ block.now }
+        ≡ entries_in not_null.old.bits slices.old.vectors ++ block_entries numbers.now there }
     ensures room { min slices.old.room not_null.old.room
-        ≤ min slices.new.room not_null.new.room + length block.now }
+        ≤ min slices.new.room not_null.new.room + length numbers.now }
 {
     let mut words = [0; MAX_BLOCK];
-    write_numbers(block, &mut words);
+    words[..numbers.len()].copy_from_slice(numbers);
     transpose(&mut words);
-    let count = block.len() as u64;
+    let count = numbers.len() as u64;
     slices.push_words(&words[..slices.as_slice().len()], count);
-    not_null.push_word_reserved(not_null_word(block), count);
+    not_null.push_word_reserved(there, count);
     // The proof takes from this that there are at most 2^32 rows.
     prove!(not_null.len() <= MAX_LEN);
 }

@@ -1,42 +1,15 @@
-//! A block of at most 64 entries, turned into words, one for each binary place, and back.
+//! The numbers of 64 rows, turned into words, one for each binary place, and back.
 
-ghost use Rattle.std.specs.Prelude.{◌≡◌, ℕ, ◌+◌, ◌-◌, ◌*◌, ◌/◌, ◌%◌, ◌<◌, ◌≤◌, ◌^◌, [], ◌∷◌, length, map, is_some, None, slice_index, slice_index_or};
+ghost use Rattle.std.specs.Prelude.{◌≡◌, ℕ, ◌+◌, ◌-◌, ◌*◌, ◌/◌, ◌%◌, ◌<◌, ◌≤◌, length, slice_index};
 ghost use Rattle.std.specs.Int.{bit_at};
 ghost use Rattle.bsi_bits.specs.BitList.{max_block, word_count};
 ghost use Rattle.bsi_bits.specs.BitLists.{bits_at};
-ghost use Rattle.bsi_bits.specs.Packed.{bits_of, end_of_u64};
+ghost use Rattle.bsi_bits.specs.Packed.{end_of_u64};
 ghost use Rattle.bsi_words.specs.Places.{max_places};
 ghost use Rattle.bsi_slices.specs.Exchanges.{across, IsLow};
 ghost use Rattle.bsi_slices.specs.Slices.{number};
-ghost use Rattle.bsi_orders.specs.Rows.{number_or_zero};
 
 use bsi_bits::{Bits, MAX_BLOCK, know_fits};
-
-/// Writes the numbers of a block of entries, with a 0 for each null and for each place after the last entry.
-pub fn write_numbers(block: &[Option<u64>], numbers: &mut [u64; MAX_BLOCK])
-    requires { length block.now ≤ max_block }
-    ensures long { length numbers.new ≡ max_block }
-    ensures numbers { (r : ℕ) →
-        slice_index numbers.new r ≡ number_or_zero (slice_index_or block.now r None) }
-{
-    numbers.fill(0);
-    'entries: for (r, entry) in block.iter().enumerate() {
-        numbers[r] = entry.unwrap_or(0);
-    }
-}
-
-/// Returns the word whose bit `r` tells whether entry `r` of a block is a number.
-pub fn not_null_word(block: &[Option<u64>]) -> u64
-    requires { length block.now ≤ max_block }
-    ensures bits { bits_of (length block.now) (result ∷ []) ≡ map is_some block.now }
-    ensures clear { result < 2 ^ length block.now }
-{
-    let mut word = 0;
-    'entries: for (r, entry) in block.iter().enumerate() {
-        word |= (entry.is_some() as u64) << r;
-    }
-    word
-}
 
 /// Exchanges the rows and the places of 64 words: place `k` of word `r` becomes place `r` of word `k`. The number of a
 /// row and that of a place have six binary places each, and each step exchanges those of one weight (Warren 2002).
