@@ -33,11 +33,11 @@ module _ (numbers : List ℕ) (not_null : ℕ) (block : IsNumberBlock numbers no
   pub bits_are_some : length numbers ≤ 64 → bits_of (length numbers) (not_null ∷ []) ≡ map is_some (block_entries numbers not_null)
   bits_are_some few =
       sym (bits_are (length numbers) (not_null ∷ []) (map is_some (block_entries numbers not_null))
-          (length-map (block_entries numbers not_null) is_some ∙ length-block_entries numbers not_null) (λ r below.
-          get_or-map is_some (block_entries numbers not_null) r None false (omega (arith, below, length-block_entries numbers not_null))
-          ∙ ap is_some (get_or-block_entries numbers not_null r below)
-          ∙ there-block_entry numbers not_null r
-          ∙ sym (one_word not_null r (omega arith))))
+      (length-map (block_entries numbers not_null) is_some ∙ length-block_entries numbers not_null) (λ r below.
+      get_or-map is_some (block_entries numbers not_null) r None false (omega (arith, below, length-block_entries numbers not_null))
+      ∙ ap is_some (get_or-block_entries numbers not_null r below)
+      ∙ there-block_entry numbers not_null r
+      ∙ sym (one_word not_null r (omega arith))))
 
 -- one entry more, as its bit and its number tell it
 pub taken_more : (numbers : List ℕ) (not_null r : ℕ) → r < length numbers

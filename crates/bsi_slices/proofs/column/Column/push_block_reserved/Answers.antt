@@ -25,4 +25,4 @@ returns-clause-entries g c =
     c.entries.invariant.entries
     ∙ ap (λ es. g.Self.Column.entries c.args.self.now ++ es)
     (take_all c.entries.r (block_entries c.args.numbers.now c.args.not_null)
-        (omega (arith, c.entries-test.false, c.entries.auto.r-end, length-block_entries c.args.numbers.now c.args.not_null)))
+    (omega (arith, c.entries-test.false, c.entries.auto.r-end, length-block_entries c.args.numbers.now c.args.not_null)))
