@@ -7,6 +7,7 @@ pub mod NumberPlaces
 pub mod Places
 pub mod Standings
 pub use Rattle.bsi_slices.specs.Ends
+pub use Rattle.bsi_orders.specs.Blocks
 pub use Rattle.bsi_orders.specs.Orders
 pub use Rattle.bsi_orders.specs.Rows
 pub use Rattle.bsi_orders.specs.Totals
