@@ -1,16 +1,20 @@
 -- The entries that a stored column and an offset stand for.
-use Rattle.std.proofs.Common.{◌≡◌, ℕ, ℤ, pos, ◌+ℤ◌, ◌≤ℤ◌, ◌<ℤ◌, ◌<◌, ◌≤◌, ◌^◌, Bool, true, false, List, [], ◌∷◌, ◌++◌, Option, Some, None, length, get_or, take, map, is_some, is_none, ap, ap₂, ◌∙◌, refl, arith}
+use Rattle.std.proofs.Common.{◌≡◌, ℕ, ℤ, pos, ◌+ℤ◌, ◌≤ℤ◌, ◌<ℤ◌, ◌<◌, ◌≤◌, ◌^◌, Bool, true, false, List, [], ◌∷◌, ◌++◌, Option, Some, None, length, get_or, map, is_some, is_none, subst, sym, ap, ap₂, ◌∙◌, refl, arith}
 use Rattle.std.specs.Prelude.{All, IfSome}
 use Rattle.std.specs.Option.{option_map}
 use Rattle.std.proofs.lemmas.Int.{ints}
-use Rattle.std.proofs.lemmas.List.{length-map, length-take-le, get_or-map, get_or-take, get_or_default, same_lists, map-append}
-use Rattle.std.proofs.lemmas.List.Elements.{All-head, All-tail, All-map, All-weaker}
-use Rattle.bsi_columns.specs.AnyRows.{any_entries}
+use Rattle.std.proofs.lemmas.List.{length-map, map-append}
+use Rattle.std.proofs.lemmas.List.Elements.{All-head, All-tail, All-map, All-weaker, All-append, All-get_or, All-from_get_or}
+use Rattle.bsi_columns.specs.declared.any.AnyColumn.{AnyColumn}
+use Rattle.bsi_columns.specs.AnyRows.{any_entries, any_form, any_size, size_in_form}
 use Rattle.bsi_columns.proofs.EntryReads.{map_read}
+use Rattle.bsi_orders.specs.Blocks.{block_entries, block_entry, offset_entries, IsNumberBlock}
 use Rattle.bsi_orders.specs.Orders.{compares_by, values_at}
 use Rattle.bsi_orders.specs.Rows.{number_or_zero, number_order, selects}
 use Rattle.bsi_orders.specs.declared.op.Op.{Op}
-use Rattle.bsi_shift.specs.Shifted.{OffsetColumn, shifted_entries, number_of, IsInRange}
+use Rattle.bsi_orders.proofs.BlockEntries.{length-offset_entries, get_or-offset_entries, number-block_entry}
+use Rattle.bsi_slices.proofs.BlockWords.{small-block_entries}
+use Rattle.bsi_shift.specs.Shifted.{OffsetColumn, shifted_entries, number_of, IsInRange, IsShifted}
 use Rattle.bsi_orders.specs.WholeNumbers.{signed_order, signed_selects}
 
 -- the entries of stored numbers and an offset
@@ -79,17 +83,54 @@ pub fits : (offset : ℤ) (size : ℕ) → size ≤ 2 ^ 63 → (offset +ℤ pos 
 fits offset size small within None below = tt
 fits offset size small within (Some n) below = (omega (arith), omega (arith, ints))
 
--- a block of stored entries stands for the block that it was made of
-pub entries_from-block : (offset : ℤ) (stored : List (Option ℕ)) (block : List (Option ℤ)) → length block ≤ length stored
-    → ((r : ℕ) → r < length block → option_map (number_of offset) (get_or stored r None) ≡ get_or block r None) → entries_from offset (take (length block) stored) ≡ block
-entries_from-block offset stored block enough each =
-    let long : length (take (length block) stored) ≡ length block = length-take-le (length block) stored enough in
-    same_lists _ _ (length-map (take (length block) stored) (option_map (number_of offset)) ∙ long) (λ r d within.
-    let below : r < length block = omega (arith, within, long, length-map (take (length block) stored) (option_map (number_of offset))) in
-    get_or-map (option_map (number_of offset)) (take (length block) stored) r None d (omega (arith, below, long))
-    ∙ ap (option_map (number_of offset)) (get_or-take (length block) stored r None below)
-    ∙ each r below
-    ∙ get_or_default block r None d below)
+-- each entry of a block in range
+pub entry_in_range : (offset first : ℤ) (size : ℕ) (numbers : List ℕ) (not_null : ℕ) → All (IsInRange first size) (offset_entries offset numbers not_null)
+    → (r : ℕ) → r < length numbers → IsInRange first size (option_map (number_of offset) (block_entry numbers not_null r))
+entry_in_range offset first size numbers not_null range r within =
+    subst (IsInRange first size) (get_or-offset_entries offset numbers not_null r within)
+    (All-get_or (IsInRange first size) (offset_entries offset numbers not_null) r None (omega (arith, within, length-offset_entries offset numbers not_null)) range)
+
+-- a range that has more numbers
+pub wider_range : (offset : ℤ) (size most : ℕ) (entries : List (Option ℤ)) → size ≤ most → All (IsInRange offset size) entries → All (IsInRange offset most) entries
+wider_range offset size most entries within range = All-weaker (IsInRange offset size) (IsInRange offset most) one entries range
+  where
+    one : (e : Option ℤ) → IsInRange offset size e → IsInRange offset most e
+    one None inside = tt
+    one (Some x) inside = (inside.0, omega (arith, ints, within, inside.1))
+
+-- a block whose numbers stand less the offset of the column
+module _ (stored : AnyColumn) (offset : ℤ) (size : ℕ) (numbers : List ℕ) (not_null : ℕ) (shifted : IsShifted stored offset size) (block : IsNumberBlock numbers not_null)
+    (range : All (IsInRange offset (any_size stored)) (offset_entries offset numbers not_null)) where
+  -- has numbers below the size
+  pub block_below : All (λ n. n < any_size stored) numbers
+  block_below = All-from_get_or (λ n. n < any_size stored) numbers 0 (λ r within.
+      subst (λ (n : ℕ). n < any_size stored) (number-block_entry numbers not_null block r)
+      (one (block_entry numbers not_null r) (entry_in_range offset offset (any_size stored) numbers not_null range r within)))
+    where
+      one : (e : Option ℕ) → IsInRange offset (any_size stored) (option_map (number_of offset) e) → number_or_zero e < any_size stored
+      one None inside = omega (arith, shifted.some, shifted.size_is)
+      one (Some n) inside = omega (arith, ints, inside.1)
+
+  module _ (new : AnyColumn) (entries : any_entries new ≡ any_entries stored ++ block_entries numbers not_null) where
+    -- and stands after the column's entries
+    pub shifted_more : any_form new ≡ any_form stored → IsShifted new offset size
+    shifted_more form = record {
+      size_is = shifted.size_is ∙ ap size_in_form (sym form);
+      small = shifted.small;
+      some = shifted.some;
+      within = shifted.within;
+      below = subst (λ es. All (λ e. number_or_zero e < size) es) (sym entries)
+          (All-append (λ e. number_or_zero e < size) (any_entries stored) (block_entries numbers not_null) shifted.below
+          (small-block_entries numbers not_null block size (subst (λ (n : ℕ). All (λ m. m < n) numbers) (sym shifted.size_is) block_below)));
+    }
+
+    pub entries_more : (c : OffsetColumn) → record { stored = stored; offset = offset } ≡ c
+        → shifted_entries (record { stored = new; offset = offset }) ≡ shifted_entries c ++ offset_entries offset numbers not_null
+    entries_more c view =
+        shifted_entries-is (record { stored = new; offset = offset })
+        ∙ ap (entries_from offset) entries
+        ∙ map-append (option_map (number_of offset)) (any_entries stored) (block_entries numbers not_null)
+        ∙ ap (λ es. es ++ offset_entries offset numbers not_null) (ap (λ v. entries_from v.offset (any_entries v.stored)) view ∙ sym (shifted_entries-is c))
 
 -- entry r is that of what is stored, and none past the last
 pub entry_from : (c : OffsetColumn) (r : ℕ) → get_or (shifted_entries c) r None ≡ option_map (number_of c.offset) (get_or (any_entries c.stored) r None)

@@ -1,6 +1,6 @@
 //! A column of whole numbers from an offset on, stored as the column of the numbers less the offset.
 
-ghost use Rattle.std.specs.Prelude.{◌≡◌, ℕ, pos, ◌+ℤ◌, ◌≤ℤ◌, ◌+◌, ◌<◌, ◌≤◌, [], ◌∷◌, ◌++◌, All, length, map, None, slice_index_or, is_some, nat_lt, ◌↔◌, IsOk, IsTrue, IfOk, OnOk, OnErr};
+ghost use Rattle.std.specs.Prelude.{◌≡◌, ℕ, pos, ◌+ℤ◌, ◌≤ℤ◌, ◌+◌, ◌<◌, ◌≤◌, [], ◌∷◌, ◌++◌, All, length, map, Some, is_some, nat_lt, ◌↔◌, IsOk, IsTrue, IfOk, OnOk, OnErr};
 ghost use Rattle.std.specs.Option.{option_map};
 ghost use Rattle.bsi_digits.specs.Digits.{max_end, max_size};
 ghost use Rattle.bsi_bits.specs.BitList.{max_block, max_len};
@@ -240,12 +240,19 @@ fn move_block(from: i64, numbers: &[u64], not_null: u64, to: i64, stored: &mut [
     ensures entries { offset_entries to stored.new not_null
         ≡ offset_entries from numbers.now not_null }
 {
-    let apart = i128::from(from) - i128::from(to);
     'entries: for (r, number) in numbers.iter().enumerate() {
         stored[r] = if not_null >> r & 1 == 1 {
-            (i128::from(*number) + apart) as u64
+            moved(from, *number, to)
         } else {
             0
         };
     }
+}
+
+/// Returns what is stored from the offset `to` on of a number that stands less the offset `from`.
+fn moved(from: i64, number: u64, to: i64) -> u64
+    requires { IsInRange to max_size (Some (number_of from number)) }
+    ensures { number_of to result ≡ number_of from number }
+{
+    (i128::from(from) - i128::from(to) + i128::from(number)) as u64
 }
