@@ -162,16 +162,10 @@ fn narrow(chosen: &mut [u64], kept: Option<&[u64]>, dropped: Option<&[u64]>, nex
     }
 }
 
-/// The entries of 64 rows, of which one that is none is a null.
-type Block = [Option<u64>; 64];
-
-/// The numbers of a block, a 0 for a null, and the word that says which are numbers.
-fn numbers_of(block: &Block) -> ([u64; 64], u64) {
-    let mut present = 0;
-    for (r, entry) in block.iter().enumerate() {
-        present |= u64::from(entry.is_some()) << r;
-    }
-    (block.map(|entry| entry.unwrap_or(0)), present)
+/// The entries of 64 rows: the numbers, a 0 for a null, and the word that says which are numbers.
+struct Block {
+    numbers: [u64; 64],
+    present: u64,
 }
 
 /// Exchanges bit `s` of the row and of the place, where `kept` has the places in which it is 0.
@@ -247,9 +241,8 @@ impl Column for Slices {
     }
 
     fn push_block(&mut self, block: &Block) {
-        let (numbers, present) = numbers_of(block);
-        push_places(&mut self.slices, numbers);
-        self.present.push(present);
+        push_places(&mut self.slices, block.numbers);
+        self.present.push(block.present);
     }
 
     fn push(&mut self, row: u64) {
@@ -347,16 +340,15 @@ impl Column for Range {
     }
 
     fn push_block(&mut self, block: &Block) {
-        let (numbers, present) = numbers_of(block);
         for (i, bitmaps) in self.bitmaps.iter_mut().enumerate() {
-            let mut words = mark(&numbers, i);
+            let mut words = mark(&block.numbers, i);
             for j in 1..words.len() {
                 words[j] |= words[j - 1];
             }
             push_words(bitmaps, &words);
         }
-        push_places(&mut self.places, numbers);
-        self.present.push(present);
+        push_places(&mut self.places, block.numbers);
+        self.present.push(block.present);
     }
 
     fn push(&mut self, row: u64) {
@@ -421,12 +413,11 @@ impl Column for Equality {
     }
 
     fn push_block(&mut self, block: &Block) {
-        let (numbers, present) = numbers_of(block);
         for (i, bitmaps) in self.bitmaps.iter_mut().enumerate() {
-            push_words(bitmaps, &mark(&numbers, i));
+            push_words(bitmaps, &mark(&block.numbers, i));
         }
-        push_places(&mut self.places, numbers);
-        self.present.push(present);
+        push_places(&mut self.places, block.numbers);
+        self.present.push(block.present);
     }
 
     fn push(&mut self, row: u64) {
@@ -503,7 +494,7 @@ impl Column for Scan {
     }
 
     fn push_block(&mut self, block: &Block) {
-        self.0.extend(block.iter().map(|entry| entry.unwrap_or(0) as u32));
+        self.0.extend(block.numbers.map(|number| number as u32));
     }
 
     fn le(&self, c: u64) -> Words {
@@ -563,7 +554,7 @@ fn time<A>(form: &str, question: &str, n: u64, samples: u32, ask: impl Fn() -> A
 
 /// The entries of 64 rows.
 fn block_from(row: u64) -> Block {
-    std::array::from_fn(|k| Some(value_of(row + k as u64)))
+    Block { numbers: std::array::from_fn(|k| value_of(row + k as u64)), present: u64::MAX }
 }
 
 /// Fills a column with memory for its rows by single appends, and another by blocks, asks that each question, and prints a
