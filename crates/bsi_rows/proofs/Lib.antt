@@ -1,4 +1,5 @@
 pub mod Balance
+pub mod BlockCells
 pub mod BlockRows
 pub mod ByFeeder
 pub mod CallerLemmas

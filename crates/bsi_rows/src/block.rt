@@ -1,20 +1,21 @@
 //! A block of rows of one schema, kept column by column.
 //!
-//! The entries of column `c` stand in 64 places from place `64 * c` on, so a row is written without moving another, and
-//! each column is lent as one slice.
+//! The numbers of column `c` stand in 64 places from place `64 * c` on, so a row is written without moving another, and
+//! a column is written and lent as one slice.
 //!
 //! A block carries the feeder of each row, so one block serves all feeders. It holds its schema by an `Arc`, where a
 //! ghost snapshot would do for the proofs: what has a snapshot can't be shown to go to another thread.
 
-ghost use Rattle.std.specs.Prelude.{◌≡◌, ◌≢◌, ◌↔◌, [], ℕ, ◌+◌, ◌*◌, ◌<◌, ◌≤◌, None, Some, IfOk, IsTrue, length, slice_get, slice_index_or, true, false};
-ghost use Rattle.bsi_digits.specs.Signed.{IsI64};
-ghost use Rattle.bsi_schema.specs.Columns.{entry_at, fits};
-ghost use Rattle.bsi_rows.specs.RowBlocks.{emptied_block, entries_of, max_block_rows, no_block_rows, placed_row, with_block_row, HaveSameLimits};
+ghost use Rattle.std.specs.Prelude.{◌≡◌, ◌↔◌, [], ◌+◌, ◌^◌, ◌<◌, ◌≤◌, All, Some, IfOk, IsTrue, length, slice_get, true, false};
+ghost use Rattle.bsi_orders.specs.Blocks.{offset_entries, IsNumberBlock};
+ghost use Rattle.bsi_schema.specs.Columns.{column_at, fits, is_taken_by};
+ghost use Rattle.bsi_rows.specs.RowBlocks.{emptied_block, entries_of, max_block_rows, no_block_rows, value_entries, with_block_row, with_null_rows, HasColumn, HaveSameLimits};
 ghost use Rattle.bsi_rows.specs.Rows.{column_of, feeders_of};
 ghost use Rattle.bsi_rows.specs.Table.{AreFitting, AreFrom};
 
+use crate::cells::{read_row, write_entries, write_nulls, write_row, write_values};
 use crate::{NoMemory, Row, Schema};
-use bsi_schema::{Limits, have_same_limits, take_each, to_i64};
+use bsi_schema::{Limits, have_same_limits, take_each};
 use std::alloc::Global;
 use std::marker::Model;
 use std::sync::Arc;
@@ -23,7 +24,8 @@ use std::sync::Arc;
 pub const MAX_BLOCK_ROWS: usize = 64;
 
 /// At most 64 rows that fit a schema, each from one of so many feeders. A row is tested once, as it is added. Filling
-/// the block again takes no memory. For each of the 64 rows it takes 16 bytes a column, and 4 bytes for its feeder.
+/// the block again takes no memory. For each of the 64 rows it takes 8 bytes and a bit a column, and 4 bytes for its
+/// feeder.
 pub struct Block {
     schema: Arc<Schema, Global>,
     // What each column takes, beside the shared schema, so that a row is tested without it.
@@ -31,7 +33,22 @@ pub struct Block {
     feeders: u32,
     // The feeder of each row.
     row_feeders: Vec<u32>,
-    places: Vec<Option<i64>>,
+    // 64 a column, each less the least number that the column takes; 0 for a null.
+    numbers: Vec<u64>,
+    // A word a column, of which entries are numbers.
+    not_null: Vec<u64>,
+}
+
+/// A column of a block. Entry `r` is a null where bit `r` of `not_null` is clear, and number `r` is 0 there; else it is
+/// number `r` and the offset.
+#[derive(Clone, Copy)]
+pub struct BlockColumn<'a> {
+    /// The least number that the column takes.
+    pub offset: i64,
+    /// The numbers less the offset, in order of the rows.
+    pub numbers: &'a [u64],
+    /// Which entries are numbers.
+    pub not_null: u64,
 }
 
 // What a derive drops, each crate above would prove anew.
@@ -42,7 +59,8 @@ impl Drop for Block {
             limits: _limits,
             feeders: _,
             row_feeders: _row_feeders,
-            places: _places,
+            numbers: _numbers,
+            not_null: _not_null,
         } = self;
     }
 }
@@ -54,10 +72,11 @@ impl Model for Block {
 
     ghost Value = { RowBlock };
 
-    ghost view = { λ b. block_view b.schema.value b.feeders b.row_feeders.items b.places.items };
+    ghost view = { λ b. block_view b.schema.value b.feeders b.row_feeders.items b.limits.items
+        b.numbers.items b.not_null.items };
 
     ghost invariant = { λ b. IsBlock b.schema.value.columns b.limits.items b.feeders b.row_feeders.items
-        b.places.items × (max_block_rows ≤ vec_capacity b.row_feeders) };
+        b.numbers.items b.not_null.items × (max_block_rows ≤ vec_capacity b.row_feeders) };
 }
 
 impl Block {
@@ -68,13 +87,16 @@ impl Block {
         let shared = Arc::try_clone(schema)?;
         let limits = Vec::from_slice(alloc, schema.limits())?;
         let row_feeders = Vec::with_capacity(alloc, MAX_BLOCK_ROWS)?;
-        let places = vec![in alloc; None; MAX_BLOCK_ROWS * schema.columns() as usize]?;
+        let columns = schema.columns() as usize;
+        let numbers = vec![in alloc; 0; MAX_BLOCK_ROWS * columns]?;
+        let not_null = vec![in alloc; 0; columns]?;
         Ok(Block {
             schema: shared,
             limits,
             feeders,
             row_feeders,
-            places,
+            numbers,
+            not_null,
         })
     }
 
@@ -108,6 +130,7 @@ impl Block {
         ensures { self.new ≡ emptied_block self.old }
     {
         self.row_feeders.clear();
+        self.not_null.fill(0);
     }
 
     /// Adds a row of a feeder after the others, and returns whether it fits. If it does not, the block stays.
@@ -122,7 +145,13 @@ impl Block {
             return false;
         }
         let at = self.row_feeders.len();
-        write_row(row.values(), at, &mut self.places);
+        write_row(
+            &self.limits,
+            row.values(),
+            at,
+            &mut self.numbers,
+            &mut self.not_null,
+        );
         self.row_feeders.push_reserved(feeder);
         true
     }
@@ -135,8 +164,44 @@ impl Block {
         ensures { self.new ≡ with_block_row self.old feeder entries.now }
     {
         let at = self.row_feeders.len();
-        write_entries(entries, at, &mut self.places);
+        write_entries(
+            &self.limits,
+            entries,
+            at,
+            &mut self.numbers,
+            &mut self.not_null,
+        );
         self.row_feeders.push_reserved(feeder);
+    }
+
+    /// Adds so many rows of a feeder after the others, of nulls, which `write_column` may then replace.
+    pub fn push_nulls(&mut self, feeder: u32, rows: usize)
+        requires room { length self.old.rows + rows ≤ max_block_rows }
+        requires feeder { feeder < self.old.feeders }
+        ensures { self.new ≡ with_null_rows self.old feeder rows }
+    {
+        let from = self.row_feeders.len();
+        write_nulls(self.limits.len(), from, from + rows, &mut self.numbers);
+        'rows: for _ in 0..rows {
+            self.row_feeders.push_reserved(feeder);
+        }
+    }
+
+    /// Writes the entries of column `c` in all rows at once: value `r` where bit `r` of `not_null` is set, and a null
+    /// elsewhere. The column takes each.
+    pub fn write_column(&mut self, c: usize, values: &[i64], not_null: u64)
+        requires within { c < length self.old.schema.columns }
+        requires long { length values.now ≡ length self.old.rows }
+        requires clear { not_null < 2 ^ length values.now }
+        requires taken { All (λ entry. is_taken_by (column_at self.old.schema.columns c) entry ≡ true)
+            (value_entries values.now not_null) }
+        ensures column { HasColumn self.old self.new c (value_entries values.now not_null) }
+        ensures fitting { AreFitting self.new.schema.columns self.new.rows }
+    {
+        let first = MAX_BLOCK_ROWS * c;
+        let numbers = &mut self.numbers[first..first + values.len()];
+        write_values(self.limits[c].least(), values, not_null, numbers);
+        self.not_null[c] = not_null;
     }
 
     /// Returns whether the columns of a schema take the same numbers as those that the block was made for. It takes no
@@ -153,8 +218,9 @@ impl Block {
         requires { r < length self.now.rows }
         ensures { IfOk result (λ row. slice_get (entries_of self.now.rows) r ≡ Some row) }
     {
-        let alloc = *self.places.allocator();
-        Ok(Row::new(read_entries(alloc, self.limits.len(), r, &self.places)?))
+        let alloc = *self.numbers.allocator();
+        let entries = read_row(alloc, &self.limits, r, &self.numbers, &self.not_null)?;
+        Ok(Row::new(entries))
     }
 
     /// Lends the feeder of each row.
@@ -165,72 +231,20 @@ impl Block {
     }
 
     /// Lends the entries of column `c`, in order of the rows.
-    pub fn column(&self, c: usize) -> &[Option<i64>]
+    pub fn column(&self, c: usize) -> BlockColumn<'_>
         requires { c < length self.now.schema.columns }
-        ensures entries { result.now ≡ column_of self.now.rows c }
-        ensures few { length result.now ≤ max_block_rows }
+        ensures entries { offset_entries result.offset result.numbers.now result.not_null
+            ≡ column_of self.now.rows c }
+        ensures block { IsNumberBlock result.numbers.now result.not_null }
+        ensures long { length result.numbers.now ≡ length self.now.rows }
+        ensures few { length result.numbers.now ≤ max_block_rows }
     {
         let rows = self.row_feeders.len();
         let first = MAX_BLOCK_ROWS * c;
-        &self.places[first..first + rows]
+        BlockColumn {
+            offset: self.limits[c].least(),
+            numbers: &self.numbers[first..first + rows],
+            not_null: self.not_null[c],
+        }
     }
-}
-
-/// Writes the entries of a row that fits, each into place `at` of its column's.
-fn write_row(values: &[Option<i128>], at: usize, places: &mut Vec<Option<i64>>)
-    requires at { at < max_block_rows }
-    requires long { length places.old.items ≡ max_block_rows * length values.now }
-    requires small { (c : ℕ) → c < length values.now → IsI64 (entry_at values.now c) }
-    ensures long { length places.new.items ≡ length places.old.items }
-    ensures others { (c r : ℕ) → r < max_block_rows → r ≢ at →
-        slice_index_or places.new.items (max_block_rows * c + r) None
-        ≡ slice_index_or places.old.items (max_block_rows * c + r) None }
-    ensures row { (c : ℕ) → c < length values.now →
-        slice_index_or places.new.items (max_block_rows * c + at) None ≡ entry_at values.now c }
-{
-    'columns: for (c, value) in values.iter().enumerate() {
-        places[MAX_BLOCK_ROWS * c + at] = to_i64(*value);
-    }
-}
-
-/// Writes the entries of a row, each into place `at` of its column's.
-fn write_entries(entries: &[Option<i64>], at: usize, places: &mut Vec<Option<i64>>)
-    requires at { at < max_block_rows }
-    requires long { length places.old.items ≡ max_block_rows * length entries.now }
-    ensures long { length places.new.items ≡ length places.old.items }
-    ensures others { (c r : ℕ) → r < max_block_rows → r ≢ at →
-        slice_index_or places.new.items (max_block_rows * c + r) None
-        ≡ slice_index_or places.old.items (max_block_rows * c + r) None }
-    ensures row { (c : ℕ) → c < length entries.now →
-        slice_index_or places.new.items (max_block_rows * c + at) None ≡ entry_at entries.now c }
-{
-    'columns: for (c, entry) in entries.iter().enumerate() {
-        places[MAX_BLOCK_ROWS * c + at] = *entry;
-    }
-}
-
-/// Reads the entries of a row, each from place `at` of its column's.
-fn read_entries(
-    alloc: Global,
-    columns: usize,
-    at: usize,
-    places: &[Option<i64>],
-) -> Result<Vec<Option<i128>>, NoMemory>
-    requires at { at < max_block_rows }
-    requires long { length places.now ≡ max_block_rows * columns }
-    ensures { IfOk result (λ values. values.items ≡ placed_row columns places.now at) }
-{
-    let mut values = Vec::with_capacity(alloc, columns)?;
-    'columns: for c in 0..columns {
-        values.push_reserved(to_i128(places[MAX_BLOCK_ROWS * c + at]));
-    }
-    Ok(values)
-}
-
-/// Returns the same entry, as a number of 128 bits.
-fn to_i128(entry: Option<i64>) -> Option<i128>
-    ensures { result ≡ entry }
-{
-    let number = entry?;
-    Some(i128::from(number))
 }

@@ -3,6 +3,7 @@
 
 mod arranging;
 mod block;
+mod cells;
 mod errors;
 mod event;
 pub mod laws;
@@ -10,7 +11,7 @@ mod query;
 mod sizes;
 
 pub use arranging::arrange;
-pub use block::{Block, MAX_BLOCK_ROWS};
+pub use block::{Block, BlockColumn, MAX_BLOCK_ROWS};
 pub use bsi_orders::Op;
 pub use bsi_schema::{ColumnSpec, Form, MAX_SLICES, Row, Schema, SchemaError};
 pub use errors::{AppendError, AskError, IndexError};

@@ -27,6 +27,13 @@ impl Limits {
         }
     }
 
+    /// Returns the least of these numbers.
+    pub fn least(self) -> i64
+        ensures { result ≡ self.least }
+    {
+        self.least
+    }
+
     /// Returns whether an entry is a null or one of these numbers.
     pub fn takes(self, entry: Option<i128>) -> bool
         ensures { result ≡ is_between self.least self.size entry }

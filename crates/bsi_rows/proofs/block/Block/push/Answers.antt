@@ -1,41 +1,41 @@
-use Rattle.std.proofs.Common.{◌≡◌, ◌<◌, length, true, ap, sym, subst, arith, ◌∙◌}
-use Rattle.std.proofs.lemmas.List.Elements.{All-get_or}
-use Rattle.bsi_digits.specs.Signed.{IsI64}
-use Rattle.bsi_schema.specs.Columns.{column_at, entry_at, fits, no_column, IsColumn}
-use Rattle.bsi_schema.proofs.Fitting.{fits-at, fits-length, taken_small}
-use Rattle.bsi_rows.specs.RowBlocks.{placed_rows, with_block_row, IsBlock}
-use Rattle.bsi_rows.proofs.BlockRows.{block_more, length-placed_rows, rows_more}
+use Rattle.std.proofs.Common.{◌≡◌, ◌<◌, ℕ, List, [], ◌∷◌, ◌++◌, drop, length, true, ap, ap₂, sym, subst, arith, ◌∙◌}
+use Rattle.bsi_schema.specs.Columns.{entry_at, fits, Entries}
+use Rattle.bsi_schema.specs.declared.limits.Limits.{Limits}
+use Rattle.bsi_schema.proofs.Fitting.{fits-length, limits_long}
+use Rattle.bsi_rows.specs.RowBlocks.{least_at, placed_entry, placed_rows, with_block_row, IsBlock, IsFrom, IsSameCell, IsWritten}
+use Rattle.bsi_rows.proofs.BlockCells.{block_more, fitting_from, of_same, rows_more, same_before, written_back}
+use Rattle.bsi_rows.proofs.BlockRows.{length-placed_rows}
 use Rattle.bsi_rows.proofs.block.Block.push.Goals as goal
 
-pub write_row-requires-clause-at : goal.write_row-requires-clause-at
-write_row-requires-clause-at c =
+pub write_row-requires-clause-wide : goal.write_row-requires-clause-wide
+write_row-requires-clause-wide c =
     let i = c.self.inside in
-    let rows = length-placed_rows (length i.schema.value.columns) i.row_feeders.items i.places.items in
+    let columns = i.schema.value.columns in
+    let s = c.self.invariant.0 in
+    let fit : fits columns c.args.row.now ≡ true = sym (c.take_each.ensures columns (c.deref.ensures.value ∙ s.limits_are)) ∙ c.if-not-take_each.false in
+    omega (arith, fits-length columns c.args.row.now fit, ap length c.values.ensures, ap length c.deref-2.ensures.value, limits_long columns i.limits.items s.limits_are)
+
+pub write_row-requires-clause-place : goal.write_row-requires-clause-place
+write_row-requires-clause-place c =
+    let i = c.self.inside in
+    let rows = length-placed_rows (length i.schema.value.columns) i.row_feeders.items (placed_entry i.limits.items i.numbers.items i.not_null.items) in
     omega (arith, c.len-at.ensures, rows, ap (λ b. length b.rows) c.self.view_is, c.requires.room)
 
-pub write_row-requires-clause-long : goal.write_row-requires-clause-long
-write_row-requires-clause-long c =
-    let columns = c.self.inside.schema.value.columns in
+pub write_row-requires-clause-range : goal.write_row-requires-clause-range
+write_row-requires-clause-range c =
+    let i = c.self.inside in
+    let columns = i.schema.value.columns in
     let s = c.self.invariant.0 in
     let fit : fits columns c.args.row.now ≡ true = sym (c.take_each.ensures columns (c.deref.ensures.value ∙ s.limits_are)) ∙ c.if-not-take_each.false in
-    omega (arith, s.long, ap length c.values.ensures, fits-length columns c.args.row.now fit)
-
--- a column takes numbers of 64 bits alone
-pub write_row-requires-clause-small : goal.write_row-requires-clause-small
-write_row-requires-clause-small c = λ k within.
-    let columns = c.self.inside.schema.value.columns in
-    let s = c.self.invariant.0 in
-    let fit : fits columns c.args.row.now ≡ true = sym (c.take_each.ensures columns (c.deref.ensures.value ∙ s.limits_are)) ∙ c.if-not-take_each.false in
-    let there : k < length columns = omega (arith, within, ap length c.values.ensures, fits-length columns c.args.row.now fit) in
-    let column = All-get_or IsColumn columns k no_column there s.columns_are in
-    subst (λ row. IsI64 (entry_at row k)) (sym c.values.ensures)
-    (taken_small (column_at columns k) column.low column.below (entry_at c.args.row.now k) (fits-at columns c.args.row.now k fit there))
+    subst (λ (limits : List Limits). (k : ℕ) → k < length limits → IsFrom (least_at limits k) (entry_at c.values.result.now k)) (sym c.deref-2.ensures.value)
+    (subst (λ (row : Entries). (k : ℕ) → k < length i.limits.items → IsFrom (least_at i.limits.items k) (entry_at row k)) (sym c.values.ensures)
+    (fitting_from columns i.limits.items s.limits_are s.columns_are c.args.row.now fit))
 
 pub push_reserved-requires : goal.push_reserved-requires
 push_reserved-requires c =
     let i = c.self.inside in
-    let rows = length-placed_rows (length i.schema.value.columns) i.row_feeders.items i.places.items in
-    omega (arith, c.len-at.ensures, rows, ap (λ b. length b.rows) c.self.view_is, c.requires.room, c.self.invariant.1)
+    let rows = length-placed_rows (length i.schema.value.columns) i.row_feeders.items (placed_entry i.limits.items i.numbers.items i.not_null.items) in
+    omega (arith, rows, ap (λ b. length b.rows) c.self.view_is, c.requires.room, c.self.invariant.1)
 
 pub invariant_of-self : goal.invariant_of-self
 invariant_of-self c =
@@ -43,16 +43,22 @@ invariant_of-self c =
     let columns = i.schema.value.columns in
     let s = c.self.invariant.0 in
     let w = c.write_row.ensures in
-    let row = c.args.row.now in
-    let rows = length-placed_rows (length columns) i.row_feeders.items i.places.items in
-    let fit : fits columns row ≡ true = sym (c.take_each.ensures columns (c.deref.ensures.value ∙ s.limits_are)) ∙ c.if-not-take_each.false in
+    let cells_before : (k r : ℕ) → IsSameCell c.deref_mut.result.now c.deref_mut-2.result.now c.write_row.new.numbers c.write_row.new.not_null k r
+        → IsSameCell i.numbers.items i.not_null.items c.write_row.new.numbers c.write_row.new.not_null k r =
+    λ k r same. same_before c.deref_mut.result.now i.numbers.items c.deref_mut-2.result.now i.not_null.items c.write_row.new.numbers c.write_row.new.not_null k r c.deref_mut.ensures.value c.deref_mut-2.ensures.value same in
+    let numbers = written_back i.numbers.len c.write_row.new.numbers (drop (length c.write_row.new.numbers) i.numbers.items) (omega (arith, w.long, c.deref_mut.ensures.len)) in
+    let words = written_back i.not_null.len c.write_row.new.not_null (drop (length c.write_row.new.not_null) i.not_null.items) (omega (arith, w.words, c.deref_mut-2.ensures.len)) in
+    let rows = length-placed_rows (length columns) i.row_feeders.items (placed_entry i.limits.items i.numbers.items i.not_null.items) in
+    let fit : fits columns c.args.row.now ≡ true = sym (c.take_each.ensures columns (c.deref.ensures.value ∙ s.limits_are)) ∙ c.if-not-take_each.false in
     let room : c.len-at.result < 64 = omega (arith, c.len-at.ensures, rows, ap (λ b. length b.rows) c.self.view_is, c.requires.room) in
-    let fed : c.args.feeder < i.feeders = omega (arith, ap (λ b. b.feeders) c.self.view_is, c.requires.feeder) in
-    let wide = ap length c.values.ensures in (
-      subst (λ row_feeders. IsBlock columns i.limits.items i.feeders row_feeders c.write_row.new.places.items) (sym c.push_reserved.ensures.items)
-          (block_more columns i.limits.items i.feeders i.row_feeders.items i.places.items c.write_row.new.places.items s
-          c.args.feeder c.len-at.result row (omega (arith, c.len-at.ensures)) room fed fit w.long w.others
-          (λ k within. w.row k (omega (arith, within, wide, fits-length columns row fit)) ∙ ap (λ r. entry_at r k) c.values.ensures)),
+    let fed : c.args.feeder < i.feeders = omega (arith, ap (λ b. b.feeders) c.self.view_is, c.requires.feeder) in (
+      of_same (IsBlock columns i.limits.items i.feeders) c.push_reserved.ensures.items numbers words
+          (block_more columns i.limits.items i.feeders i.row_feeders.items i.numbers.items i.not_null.items c.write_row.new.numbers c.write_row.new.not_null s
+          c.args.feeder c.len-at.result c.args.row.now (omega (arith, c.len-at.ensures)) room fed fit (w.long ∙ ap length c.deref_mut.ensures.value) (w.words ∙ ap length c.deref_mut-2.ensures.value)
+          (λ k r near apart. cells_before k r (w.rows k r near apart))
+          (λ k within. subst (λ (limits : List Limits). IsWritten limits c.write_row.new.numbers c.write_row.new.not_null k c.len-at.result (entry_at c.args.row.now k)) c.deref-2.ensures.value
+          (subst (λ (row : Entries). IsWritten c.deref-2.result.now c.write_row.new.numbers c.write_row.new.not_null k c.len-at.result (entry_at row k)) c.values.ensures
+          (w.written k (omega (arith, within, ap length c.deref-2.ensures.value, limits_long columns i.limits.items s.limits_are)))))),
       omega (arith, c.self.invariant.1, c.push_reserved.ensures.capacity),
     )
 
@@ -60,18 +66,23 @@ pub returns-clause-added : goal.returns-clause-added
 returns-clause-added c = λ yes.
     let i = c.self.inside in
     let columns = i.schema.value.columns in
-    let new = c.write_row.new.places.items in
     let s = c.self.invariant.0 in
     let w = c.write_row.ensures in
-    let row = c.args.row.now in
-    let rows = length-placed_rows (length columns) i.row_feeders.items i.places.items in
-    let fit : fits columns row ≡ true = sym (c.take_each.ensures columns (c.deref.ensures.value ∙ s.limits_are)) ∙ c.if-not-take_each.false in
+    let cells_before : (k r : ℕ) → IsSameCell c.deref_mut.result.now c.deref_mut-2.result.now c.write_row.new.numbers c.write_row.new.not_null k r
+        → IsSameCell i.numbers.items i.not_null.items c.write_row.new.numbers c.write_row.new.not_null k r =
+    λ k r same. same_before c.deref_mut.result.now i.numbers.items c.deref_mut-2.result.now i.not_null.items c.write_row.new.numbers c.write_row.new.not_null k r c.deref_mut.ensures.value c.deref_mut-2.ensures.value same in
+    let numbers = written_back i.numbers.len c.write_row.new.numbers (drop (length c.write_row.new.numbers) i.numbers.items) (omega (arith, w.long, c.deref_mut.ensures.len)) in
+    let words = written_back i.not_null.len c.write_row.new.not_null (drop (length c.write_row.new.not_null) i.not_null.items) (omega (arith, w.words, c.deref_mut-2.ensures.len)) in
+    let rows = length-placed_rows (length columns) i.row_feeders.items (placed_entry i.limits.items i.numbers.items i.not_null.items) in
+    let fit : fits columns c.args.row.now ≡ true = sym (c.take_each.ensures columns (c.deref.ensures.value ∙ s.limits_are)) ∙ c.if-not-take_each.false in
     let room : c.len-at.result < 64 = omega (arith, c.len-at.ensures, rows, ap (λ b. length b.rows) c.self.view_is, c.requires.room) in
     let fed : c.args.feeder < i.feeders = omega (arith, ap (λ b. b.feeders) c.self.view_is, c.requires.feeder) in
-    let wide = ap length c.values.ensures in
     ap (λ xs. record { schema = i.schema.value; feeders = i.feeders; rows = xs })
-    (ap (λ xs. placed_rows (length columns) xs new) c.push_reserved.ensures.items
-    ∙ rows_more columns i.limits.items i.feeders i.row_feeders.items i.places.items new s
-    c.args.feeder c.len-at.result row (omega (arith, c.len-at.ensures)) room fed fit w.long w.others
-    (λ k within. w.row k (omega (arith, within, wide, fits-length columns row fit)) ∙ ap (λ r. entry_at r k) c.values.ensures))
-    ∙ ap (λ b. with_block_row b c.args.feeder row) c.self.view_is
+    (of_same (λ xs ns ws. placed_rows (length columns) xs (placed_entry i.limits.items ns ws) ≡ placed_rows (length columns) i.row_feeders.items (placed_entry i.limits.items i.numbers.items i.not_null.items) ++ (c.args.feeder, c.args.row.now) ∷ []) c.push_reserved.ensures.items numbers words
+    (rows_more columns i.limits.items i.feeders i.row_feeders.items i.numbers.items i.not_null.items c.write_row.new.numbers c.write_row.new.not_null s
+    c.args.feeder c.len-at.result c.args.row.now (omega (arith, c.len-at.ensures)) room fed fit (w.long ∙ ap length c.deref_mut.ensures.value) (w.words ∙ ap length c.deref_mut-2.ensures.value)
+          (λ k r near apart. cells_before k r (w.rows k r near apart))
+          (λ k within. subst (λ (limits : List Limits). IsWritten limits c.write_row.new.numbers c.write_row.new.not_null k c.len-at.result (entry_at c.args.row.now k)) c.deref-2.ensures.value
+          (subst (λ (row : Entries). IsWritten c.deref-2.result.now c.write_row.new.numbers c.write_row.new.not_null k c.len-at.result (entry_at row k)) c.values.ensures
+          (w.written k (omega (arith, within, ap length c.deref-2.ensures.value, limits_long columns i.limits.items s.limits_are)))))))
+    ∙ ap (λ b. with_block_row b c.args.feeder c.args.row.now) c.self.view_is

@@ -1,39 +1,58 @@
-use Rattle.std.proofs.Common.{◌<◌, length, ap, sym, subst, arith, ◌∙◌}
-use Rattle.bsi_schema.specs.Columns.{fits}
-use Rattle.bsi_schema.proofs.Fitting.{fits-length}
-use Rattle.bsi_rows.specs.RowBlocks.{placed_rows, with_block_row, IsBlock}
-use Rattle.bsi_rows.proofs.BlockRows.{block_more, length-placed_rows, rows_more}
+use Rattle.std.proofs.Common.{◌≡◌, ◌<◌, ℕ, List, [], ◌∷◌, ◌++◌, drop, length, true, ap, ap₂, sym, subst, arith, ◌∙◌}
+use Rattle.bsi_schema.specs.Columns.{entry_at, fits}
+use Rattle.bsi_schema.specs.declared.limits.Limits.{Limits}
+use Rattle.bsi_schema.proofs.Fitting.{fits-length, limits_long}
+use Rattle.bsi_rows.specs.RowBlocks.{least_at, placed_entry, placed_rows, with_block_row, IsBlock, IsFrom, IsSameCell, IsWritten}
+use Rattle.bsi_rows.proofs.BlockCells.{block_more, fitting_from, of_same, rows_more, same_before, written_back}
+use Rattle.bsi_rows.proofs.BlockRows.{length-placed_rows}
 use Rattle.bsi_rows.proofs.block.Block.push_fitting.Goals as goal
 
-pub write_entries-requires-clause-at : goal.write_entries-requires-clause-at
-write_entries-requires-clause-at c =
+pub write_entries-requires-clause-wide : goal.write_entries-requires-clause-wide
+write_entries-requires-clause-wide c =
     let i = c.self.inside in
-    let rows = length-placed_rows (length i.schema.value.columns) i.row_feeders.items i.places.items in
+    let wide = fits-length c.args.self.now.schema.columns c.args.entries.now c.requires.fits in
+    omega (arith, wide, ap length c.deref.ensures.value, limits_long i.schema.value.columns i.limits.items c.self.invariant.0.limits_are, ap (λ b. length b.schema.columns) c.self.view_is)
+
+pub write_entries-requires-clause-place : goal.write_entries-requires-clause-place
+write_entries-requires-clause-place c =
+    let i = c.self.inside in
+    let rows = length-placed_rows (length i.schema.value.columns) i.row_feeders.items (placed_entry i.limits.items i.numbers.items i.not_null.items) in
     omega (arith, c.len-at.ensures, rows, ap (λ b. length b.rows) c.self.view_is, c.requires.room)
 
-pub write_entries-requires-clause-long : goal.write_entries-requires-clause-long
-write_entries-requires-clause-long c =
-    let wide = fits-length c.args.self.now.schema.columns c.args.entries.now c.requires.fits in
-    omega (arith, wide, c.self.invariant.0.long, ap (λ b. length b.schema.columns) c.self.view_is)
+pub write_entries-requires-clause-range : goal.write_entries-requires-clause-range
+write_entries-requires-clause-range c =
+    let i = c.self.inside in
+    let s = c.self.invariant.0 in
+    subst (λ (limits : List Limits). (k : ℕ) → k < length limits → IsFrom (least_at limits k) (entry_at c.args.entries.now k)) (sym c.deref.ensures.value)
+    (fitting_from i.schema.value.columns i.limits.items s.limits_are s.columns_are c.args.entries.now (ap (λ b. fits b.schema.columns c.args.entries.now) c.self.view_is ∙ c.requires.fits))
 
 pub push_reserved-requires : goal.push_reserved-requires
 push_reserved-requires c =
     let i = c.self.inside in
-    let rows = length-placed_rows (length i.schema.value.columns) i.row_feeders.items i.places.items in
+    let rows = length-placed_rows (length i.schema.value.columns) i.row_feeders.items (placed_entry i.limits.items i.numbers.items i.not_null.items) in
     omega (arith, rows, ap (λ b. length b.rows) c.self.view_is, c.requires.room, c.self.invariant.1)
 
 pub invariant_of-self : goal.invariant_of-self
 invariant_of-self c =
     let i = c.self.inside in
     let columns = i.schema.value.columns in
+    let s = c.self.invariant.0 in
     let w = c.write_entries.ensures in
-    let rows = length-placed_rows (length columns) i.row_feeders.items i.places.items in
+    let cells_before : (k r : ℕ) → IsSameCell c.deref_mut.result.now c.deref_mut-2.result.now c.write_entries.new.numbers c.write_entries.new.not_null k r
+        → IsSameCell i.numbers.items i.not_null.items c.write_entries.new.numbers c.write_entries.new.not_null k r =
+    λ k r same. same_before c.deref_mut.result.now i.numbers.items c.deref_mut-2.result.now i.not_null.items c.write_entries.new.numbers c.write_entries.new.not_null k r c.deref_mut.ensures.value c.deref_mut-2.ensures.value same in
+    let numbers = written_back i.numbers.len c.write_entries.new.numbers (drop (length c.write_entries.new.numbers) i.numbers.items) (omega (arith, w.long, c.deref_mut.ensures.len)) in
+    let words = written_back i.not_null.len c.write_entries.new.not_null (drop (length c.write_entries.new.not_null) i.not_null.items) (omega (arith, w.words, c.deref_mut-2.ensures.len)) in
+    let rows = length-placed_rows (length columns) i.row_feeders.items (placed_entry i.limits.items i.numbers.items i.not_null.items) in
     let fit = ap (λ b. fits b.schema.columns c.args.entries.now) c.self.view_is ∙ c.requires.fits in
     let room : c.len-at.result < 64 = omega (arith, c.len-at.ensures, rows, ap (λ b. length b.rows) c.self.view_is, c.requires.room) in
     let fed : c.args.feeder < i.feeders = omega (arith, ap (λ b. b.feeders) c.self.view_is, c.requires.feeder) in (
-      subst (λ row_feeders. IsBlock columns i.limits.items i.feeders row_feeders c.write_entries.new.places.items) (sym c.push_reserved.ensures.items)
-          (block_more columns i.limits.items i.feeders i.row_feeders.items i.places.items c.write_entries.new.places.items c.self.invariant.0
-          c.args.feeder c.len-at.result c.args.entries.now (omega (arith, c.len-at.ensures)) room fed fit w.long w.others w.row),
+      of_same (IsBlock columns i.limits.items i.feeders) c.push_reserved.ensures.items numbers words
+          (block_more columns i.limits.items i.feeders i.row_feeders.items i.numbers.items i.not_null.items c.write_entries.new.numbers c.write_entries.new.not_null s
+          c.args.feeder c.len-at.result c.args.entries.now (omega (arith, c.len-at.ensures)) room fed fit (w.long ∙ ap length c.deref_mut.ensures.value) (w.words ∙ ap length c.deref_mut-2.ensures.value)
+          (λ k r near apart. cells_before k r (w.rows k r near apart))
+          (λ k within. subst (λ (limits : List Limits). IsWritten limits c.write_entries.new.numbers c.write_entries.new.not_null k c.len-at.result (entry_at c.args.entries.now k)) c.deref.ensures.value
+          (w.written k (omega (arith, within, ap length c.deref.ensures.value, limits_long columns i.limits.items s.limits_are))))),
       omega (arith, c.self.invariant.1, c.push_reserved.ensures.capacity),
     )
 
@@ -41,14 +60,22 @@ pub returns : goal.returns
 returns c =
     let i = c.self.inside in
     let columns = i.schema.value.columns in
-    let new = c.write_entries.new.places.items in
+    let s = c.self.invariant.0 in
     let w = c.write_entries.ensures in
-    let rows = length-placed_rows (length columns) i.row_feeders.items i.places.items in
+    let cells_before : (k r : ℕ) → IsSameCell c.deref_mut.result.now c.deref_mut-2.result.now c.write_entries.new.numbers c.write_entries.new.not_null k r
+        → IsSameCell i.numbers.items i.not_null.items c.write_entries.new.numbers c.write_entries.new.not_null k r =
+    λ k r same. same_before c.deref_mut.result.now i.numbers.items c.deref_mut-2.result.now i.not_null.items c.write_entries.new.numbers c.write_entries.new.not_null k r c.deref_mut.ensures.value c.deref_mut-2.ensures.value same in
+    let numbers = written_back i.numbers.len c.write_entries.new.numbers (drop (length c.write_entries.new.numbers) i.numbers.items) (omega (arith, w.long, c.deref_mut.ensures.len)) in
+    let words = written_back i.not_null.len c.write_entries.new.not_null (drop (length c.write_entries.new.not_null) i.not_null.items) (omega (arith, w.words, c.deref_mut-2.ensures.len)) in
+    let rows = length-placed_rows (length columns) i.row_feeders.items (placed_entry i.limits.items i.numbers.items i.not_null.items) in
     let fit = ap (λ b. fits b.schema.columns c.args.entries.now) c.self.view_is ∙ c.requires.fits in
     let room : c.len-at.result < 64 = omega (arith, c.len-at.ensures, rows, ap (λ b. length b.rows) c.self.view_is, c.requires.room) in
     let fed : c.args.feeder < i.feeders = omega (arith, ap (λ b. b.feeders) c.self.view_is, c.requires.feeder) in
     ap (λ xs. record { schema = i.schema.value; feeders = i.feeders; rows = xs })
-    (ap (λ xs. placed_rows (length columns) xs new) c.push_reserved.ensures.items
-    ∙ rows_more columns i.limits.items i.feeders i.row_feeders.items i.places.items new c.self.invariant.0
-    c.args.feeder c.len-at.result c.args.entries.now (omega (arith, c.len-at.ensures)) room fed fit w.long w.others w.row)
+    (of_same (λ xs ns ws. placed_rows (length columns) xs (placed_entry i.limits.items ns ws) ≡ placed_rows (length columns) i.row_feeders.items (placed_entry i.limits.items i.numbers.items i.not_null.items) ++ (c.args.feeder, c.args.entries.now) ∷ []) c.push_reserved.ensures.items numbers words
+    (rows_more columns i.limits.items i.feeders i.row_feeders.items i.numbers.items i.not_null.items c.write_entries.new.numbers c.write_entries.new.not_null s
+    c.args.feeder c.len-at.result c.args.entries.now (omega (arith, c.len-at.ensures)) room fed fit (w.long ∙ ap length c.deref_mut.ensures.value) (w.words ∙ ap length c.deref_mut-2.ensures.value)
+          (λ k r near apart. cells_before k r (w.rows k r near apart))
+          (λ k within. subst (λ (limits : List Limits). IsWritten limits c.write_entries.new.numbers c.write_entries.new.not_null k c.len-at.result (entry_at c.args.entries.now k)) c.deref.ensures.value
+          (w.written k (omega (arith, within, ap length c.deref.ensures.value, limits_long columns i.limits.items s.limits_are))))))
     ∙ ap (λ b. with_block_row b c.args.feeder c.args.entries.now) c.self.view_is

@@ -1,24 +1,39 @@
-use Rattle.std.proofs.Common.{◌≡◌, ◌<◌, Some, length, ap, ap₂, sym, arith, ◌∙◌}
+use Rattle.std.proofs.Common.{◌≡◌, ◌<◌, List, ℕ, Some, length, ap, ap₂, sym, rules, arith, ◌∙◌}
 use Rattle.std.specs.Prelude.{slice_get}
 use Rattle.bsi_schema.proofs.Fitting.{limits_long}
-use Rattle.bsi_rows.specs.RowBlocks.{entries_of, placed_row}
+use Rattle.bsi_schema.specs.declared.limits.Limits.{Limits}
+use Rattle.bsi_rows.specs.RowBlocks.{entries_of, placed_entry, placed_row}
 use Rattle.bsi_rows.proofs.BlockRows.{length-placed_rows, row-placed_rows}
 use Rattle.bsi_rows.proofs.block.Block.row.Goals as goal
 
-pub read_entries-requires-clause-at : goal.read_entries-requires-clause-at
-read_entries-requires-clause-at c =
+pub read_row-requires-clause-long : goal.read_row-requires-clause-long
+read_row-requires-clause-long c =
     let i = c.self.inside in
-    let rows = length-placed_rows (length i.schema.value.columns) i.row_feeders.items i.places.items in
+    omega (arith, c.self.invariant.0.long, limits_long i.schema.value.columns i.limits.items c.self.invariant.0.limits_are, ap length c.deref.ensures.value, ap length c.deref-2.ensures.value, ap length c.deref-3.ensures.value)
+
+pub read_row-requires-clause-words : goal.read_row-requires-clause-words
+read_row-requires-clause-words c =
+    let i = c.self.inside in
+    omega (arith, c.self.invariant.0.words, limits_long i.schema.value.columns i.limits.items c.self.invariant.0.limits_are, ap length c.deref.ensures.value, ap length c.deref-2.ensures.value, ap length c.deref-3.ensures.value)
+
+pub read_row-requires-clause-place : goal.read_row-requires-clause-place
+read_row-requires-clause-place c =
+    let i = c.self.inside in
+    let rows = length-placed_rows (length i.schema.value.columns) i.row_feeders.items (placed_entry i.limits.items i.numbers.items i.not_null.items) in
     omega (arith, c.requires, rows, ap (λ b. length b.rows) c.self.view_is, c.self.invariant.0.few)
 
 pub returns : goal.returns
 returns c =
     let i = c.self.inside in
     let columns = length i.schema.value.columns in
-    let rows = length-placed_rows columns i.row_feeders.items i.places.items in
+    let entry = placed_entry i.limits.items i.numbers.items i.not_null.items in
+    let rows = length-placed_rows columns i.row_feeders.items entry in
     let below : c.args.r < length i.row_feeders.items = omega (arith, c.requires, rows, ap (λ b. length b.rows) c.self.view_is) in
-    let wide : c.len.result ≡ columns = omega (arith, c.len.ensures, limits_long i.schema.value.columns i.limits.items c.self.invariant.0.limits_are) in
-    let is : c.new.result ≡ placed_row columns i.places.items c.args.r =
-    c.new.ensures ∙ c.in_ok-read_entries.ensures ∙ ap₂ (λ n ps. placed_row n ps c.args.r) wide c.deref.ensures.value in
+    let is : c.new.result ≡ placed_row columns entry c.args.r =
+    let limits = i.limits.items in
+    c.new.ensures ∙ c.in_ok-entries.ensures
+    ∙ ap (λ (ls : List Limits). placed_row (length ls) (placed_entry ls c.deref-2.result.now c.deref-3.result.now) c.args.r) c.deref.ensures.value
+    ∙ ap₂ (λ (numbers words : List ℕ). placed_row (length limits) (placed_entry limits numbers words) c.args.r) c.deref-2.ensures.value c.deref-3.ensures.value
+    ∙ ap (λ n. placed_row n entry c.args.r) (limits_long i.schema.value.columns limits c.self.invariant.0.limits_are) in
     ap (λ b. slice_get (entries_of b.rows) c.args.r) (sym c.self.view_is)
-    ∙ row-placed_rows columns i.row_feeders.items i.places.items c.args.r below ∙ ap Some (sym is)
+    ∙ row-placed_rows columns i.row_feeders.items entry c.args.r below ∙ ap Some (sym is)

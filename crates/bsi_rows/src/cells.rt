@@ -1,0 +1,202 @@
+//! The entries of the rows of a block, column by column. The numbers of column `c` stand in 64 places from place
+//! `64 * c` on, each less the least number that the column takes, and bit `r` of word `c` tells whether entry `r` is one.
+
+ghost use Rattle.std.specs.Prelude.{◌≡◌, ◌≢◌, ℕ, pos, ◌+◌, ◌*◌, ◌^◌, ◌<◌, ◌≤◌, ◌+ℤ◌, IfOk, Some, length, slice_index, slice_index_or, true, false};
+ghost use Rattle.std.specs.Int.{bit_at};
+ghost use Rattle.bsi_schema.specs.Columns.{entry_at};
+ghost use Rattle.bsi_rows.specs.RowBlocks.{least_at, max_block_rows, placed_entry, placed_row, value_entry, IsFrom, IsSameCell, IsWritten};
+
+use crate::NoMemory;
+use crate::block::MAX_BLOCK_ROWS;
+use bsi_schema::Limits;
+use std::alloc::Global;
+
+/// Returns how far a number is above the least one.
+fn distance(least: i64, number: i128) -> u64
+    requires { IsFrom least (Some number) }
+    ensures { least +ℤ pos result ≡ number }
+{
+    (number - i128::from(least)) as u64
+}
+
+/// Writes entry `r` of column `c`, of which there is none yet: a null, or a number that the column takes.
+fn write_entry(
+    limits: &[Limits],
+    entry: Option<i128>,
+    c: usize,
+    r: usize,
+    numbers: &mut [u64],
+    not_null: &mut [u64],
+)
+    requires within { c < length limits.now }
+    requires long { length numbers.old ≡ max_block_rows * length limits.now }
+    requires words { length not_null.old ≡ length limits.now }
+    requires place { r < max_block_rows }
+    requires range { IsFrom (least_at limits.now c) entry }
+    requires clear { slice_index not_null.old c < 2 ^ r }
+    ensures long { length numbers.new ≡ length numbers.old }
+    ensures words { length not_null.new ≡ length not_null.old }
+    ensures written { IsWritten limits.now numbers.new not_null.new c r entry }
+    ensures rows { (k s : ℕ) → s < max_block_rows → s ≢ r →
+        IsSameCell numbers.old not_null.old numbers.new not_null.new k s }
+    ensures columns { (k : ℕ) → k ≢ c →
+        IsSameCell numbers.old not_null.old numbers.new not_null.new k r }
+    ensures kept { (k : ℕ) → k ≢ c → slice_index not_null.new k ≡ slice_index not_null.old k }
+{
+    let Some(number) = entry else {
+        numbers[MAX_BLOCK_ROWS * c + r] = 0;
+        return;
+    };
+    numbers[MAX_BLOCK_ROWS * c + r] = distance(limits[c].least(), number);
+    not_null[c] |= 1 << r;
+}
+
+/// Writes the entries of row `r`, of which there is none yet, and each of which its column takes.
+pub(crate) fn write_row(
+    limits: &[Limits],
+    entries: &[Option<i128>],
+    r: usize,
+    numbers: &mut [u64],
+    not_null: &mut [u64],
+)
+    requires wide { length entries.now ≡ length limits.now }
+    requires long { length numbers.old ≡ max_block_rows * length limits.now }
+    requires words { length not_null.old ≡ length limits.now }
+    requires place { r < max_block_rows }
+    requires range { (c : ℕ) → c < length limits.now →
+        IsFrom (least_at limits.now c) (entry_at entries.now c) }
+    requires clear { (c : ℕ) → slice_index not_null.old c < 2 ^ r }
+    ensures long { length numbers.new ≡ length numbers.old }
+    ensures words { length not_null.new ≡ length not_null.old }
+    ensures written { (c : ℕ) → c < length limits.now →
+        IsWritten limits.now numbers.new not_null.new c r (entry_at entries.now c) }
+    ensures rows { (c s : ℕ) → s < max_block_rows → s ≢ r →
+        IsSameCell numbers.old not_null.old numbers.new not_null.new c s }
+{
+    'columns: for (c, entry) in entries.iter().enumerate() {
+        write_entry(limits, *entry, c, r, numbers, not_null);
+    }
+}
+
+/// Writes the entries of row `r`, as `write_row` does.
+pub(crate) fn write_entries(
+    limits: &[Limits],
+    entries: &[Option<i64>],
+    r: usize,
+    numbers: &mut [u64],
+    not_null: &mut [u64],
+)
+    requires wide { length entries.now ≡ length limits.now }
+    requires long { length numbers.old ≡ max_block_rows * length limits.now }
+    requires words { length not_null.old ≡ length limits.now }
+    requires place { r < max_block_rows }
+    requires range { (c : ℕ) → c < length limits.now →
+        IsFrom (least_at limits.now c) (entry_at entries.now c) }
+    requires clear { (c : ℕ) → slice_index not_null.old c < 2 ^ r }
+    ensures long { length numbers.new ≡ length numbers.old }
+    ensures words { length not_null.new ≡ length not_null.old }
+    ensures written { (c : ℕ) → c < length limits.now →
+        IsWritten limits.now numbers.new not_null.new c r (entry_at entries.now c) }
+    ensures rows { (c s : ℕ) → s < max_block_rows → s ≢ r →
+        IsSameCell numbers.old not_null.old numbers.new not_null.new c s }
+{
+    'columns: for (c, entry) in entries.iter().enumerate() {
+        write_entry(limits, to_i128(*entry), c, r, numbers, not_null);
+    }
+}
+
+/// Returns the same entry, as a number of 128 bits.
+fn to_i128(entry: Option<i64>) -> Option<i128>
+    ensures { result ≡ entry }
+{
+    let number = entry?;
+    Some(i128::from(number))
+}
+
+/// Reads the entries of row `r`.
+pub(crate) fn read_row(
+    alloc: Global,
+    limits: &[Limits],
+    r: usize,
+    numbers: &[u64],
+    not_null: &[u64],
+) -> Result<Vec<Option<i128>>, NoMemory>
+    requires long { length numbers.now ≡ max_block_rows * length limits.now }
+    requires words { length not_null.now ≡ length limits.now }
+    requires place { r < max_block_rows }
+    ensures { IfOk result (λ entries. entries.items
+        ≡ placed_row (length limits.now) (placed_entry limits.now numbers.now not_null.now) r) }
+{
+    let mut entries = Vec::with_capacity(alloc, limits.len())?;
+    'columns: for c in 0..limits.len() {
+        entries.push_reserved(read_entry(limits, c, r, numbers, not_null));
+    }
+    Ok(entries)
+}
+
+/// Reads entry `r` of column `c`.
+fn read_entry(
+    limits: &[Limits],
+    c: usize,
+    r: usize,
+    numbers: &[u64],
+    not_null: &[u64],
+) -> Option<i128>
+    requires within { c < length limits.now }
+    requires long { length numbers.now ≡ max_block_rows * length limits.now }
+    requires words { length not_null.now ≡ length limits.now }
+    requires place { r < max_block_rows }
+    ensures { result ≡ placed_entry limits.now numbers.now not_null.now c r }
+{
+    if not_null[c] >> r & 1 == 0 {
+        return None;
+    }
+    Some(i128::from(limits[c].least()) + i128::from(numbers[MAX_BLOCK_ROWS * c + r]))
+}
+
+/// Returns how far a value is above the least one, and 0 for a null.
+fn stored(least: i64, value: i64, there: bool) -> u64
+    requires { there ≡ true → IsFrom least (Some value) }
+    ensures there { there ≡ true → least +ℤ pos result ≡ value }
+    ensures null { there ≡ false → result ≡ 0 }
+{
+    if there {
+        distance(least, i128::from(value))
+    } else {
+        0
+    }
+}
+
+/// Writes the values of a column, each less `least`, and a 0 for each null.
+pub(crate) fn write_values(least: i64, values: &[i64], not_null: u64, numbers: &mut [u64])
+    requires long { length numbers.old ≡ length values.now }
+    requires few { length values.now ≤ max_block_rows }
+    requires from { (r : ℕ) → r < length values.now →
+        IsFrom least (value_entry values.now not_null r) }
+    ensures long { length numbers.new ≡ length numbers.old }
+    ensures there { (r : ℕ) → r < length values.now → bit_at not_null r ≡ 1 →
+        least +ℤ pos (slice_index numbers.new r) ≡ slice_index_or values.now r (pos 0) }
+    ensures nulls { (r : ℕ) → r < length values.now → bit_at not_null r ≡ 0 →
+        slice_index numbers.new r ≡ 0 }
+{
+    'rows: for (r, value) in values.iter().enumerate() {
+        numbers[r] = stored(least, *value, not_null >> r & 1 == 1);
+    }
+}
+
+/// Writes a 0 in places `from` to `end` of each of so many columns.
+pub(crate) fn write_nulls(columns: usize, from: usize, end: usize, numbers: &mut [u64])
+    requires long { length numbers.old ≡ max_block_rows * columns }
+    requires within { (from ≤ end) × (end ≤ max_block_rows) }
+    ensures long { length numbers.new ≡ length numbers.old }
+    ensures zero { (c r : ℕ) → c < columns → from ≤ r → r < end →
+        slice_index numbers.new (max_block_rows * c + r) ≡ 0 }
+    ensures others { (c r : ℕ) → r < from →
+        slice_index numbers.new (max_block_rows * c + r)
+        ≡ slice_index numbers.old (max_block_rows * c + r) }
+{
+    'columns: for c in 0..columns {
+        let first = MAX_BLOCK_ROWS * c;
+        numbers[first + from..first + end].fill(0);
+    }
+}
