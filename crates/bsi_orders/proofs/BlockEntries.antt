@@ -1,11 +1,9 @@
 -- The entries of a block of numbers.
-use Rattle.std.proofs.Common.{◌≡◌, ℕ, ◌+◌, ◌*◌, ◌<◌, ◌≤◌, ◌^◌, Bool, true, false, ℤ, pos, ◌+ℤ◌, List, [], ◌∷◌, ◌++◌, All, Option, Some, None, is_some, length, map, take, get_or, refl, ap, subst, sym, ◌∙◌, inl, inr, arith}
+use Rattle.std.proofs.Common.{◌≡◌, ℕ, ◌<◌, Bool, true, false, ℤ, pos, ◌+ℤ◌, List, All, Option, Some, None, is_some, length, get_or, refl, ap, subst, sym, ◌∙◌, arith}
 use Rattle.std.specs.Prelude.{◌==◌, slice_index, if◌then◌else◌}
 use Rattle.std.specs.Int.{bit_at}
-use Rattle.std.specs.List.{range_with_len}
 use Rattle.std.specs.Option.{option_map}
 use Rattle.std.proofs.lemmas.Bool.Decides.{nat_tests}
-use Rattle.std.proofs.lemmas.Bool.{cases_eq}
 use Rattle.std.proofs.lemmas.List.{get_or-map, length-map}
 use Rattle.std.proofs.lemmas.List.Elements.{All-from_get_or}
 use Rattle.std.proofs.lemmas.List.FromFn.{get_or-map-range_with_len, length-map-range_with_len}
@@ -44,6 +42,7 @@ module _ (numbers : List ℕ) (not_null : ℕ) where
     where
       zero : (bit_at not_null r == 1) ≡ false → bit_at not_null r ≡ 0
       zero clear = let low = bit_at-lt not_null r in grind (arith, nat_tests)
+
       by : (there : Bool) → (there ≡ false → get_or numbers r 0 ≡ 0) → number_or_zero (if there then Some (slice_index numbers r) else None) ≡ get_or numbers r 0
       by true clear = refl
       by false clear = sym (clear refl)

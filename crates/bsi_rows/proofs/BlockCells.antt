@@ -1,25 +1,28 @@
 -- What a block keeps to, as its entries are written.
-use Rattle.std.proofs.Common.{◌≡◌, ◌≢◌, ℕ, ◌+◌, ◌*◌, ◌%◌, ◌^◌, ◌<◌, ◌≤◌, List, [], ◌∷◌, ◌++◌, Option, None, Some, All, length, map, take, drop, get_or, set, bit_or, w64, true, true≢false, is_some, ℤ, pos, ◌+ℤ◌, inl, inr, refl, ap, ap₂, subst, sym, ◌∙◌, arith, below_more}
+use Rattle.std.proofs.Common.{◌≡◌, ◌≢◌, ℕ, ◌+◌, ◌*◌, ◌%◌, ◌^◌, ◌<◌, ◌≤◌, List, [], ◌∷◌, ◌++◌, Option, None, Some, All, Bool, false, length, length-set, map, take, drop, get_or, replicate, set, suc, zero, bit_or, w64, true, true≢false, is_some, ℤ, pos, ◌+ℤ◌, inl, inr, refl, ap, ap₂, subst, sym, ◌∙◌, arith, below_more}
 use Rattle.std.specs.Prelude.{◌==◌, slice_index, if◌then◌else◌}
 use Rattle.std.specs.Int.{bit_at}
+use Rattle.std.specs.List.{range_with_len}
 use Rattle.std.specs.Option.{option_map}
 use Rattle.std.proofs.lemmas.Bool.{cases_eq, cases_lt}
+use Rattle.std.proofs.lemmas.Bool.Decides.{nat_tests}
 use Rattle.std.proofs.lemmas.Int.{ints}
-use Rattle.std.proofs.lemmas.List.{get_or_past, get_or-drop, get_or-map, get_or-set_other, get_or-set_same, get_or-take, length-append, length-drop, length-take-le}
-use Rattle.std.proofs.lemmas.List.Elements.{All-get_or, All-push}
-use Rattle.std.proofs.lemmas.List.FromFn.{fill_by_all}
+use Rattle.std.proofs.lemmas.List.{append-nil, append_assoc, get_or_past, get_or-drop, get_or-map, get_or-replicate, get_or-set_other, get_or-set_same, get_or-take, length-append, length-drop, length-replicate, length-take-le, replicate-append-replicate}
+use Rattle.std.proofs.lemmas.List.Elements.{All-append, All-get_or, All-push, All-replicate}
+use Rattle.std.proofs.lemmas.List.FromFn.{fill_by_all, get_or-map-range_with_len, length-map-range_with_len}
+use Rattle.std.proofs.Math.Pow.{pow_mono}
 use Rattle.std.proofs.Math.Seq.{take-append_seam}
 use Rattle.std.proofs.lemmas.Nat.{one_shl, or_lt, pow_below, pow_pos}
-use Rattle.std.proofs.lemmas.Nat.Bits.{bit_at_above, bit_at_set_other, bit_at_set_same}
+use Rattle.std.proofs.lemmas.Nat.Bits.{bit_at_above, bit_at_set_other, bit_at_set_same, bit_at-lt}
 use Rattle.bsi_schema.specs.Columns.{column_at, fits, is_taken_by, no_column, size_in, IsColumn, NamedColumn}
 use Rattle.bsi_schema.specs.Limits.{limits_of}
 use Rattle.bsi_schema.specs.declared.limits.Limits.{Limits}
-use Rattle.bsi_schema.proofs.Fitting.{fits-at, fits-length, limits_long, within}
-use Rattle.bsi_rows.specs.RowBlocks.{kept_entry, least_at, placed_entry, placed_row, placed_rows, IsBlock, IsFrom, IsSameCell, IsWritten}
+use Rattle.bsi_schema.proofs.Fitting.{fits-at, fits-each, fits-length, limits_long, within}
+use Rattle.bsi_rows.specs.RowBlocks.{kept_entry, least_at, placed_entry, placed_row, placed_rows, value_entries, value_entry, IsBlock, IsFrom, IsSameCell, IsValueAt, IsWritten}
 use Rattle.bsi_orders.specs.Blocks.{offset_entries, IsNumberBlock}
 use Rattle.bsi_orders.proofs.BlockEntries.{get_or-offset_entries, length-offset_entries}
 use Rattle.bsi_rows.specs.Rows.{column_of, entry_at, Entries}
-use Rattle.bsi_rows.proofs.BlockRows.{column-placed_rows, placed_row-same, placed_row-written, placed_rows-more}
+use Rattle.bsi_rows.proofs.BlockRows.{column-placed_rows, entry-placed_row, no_column-placed_rows, placed_row-same, placed_row-written, placed_rows-more, placed_rows-same, same_below}
 
 -- a cell that is kept as before is the same entry
 module _ (limits : List Limits) (numbers not_null new_numbers new_not_null : List ℕ) (c r : ℕ) (same : IsSameCell numbers not_null new_numbers new_not_null c r) where
@@ -194,3 +197,187 @@ same_before numbers old_numbers not_null old_not_null new_numbers new_not_null c
   number = same.number ∙ ap (λ ns. get_or ns (64 * c + r) 0) first;
   bit = same.bit ∙ ap (λ ws. bit_at (get_or ws c 0) r) second;
 }
+
+-- one more of the same
+replicate_more : {X : Type 0} (n : ℕ) (x : X) → replicate (suc n) x ≡ replicate n x ++ x ∷ []
+replicate_more n x = let more : suc n ≡ n + 1 = omega arith in ap (λ k. replicate k x) more ∙ sym (replicate-append-replicate n 1 x)
+
+-- a row of nulls
+row_of_nulls : (columns : ℕ) (entry : ℕ → ℕ → Option ℤ) (r : ℕ) → ((c : ℕ) → c < columns → entry c r ≡ None) → placed_row columns entry r ≡ replicate columns None
+unfolding placed_row
+row_of_nulls columns entry r null =
+    sym (fill_by_all (λ c. entry c r) (replicate columns None) columns None (length-replicate columns None) (λ c within. get_or-replicate columns c None None within ∙ sym (null c within)))
+
+-- fits
+nulls_fit : (columns : List NamedColumn) → fits columns (replicate (length columns) None) ≡ true
+nulls_fit columns = fits-each columns (replicate (length columns) None) (length-replicate (length columns) None) (λ c within. ap (is_taken_by (column_at columns c)) (get_or-replicate (length columns) c None None within))
+
+-- rows of nulls stand behind the others
+module _ (columns : List NamedColumn) (limits : List Limits) (feeders : ℕ) (row_feeders numbers not_null new_numbers : List ℕ)
+    (is : IsBlock columns limits feeders row_feeders numbers not_null) (feeder count : ℕ) (room : length row_feeders + count ≤ 64) (fed : feeder < feeders)
+    (long : length new_numbers ≡ length numbers)
+    (null_numbers : (c r : ℕ) → c < length columns → length row_feeders ≤ r → r < length row_feeders + count → get_or new_numbers (64 * c + r) 0 ≡ 0)
+    (others : (c r : ℕ) → r < length row_feeders → get_or new_numbers (64 * c + r) 0 ≡ get_or numbers (64 * c + r) 0) where
+  abbrev null_row : Entries
+  null_row = replicate (length columns) None
+
+  earlier_same : (c r : ℕ) → r < length row_feeders → placed_entry limits new_numbers not_null c r ≡ placed_entry limits numbers not_null c r
+  earlier_same c r below = placed_same limits numbers not_null new_numbers not_null c r (record { number = others c r below; bit = refl })
+
+  behind_null : (c r : ℕ) → length row_feeders ≤ r → placed_entry limits new_numbers not_null c r ≡ None
+  behind_null c r past =
+      ap (λ bit. option_map (λ n. least_at limits c +ℤ pos n) (if bit == 1 then Some (get_or new_numbers (64 * c + r) 0) else None))
+      (bit_at_above (get_or not_null c 0) (length row_feeders) r (is.clear c) past)
+
+  pub null_rows_more : (n : ℕ) → n ≤ count → placed_rows (length columns) (row_feeders ++ replicate n feeder) (placed_entry limits new_numbers not_null)
+      ≡ placed_rows (length columns) row_feeders (placed_entry limits numbers not_null) ++ replicate n (feeder, null_row)
+  null_rows_more zero few =
+      ap (λ xs. placed_rows (length columns) xs (placed_entry limits new_numbers not_null)) (append-nil row_feeders)
+      ∙ placed_rows-same (length columns) row_feeders (placed_entry limits numbers not_null) (placed_entry limits new_numbers not_null) (λ c r within below. earlier_same c r below)
+      ∙ sym (append-nil (placed_rows (length columns) row_feeders (placed_entry limits numbers not_null)))
+  null_rows_more (suc n) few =
+      let entry = placed_entry limits new_numbers not_null in
+      let so_far = row_feeders ++ replicate n feeder in
+      let many : length so_far ≡ length row_feeders + n = length-append row_feeders (replicate n feeder) ∙ ap (λ k. length row_feeders + k) (length-replicate n feeder) in
+      ap (λ xs. placed_rows (length columns) xs entry) (ap (λ xs. row_feeders ++ xs) (replicate_more n feeder) ∙ sym (append_assoc row_feeders (replicate n feeder) (feeder ∷ [])))
+      ∙ placed_rows-more (length columns) so_far entry entry feeder null_row (length-replicate (length columns) None) (λ c r below. refl)
+      (λ c within. behind_null c (length so_far) (omega (arith, many)) ∙ sym (get_or-replicate (length columns) c None None within))
+      ∙ ap (λ xs. xs ++ (feeder, null_row) ∷ []) (null_rows_more n (omega (arith, few)))
+      ∙ append_assoc (placed_rows (length columns) row_feeders (placed_entry limits numbers not_null)) (replicate n (feeder, null_row)) ((feeder, null_row) ∷ [])
+      ∙ ap (λ xs. placed_rows (length columns) row_feeders (placed_entry limits numbers not_null) ++ xs) (sym (replicate_more n (feeder, null_row)))
+
+  pub null_block_more : IsBlock columns limits feeders (row_feeders ++ replicate count feeder) new_numbers not_null
+  null_block_more =
+      let many : length (row_feeders ++ replicate count feeder) ≡ length row_feeders + count = length-append row_feeders (replicate count feeder) ∙ ap (λ k. length row_feeders + k) (length-replicate count feeder) in
+      record {
+        limits_are = is.limits_are;
+        columns_are = is.columns_are;
+        few = omega (arith, many, room);
+        long = long ∙ is.long;
+        words = is.words;
+        from = All-append (λ feeder. feeder < feeders) row_feeders (replicate count feeder) is.from (All-replicate (λ feeder. feeder < feeders) count feeder fed);
+        fitting = λ r below. elim (cases_lt r (length row_feeders)) [
+          | inl before ↦ ap (fits columns) (placed_row-same (length columns) row_feeders (placed_entry limits numbers not_null) (placed_entry limits new_numbers not_null) r (λ c within. earlier_same c r before)) ∙ is.fitting r before
+          | inr past ↦ ap (fits columns) (row_of_nulls (length columns) (placed_entry limits new_numbers not_null) r (λ c within. behind_null c r past)) ∙ nulls_fit columns
+        ];
+        nulls = λ c r within below none. elim (cases_lt r (length row_feeders)) [
+          | inl before ↦ others c r before ∙ is.nulls c r within before (sym (kept_same limits numbers not_null new_numbers not_null c r (record { number = others c r before; bit = refl })) ∙ none)
+          | inr past ↦ null_numbers c r within past (omega (arith, below, many))
+        ];
+        clear = λ c. let more = pow_mono {i = length row_feeders} {j = length (row_feeders ++ replicate count feeder)} (omega (arith, many)) in omega (arith, is.clear c, more);
+      }
+
+pub length-value_entries : (values : List ℤ) (word : ℕ) → length (value_entries values word) ≡ length values
+unfolding value_entries
+length-value_entries values word = length-map-range_with_len (value_entry values word) 0 (length values)
+
+pub get_or-value_entries : (values : List ℤ) (word r : ℕ) → r < length values → get_or (value_entries values word) r None ≡ value_entry values word r
+unfolding value_entries
+get_or-value_entries values word r within = get_or-map-range_with_len (value_entry values word) 0 (length values) r r None within (omega arith)
+
+length-placed_row : (columns : ℕ) (entry : ℕ → ℕ → Option ℤ) (r : ℕ) → length (placed_row columns entry r) ≡ columns
+unfolding placed_row
+length-placed_row columns entry r = length-map-range_with_len (λ c. entry c r) 0 columns
+
+-- the values of a column are written
+module _ (columns : List NamedColumn) (limits : List Limits) (feeders : ℕ) (row_feeders numbers not_null new_numbers : List ℕ) (is : IsBlock columns limits feeders row_feeders numbers not_null)
+    (values : List ℤ) (word c : ℕ) (there : c < length columns) (many : length values ≡ length row_feeders) (clear : word < 2 ^ length values)
+    (taken : All (λ entry. is_taken_by (column_at columns c) entry ≡ true) (value_entries values word)) (long : length new_numbers ≡ length numbers)
+    (written : (r : ℕ) → r < length values → IsValueAt limits values word new_numbers c r)
+    (others : (k s : ℕ) → k ≢ c → s < 64 → get_or new_numbers (64 * k + s) 0 ≡ get_or numbers (64 * k + s) 0) where
+  abbrev pub words_with : List ℕ
+  words_with = set not_null c word
+
+  old_entry : ℕ → ℕ → Option ℤ
+  old_entry = placed_entry limits numbers not_null
+
+  word_there : get_or words_with c 0 ≡ word
+  word_there = get_or-set_same not_null c word 0 (omega (arith, there, is.words))
+
+  other_cell : (k r : ℕ) → k ≢ c → r < length row_feeders → IsSameCell numbers not_null new_numbers words_with k r
+  other_cell k r apart below = record {
+    number = others k r apart (omega (arith, below, is.few));
+    bit = ap (λ w. bit_at w r) (get_or-set_other not_null c k word 0 apart);
+  }
+
+  -- an entry of it is the value's
+  pub entry_written : (r : ℕ) → r < length row_feeders → placed_entry limits new_numbers words_with c r ≡ value_entry values word r
+  entry_written r below =
+      ap (λ w. option_map (λ n. least_at limits c +ℤ pos n) (if bit_at w r == 1 then Some (get_or new_numbers (64 * c + r) 0) else None)) word_there
+      ∙ by (bit_at word r == 1) refl
+    where
+      by : (b : Bool) → (bit_at word r == 1) ≡ b
+          → option_map (λ n. least_at limits c +ℤ pos n) (if b then Some (get_or new_numbers (64 * c + r) 0) else None) ≡ (if b then Some (get_or values r (pos 0)) else None)
+      by true set = ap Some ((written r (omega (arith, below, many))).there (one set))
+        where
+          one : (bit_at word r == 1) ≡ true → bit_at word r ≡ 1
+          one set = grind (arith, nat_tests)
+      by false set = refl
+
+  -- the entries are as before in another column
+  pub entry_kept : (k r : ℕ) → k ≢ c → r < length row_feeders → placed_entry limits new_numbers words_with k r ≡ placed_entry limits numbers not_null k r
+  entry_kept k r apart below = placed_same limits numbers not_null new_numbers words_with k r (other_cell k r apart below)
+
+  pub row_fits : (r : ℕ) → r < length row_feeders → fits columns (placed_row (length columns) (placed_entry limits new_numbers words_with) r) ≡ true
+  row_fits r below =
+      let new = placed_entry limits new_numbers words_with in
+      fits-each columns (placed_row (length columns) new r) (length-placed_row (length columns) new r)
+      (λ k within. ap (is_taken_by (column_at columns k)) (entry-placed_row (length columns) row_feeders new k r within) ∙ elim (cases_eq k c) [
+        | inl same ↦
+            ap (λ k. is_taken_by (column_at columns k) (new k r)) same ∙ ap (is_taken_by (column_at columns c)) (entry_written r below ∙ sym (get_or-value_entries values word r (omega (arith, below, many))))
+            ∙ All-get_or (λ entry. is_taken_by (column_at columns c) entry ≡ true) (value_entries values word) r None (omega (arith, below, many, length-value_entries values word)) taken
+        | inr apart ↦
+            ap (is_taken_by (column_at columns k)) (entry_kept k r apart below ∙ sym (entry-placed_row (length columns) row_feeders (placed_entry limits numbers not_null) k r within))
+            ∙ fits-at columns (placed_row (length columns) (placed_entry limits numbers not_null) r) k (is.fitting r below) within
+      ])
+
+  -- it keeps to what a block keeps to
+  pub block_written : IsBlock columns limits feeders row_feeders new_numbers words_with
+  block_written = record {
+    limits_are = is.limits_are;
+    columns_are = is.columns_are;
+    few = is.few;
+    long = long ∙ is.long;
+    words = length-set not_null c word ∙ is.words;
+    from = is.from;
+    fitting = row_fits;
+    nulls = λ k r within below none. elim (cases_eq k c) [
+      | inl same ↦
+          ap (λ k. get_or new_numbers (64 * k + r) 0) same
+          ∙ (written r (omega (arith, below, many))).null (null_bit r (sym (ap (λ k. kept_entry new_numbers words_with k r) same ∙ ap (λ w. if bit_at w r == 1 then Some (get_or new_numbers (64 * c + r) 0) else None) word_there) ∙ none))
+      | inr apart ↦
+          let cell = other_cell k r apart below in
+          cell.number ∙ is.nulls k r within below (sym (kept_same limits numbers not_null new_numbers words_with k r cell) ∙ none)
+    ];
+    clear = λ k. elim (cases_eq k c) [
+      | inl same ↦ subst (λ k. get_or words_with k 0 < 2 ^ length row_feeders) (sym same) (subst (λ w. w < 2 ^ length row_feeders) (sym word_there) (subst (λ n. word < 2 ^ n) many clear))
+      | inr apart ↦ subst (λ w. w < 2 ^ length row_feeders) (sym (get_or-set_other not_null c k word 0 apart)) (is.clear k)
+    ];
+  }
+    where
+      null_bit : (r : ℕ) → (if bit_at word r == 1 then Some (get_or new_numbers (64 * c + r) 0) else None) ≡ None → bit_at word r ≡ 0
+      null_bit r none = by (bit_at word r == 1) refl none
+        where
+          by : (b : Bool) → (bit_at word r == 1) ≡ b → (if b then Some (get_or new_numbers (64 * c + r) 0) else None) ≡ None → bit_at word r ≡ 0
+          by true set none = absurd (some_is_not_none none)
+          by false set none = let low = bit_at-lt word r in grind (arith, nat_tests)
+
+  -- the column has the values
+  pub column_written : column_of (placed_rows (length columns) row_feeders (placed_entry limits new_numbers words_with)) c ≡ value_entries values word
+  unfolding value_entries
+  column_written =
+      column-placed_rows (length columns) row_feeders (placed_entry limits new_numbers words_with) c there
+      ∙ same_below None (placed_entry limits new_numbers words_with c) (value_entry values word) (length row_feeders) (λ r below. entry_written r below)
+      ∙ ap (λ n. map (value_entry values word) (range_with_len 0 n)) (sym many)
+
+  -- and each other one what it had
+  pub column_kept : (k : ℕ) → k ≢ c → column_of (placed_rows (length columns) row_feeders (placed_entry limits new_numbers words_with)) k ≡ column_of (placed_rows (length columns) row_feeders (placed_entry limits numbers not_null)) k
+  column_kept k apart = elim (cases_lt k (length columns)) [
+    | inl within ↦
+        column-placed_rows (length columns) row_feeders (placed_entry limits new_numbers words_with) k within
+        ∙ same_below None (placed_entry limits new_numbers words_with k) (placed_entry limits numbers not_null k) (length row_feeders) (λ r below. entry_kept k r apart below)
+        ∙ sym (column-placed_rows (length columns) row_feeders (placed_entry limits numbers not_null) k within)
+    | inr past ↦
+        no_column-placed_rows (length columns) row_feeders (placed_entry limits new_numbers words_with) k past
+        ∙ sym (no_column-placed_rows (length columns) row_feeders (placed_entry limits numbers not_null) k past)
+  ]

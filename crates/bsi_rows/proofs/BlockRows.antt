@@ -1,16 +1,13 @@
 -- The rows of a block, by the places of its columns.
-use Rattle.std.proofs.Common.{◌≡◌, ◌≢◌, ℕ, ◌+◌, ◌*◌, ◌<◌, ◌≤◌, List, [], ◌∷◌, ◌++◌, Option, None, Some, All, length, map, get_or, take, drop, true, ℤ, refl, ap, ap₂, subst, sym, ◌∙◌, arith, below_more}
+use Rattle.std.proofs.Common.{◌≡◌, ℕ, ◌<◌, ◌≤◌, List, [], ◌∷◌, ◌++◌, Option, None, Some, All, length, map, ℤ, refl, ap, ap₂, subst, sym, ◌∙◌, arith}
 use Rattle.std.specs.Prelude.{slice_get, slice_index}
 use Rattle.std.specs.List.{range_with_len}
 use Rattle.std.proofs.lemmas.List.{get_or_append_left, get_or_past, length-append}
-use Rattle.std.proofs.lemmas.List.Elements.{All-from_get_or, All-push}
+use Rattle.std.proofs.lemmas.List.Elements.{All-from_get_or}
 use Rattle.std.proofs.lemmas.List.FromFn.{fill_by_all, get_or-map-range_with_len, length-map-range_with_len, map-range_with_len_more}
 use Rattle.std.proofs.lemmas.Option.{slice_get-get_or}
 use Rattle.std.proofs.Math.Seq.{get_or-append_seam}
-use Rattle.bsi_schema.specs.Columns.{fits, NamedColumn}
-use Rattle.bsi_schema.specs.declared.limits.Limits.{Limits}
-use Rattle.bsi_schema.proofs.Fitting.{fits-length}
-use Rattle.bsi_rows.specs.RowBlocks.{entries_of, placed_row, placed_rows, IsBlock}
+use Rattle.bsi_rows.specs.RowBlocks.{entries_of, placed_row, placed_rows}
 use Rattle.bsi_rows.specs.Rows.{column_of, entry_at, feeders_of, Entries, FedRow}
 
 pub map_twice : {X Y Z : Type 0} (f : Y → Z) (g : X → Y) (xs : List X) → map f (map g xs) ≡ map (λ x. f (g x)) xs

@@ -90,6 +90,11 @@ pub record IsWritten (limits : List Limits) (numbers not_null : List ℕ) (c r :
   pub null : kept_entry numbers not_null c r ≡ None → slice_index numbers (max_block_rows * c + r) ≡ 0
   pub clear : slice_index not_null c < 2 ^ (r + 1)
 
+-- the number of value r of column c, and 0 for a null
+pub record IsValueAt (limits : List Limits) (values : List ℤ) (present : ℕ) (numbers : List ℕ) (c r : ℕ) : Type 0 where
+  pub there : bit_at present r ≡ 1 → least_at limits c +ℤ pos (slice_index numbers (max_block_rows * c + r)) ≡ slice_index_or values r (pos 0)
+  pub null : bit_at present r ≡ 0 → slice_index numbers (max_block_rows * c + r) ≡ 0
+
 -- row r of so many columns, by the entry of each column in each row
 unfoldable pub placed_row : ℕ → (ℕ → ℕ → Option ℤ) → ℕ → Entries
 placed_row columns entry r = map (λ c. entry c r) (range_with_len 0 columns)

@@ -6,7 +6,7 @@
 //! A block carries the feeder of each row, so one block serves all feeders. It holds its schema by an `Arc`, where a
 //! ghost snapshot would do for the proofs: what has a snapshot can't be shown to go to another thread.
 
-ghost use Rattle.std.specs.Prelude.{◌≡◌, ◌↔◌, [], ◌+◌, ◌^◌, ◌<◌, ◌≤◌, All, Some, IfOk, IsTrue, length, slice_get, true, false};
+ghost use Rattle.std.specs.Prelude.{◌≡◌, ◌↔◌, [], ◌+◌, ◌++◌, ◌^◌, ◌<◌, ◌≤◌, All, Some, IfOk, IsTrue, length, replicate, slice_get, vec_capacity, true, false};
 ghost use Rattle.bsi_orders.specs.Blocks.{offset_entries, IsNumberBlock};
 ghost use Rattle.bsi_schema.specs.Columns.{column_at, fits, is_taken_by};
 ghost use Rattle.bsi_rows.specs.RowBlocks.{emptied_block, entries_of, max_block_rows, no_block_rows, value_entries, with_block_row, with_null_rows, HasColumn, HaveSameLimits};
@@ -182,9 +182,7 @@ impl Block {
     {
         let from = self.row_feeders.len();
         write_nulls(self.limits.len(), from, from + rows, &mut self.numbers);
-        'rows: for _ in 0..rows {
-            self.row_feeders.push_reserved(feeder);
-        }
+        push_feeder(&mut self.row_feeders, feeder, rows);
     }
 
     /// Writes the entries of column `c` in all rows at once: value `r` where bit `r` of `not_null` is set, and a null
@@ -198,9 +196,7 @@ impl Block {
         ensures column { HasColumn self.old self.new c (value_entries values.now not_null) }
         ensures fitting { AreFitting self.new.schema.columns self.new.rows }
     {
-        let first = MAX_BLOCK_ROWS * c;
-        let numbers = &mut self.numbers[first..first + values.len()];
-        write_values(self.limits[c].least(), values, not_null, numbers);
+        write_values(&self.limits, values, not_null, c, &mut self.numbers);
         self.not_null[c] = not_null;
     }
 
@@ -246,5 +242,16 @@ impl Block {
             numbers: &self.numbers[first..first + rows],
             not_null: self.not_null[c],
         }
+    }
+}
+
+/// Adds a feeder so many times, into room that is already there.
+fn push_feeder(row_feeders: &mut Vec<u32>, feeder: u32, rows: usize)
+    requires { length row_feeders.old.items + rows ≤ vec_capacity row_feeders.old }
+    ensures items { row_feeders.new.items ≡ row_feeders.old.items ++ replicate rows feeder }
+    ensures room { vec_capacity row_feeders.new ≡ vec_capacity row_feeders.old }
+{
+    'rows: for _ in 0..rows {
+        row_feeders.push_reserved(feeder);
     }
 }

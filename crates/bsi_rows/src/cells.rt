@@ -2,9 +2,8 @@
 //! `64 * c` on, each less the least number that the column takes, and bit `r` of word `c` tells whether entry `r` is one.
 
 ghost use Rattle.std.specs.Prelude.{◌≡◌, ◌≢◌, ℕ, pos, ◌+◌, ◌*◌, ◌^◌, ◌<◌, ◌≤◌, ◌+ℤ◌, IfOk, Some, length, slice_index, slice_index_or, true, false};
-ghost use Rattle.std.specs.Int.{bit_at};
 ghost use Rattle.bsi_schema.specs.Columns.{entry_at};
-ghost use Rattle.bsi_rows.specs.RowBlocks.{least_at, max_block_rows, placed_entry, placed_row, value_entry, IsFrom, IsSameCell, IsWritten};
+ghost use Rattle.bsi_rows.specs.RowBlocks.{least_at, max_block_rows, placed_entry, placed_row, value_entry, IsFrom, IsSameCell, IsValueAt, IsWritten};
 
 use crate::NoMemory;
 use crate::block::MAX_BLOCK_ROWS;
@@ -167,20 +166,30 @@ fn stored(least: i64, value: i64, there: bool) -> u64
     }
 }
 
-/// Writes the values of a column, each less `least`, and a 0 for each null.
-pub(crate) fn write_values(least: i64, values: &[i64], not_null: u64, numbers: &mut [u64])
-    requires long { length numbers.old ≡ length values.now }
+/// Writes the values of column `c`, each less the least number that it takes, and a 0 for each null.
+pub(crate) fn write_values(
+    limits: &[Limits],
+    values: &[i64],
+    present: u64,
+    c: usize,
+    numbers: &mut [u64],
+)
+    requires within { c < length limits.now }
+    requires long { length numbers.old ≡ max_block_rows * length limits.now }
     requires few { length values.now ≤ max_block_rows }
     requires from { (r : ℕ) → r < length values.now →
-        IsFrom least (value_entry values.now not_null r) }
+        IsFrom (least_at limits.now c) (value_entry values.now present r) }
     ensures long { length numbers.new ≡ length numbers.old }
-    ensures there { (r : ℕ) → r < length values.now → bit_at not_null r ≡ 1 →
-        least +ℤ pos (slice_index numbers.new r) ≡ slice_index_or values.now r (pos 0) }
-    ensures nulls { (r : ℕ) → r < length values.now → bit_at not_null r ≡ 0 →
-        slice_index numbers.new r ≡ 0 }
+    ensures written { (r : ℕ) → r < length values.now →
+        IsValueAt limits.now values.now present numbers.new c r }
+    ensures others { (k s : ℕ) → k ≢ c → s < max_block_rows →
+        slice_index numbers.new (max_block_rows * k + s)
+        ≡ slice_index numbers.old (max_block_rows * k + s) }
 {
+    let least = limits[c].least();
+    let first = MAX_BLOCK_ROWS * c;
     'rows: for (r, value) in values.iter().enumerate() {
-        numbers[r] = stored(least, *value, not_null >> r & 1 == 1);
+        numbers[first + r] = stored(least, *value, present >> r & 1 == 1);
     }
 }
 

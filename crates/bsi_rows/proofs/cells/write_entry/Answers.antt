@@ -1,5 +1,5 @@
-use Rattle.std.proofs.Common.{◌≡◌, ◌+◌, ◌*◌, ◌<◌, Option, Some, ℤ, pos, ◌+ℤ◌, length, get_or, set, ap, sym, subst, rules, arith, ◌∙◌}
-use Rattle.bsi_rows.specs.RowBlocks.{least_at, IsWritten}
+use Rattle.std.proofs.Common.{◌+◌, ◌*◌, set, subst, rules, arith}
+use Rattle.bsi_rows.specs.RowBlocks.{IsWritten}
 use Rattle.bsi_rows.proofs.BlockCells.{other_rows, written_null, written_number}
 use Rattle.bsi_rows.proofs.cells.write_entry.Goals as goal
 

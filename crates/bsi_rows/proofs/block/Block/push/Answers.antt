@@ -1,4 +1,4 @@
-use Rattle.std.proofs.Common.{◌≡◌, ◌<◌, ℕ, List, [], ◌∷◌, ◌++◌, drop, length, true, ap, ap₂, sym, subst, arith, ◌∙◌}
+use Rattle.std.proofs.Common.{◌≡◌, ◌<◌, ℕ, List, [], ◌∷◌, ◌++◌, drop, length, true, ap, sym, subst, arith, ◌∙◌}
 use Rattle.bsi_schema.specs.Columns.{entry_at, fits, Entries}
 use Rattle.bsi_schema.specs.declared.limits.Limits.{Limits}
 use Rattle.bsi_schema.proofs.Fitting.{fits-length, limits_long}
@@ -44,7 +44,7 @@ invariant_of-self c =
     let s = c.self.invariant.0 in
     let w = c.write_row.ensures in
     let cells_before : (k r : ℕ) → IsSameCell c.deref_mut.result.now c.deref_mut-2.result.now c.write_row.new.numbers c.write_row.new.not_null k r
-        → IsSameCell i.numbers.items i.not_null.items c.write_row.new.numbers c.write_row.new.not_null k r =
+    → IsSameCell i.numbers.items i.not_null.items c.write_row.new.numbers c.write_row.new.not_null k r =
     λ k r same. same_before c.deref_mut.result.now i.numbers.items c.deref_mut-2.result.now i.not_null.items c.write_row.new.numbers c.write_row.new.not_null k r c.deref_mut.ensures.value c.deref_mut-2.ensures.value same in
     let numbers = written_back i.numbers.len c.write_row.new.numbers (drop (length c.write_row.new.numbers) i.numbers.items) (omega (arith, w.long, c.deref_mut.ensures.len)) in
     let words = written_back i.not_null.len c.write_row.new.not_null (drop (length c.write_row.new.not_null) i.not_null.items) (omega (arith, w.words, c.deref_mut-2.ensures.len)) in
@@ -69,7 +69,7 @@ returns-clause-added c = λ yes.
     let s = c.self.invariant.0 in
     let w = c.write_row.ensures in
     let cells_before : (k r : ℕ) → IsSameCell c.deref_mut.result.now c.deref_mut-2.result.now c.write_row.new.numbers c.write_row.new.not_null k r
-        → IsSameCell i.numbers.items i.not_null.items c.write_row.new.numbers c.write_row.new.not_null k r =
+    → IsSameCell i.numbers.items i.not_null.items c.write_row.new.numbers c.write_row.new.not_null k r =
     λ k r same. same_before c.deref_mut.result.now i.numbers.items c.deref_mut-2.result.now i.not_null.items c.write_row.new.numbers c.write_row.new.not_null k r c.deref_mut.ensures.value c.deref_mut-2.ensures.value same in
     let numbers = written_back i.numbers.len c.write_row.new.numbers (drop (length c.write_row.new.numbers) i.numbers.items) (omega (arith, w.long, c.deref_mut.ensures.len)) in
     let words = written_back i.not_null.len c.write_row.new.not_null (drop (length c.write_row.new.not_null) i.not_null.items) (omega (arith, w.words, c.deref_mut-2.ensures.len)) in
@@ -81,8 +81,8 @@ returns-clause-added c = λ yes.
     (of_same (λ xs ns ws. placed_rows (length columns) xs (placed_entry i.limits.items ns ws) ≡ placed_rows (length columns) i.row_feeders.items (placed_entry i.limits.items i.numbers.items i.not_null.items) ++ (c.args.feeder, c.args.row.now) ∷ []) c.push_reserved.ensures.items numbers words
     (rows_more columns i.limits.items i.feeders i.row_feeders.items i.numbers.items i.not_null.items c.write_row.new.numbers c.write_row.new.not_null s
     c.args.feeder c.len-at.result c.args.row.now (omega (arith, c.len-at.ensures)) room fed fit (w.long ∙ ap length c.deref_mut.ensures.value) (w.words ∙ ap length c.deref_mut-2.ensures.value)
-          (λ k r near apart. cells_before k r (w.rows k r near apart))
-          (λ k within. subst (λ (limits : List Limits). IsWritten limits c.write_row.new.numbers c.write_row.new.not_null k c.len-at.result (entry_at c.args.row.now k)) c.deref-2.ensures.value
-          (subst (λ (row : Entries). IsWritten c.deref-2.result.now c.write_row.new.numbers c.write_row.new.not_null k c.len-at.result (entry_at row k)) c.values.ensures
-          (w.written k (omega (arith, within, ap length c.deref-2.ensures.value, limits_long columns i.limits.items s.limits_are)))))))
+    (λ k r near apart. cells_before k r (w.rows k r near apart))
+    (λ k within. subst (λ (limits : List Limits). IsWritten limits c.write_row.new.numbers c.write_row.new.not_null k c.len-at.result (entry_at c.args.row.now k)) c.deref-2.ensures.value
+    (subst (λ (row : Entries). IsWritten c.deref-2.result.now c.write_row.new.numbers c.write_row.new.not_null k c.len-at.result (entry_at row k)) c.values.ensures
+    (w.written k (omega (arith, within, ap length c.deref-2.ensures.value, limits_long columns i.limits.items s.limits_are)))))))
     ∙ ap (λ b. with_block_row b c.args.feeder c.args.row.now) c.self.view_is

@@ -1,4 +1,4 @@
-use Rattle.std.proofs.Common.{◌≡◌, ◌<◌, ℕ, List, [], ◌∷◌, ◌++◌, drop, length, true, ap, ap₂, sym, subst, arith, ◌∙◌}
+use Rattle.std.proofs.Common.{◌≡◌, ◌<◌, ℕ, List, [], ◌∷◌, ◌++◌, drop, length, ap, sym, subst, arith, ◌∙◌}
 use Rattle.bsi_schema.specs.Columns.{entry_at, fits}
 use Rattle.bsi_schema.specs.declared.limits.Limits.{Limits}
 use Rattle.bsi_schema.proofs.Fitting.{fits-length, limits_long}
@@ -39,7 +39,7 @@ invariant_of-self c =
     let s = c.self.invariant.0 in
     let w = c.write_entries.ensures in
     let cells_before : (k r : ℕ) → IsSameCell c.deref_mut.result.now c.deref_mut-2.result.now c.write_entries.new.numbers c.write_entries.new.not_null k r
-        → IsSameCell i.numbers.items i.not_null.items c.write_entries.new.numbers c.write_entries.new.not_null k r =
+    → IsSameCell i.numbers.items i.not_null.items c.write_entries.new.numbers c.write_entries.new.not_null k r =
     λ k r same. same_before c.deref_mut.result.now i.numbers.items c.deref_mut-2.result.now i.not_null.items c.write_entries.new.numbers c.write_entries.new.not_null k r c.deref_mut.ensures.value c.deref_mut-2.ensures.value same in
     let numbers = written_back i.numbers.len c.write_entries.new.numbers (drop (length c.write_entries.new.numbers) i.numbers.items) (omega (arith, w.long, c.deref_mut.ensures.len)) in
     let words = written_back i.not_null.len c.write_entries.new.not_null (drop (length c.write_entries.new.not_null) i.not_null.items) (omega (arith, w.words, c.deref_mut-2.ensures.len)) in
@@ -63,7 +63,7 @@ returns c =
     let s = c.self.invariant.0 in
     let w = c.write_entries.ensures in
     let cells_before : (k r : ℕ) → IsSameCell c.deref_mut.result.now c.deref_mut-2.result.now c.write_entries.new.numbers c.write_entries.new.not_null k r
-        → IsSameCell i.numbers.items i.not_null.items c.write_entries.new.numbers c.write_entries.new.not_null k r =
+    → IsSameCell i.numbers.items i.not_null.items c.write_entries.new.numbers c.write_entries.new.not_null k r =
     λ k r same. same_before c.deref_mut.result.now i.numbers.items c.deref_mut-2.result.now i.not_null.items c.write_entries.new.numbers c.write_entries.new.not_null k r c.deref_mut.ensures.value c.deref_mut-2.ensures.value same in
     let numbers = written_back i.numbers.len c.write_entries.new.numbers (drop (length c.write_entries.new.numbers) i.numbers.items) (omega (arith, w.long, c.deref_mut.ensures.len)) in
     let words = written_back i.not_null.len c.write_entries.new.not_null (drop (length c.write_entries.new.not_null) i.not_null.items) (omega (arith, w.words, c.deref_mut-2.ensures.len)) in
@@ -75,7 +75,7 @@ returns c =
     (of_same (λ xs ns ws. placed_rows (length columns) xs (placed_entry i.limits.items ns ws) ≡ placed_rows (length columns) i.row_feeders.items (placed_entry i.limits.items i.numbers.items i.not_null.items) ++ (c.args.feeder, c.args.entries.now) ∷ []) c.push_reserved.ensures.items numbers words
     (rows_more columns i.limits.items i.feeders i.row_feeders.items i.numbers.items i.not_null.items c.write_entries.new.numbers c.write_entries.new.not_null s
     c.args.feeder c.len-at.result c.args.entries.now (omega (arith, c.len-at.ensures)) room fed fit (w.long ∙ ap length c.deref_mut.ensures.value) (w.words ∙ ap length c.deref_mut-2.ensures.value)
-          (λ k r near apart. cells_before k r (w.rows k r near apart))
-          (λ k within. subst (λ (limits : List Limits). IsWritten limits c.write_entries.new.numbers c.write_entries.new.not_null k c.len-at.result (entry_at c.args.entries.now k)) c.deref.ensures.value
-          (w.written k (omega (arith, within, ap length c.deref.ensures.value, limits_long columns i.limits.items s.limits_are))))))
+    (λ k r near apart. cells_before k r (w.rows k r near apart))
+    (λ k within. subst (λ (limits : List Limits). IsWritten limits c.write_entries.new.numbers c.write_entries.new.not_null k c.len-at.result (entry_at c.args.entries.now k)) c.deref.ensures.value
+    (w.written k (omega (arith, within, ap length c.deref.ensures.value, limits_long columns i.limits.items s.limits_are))))))
     ∙ ap (λ b. with_block_row b c.args.feeder c.args.entries.now) c.self.view_is
