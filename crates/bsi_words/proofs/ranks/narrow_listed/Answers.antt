@@ -5,11 +5,10 @@ use Rattle.std.proofs.lemmas.Nat.{ones-le}
 use Rattle.std.proofs.lemmas.Simd.{length-zip2, get_or-zip2}
 use Rattle.bsi_bits.proofs.Filling.{IsFilled, paired, filled_pairs}
 use Rattle.bsi_bits.proofs.Summing.{summed_word, summed_all}
-use Rattle.bsi_words.specs.Listing.{next_after, AreListed}
 use Rattle.bsi_words.specs.Ranks.{word_kept}
 use Rattle.bsi_words.proofs.Narrowing.{kept_less}
 use Rattle.bsi_words.proofs.Passing.{stored, passed, none_added}
-use Rattle.bsi_words.proofs.Listing.{next_step, next_within}
+use Rattle.bsi_words.proofs.Listing.{gaps, next_after, next_step, next_within, HasGaps}
 use Rattle.bsi_words.proofs.ranks.narrow_listed.Goals as goal
 
 -- words of which none is kept
@@ -66,9 +65,10 @@ listed-preserved c =
     let i = c.listed.i in
     let start = next_after places i in
     let at = get_or places i 0 in
-    let within = c.requires.listed.within i c.listed-test.true in
-    let forward = c.requires.listed.rising i c.listed-test.true in
-    let none : (k : ℕ) → start ≤ k → k < at → get_or old k 0 ≡ 0 = λ k from below. c.requires.listed.between i k c.listed-test.true from below in
+    let listed = gaps (length old) places c.args.listed.now.count old c.requires.listed in
+    let within = listed.within i c.listed-test.true in
+    let forward = listed.rising i c.listed-test.true in
+    let none : (k : ℕ) → start ≤ k → k < at → get_or old k 0 ≡ 0 = λ k from below. listed.between i k c.listed-test.true from below in
     let filled = skipped wanted old words next c.requires.same c.requires.same_next start at forward (omega arith) none c.listed.chosen c.listed.invariant.filled in
     let counted = c.listed.invariant.counted ∙ sym (uncounted wanted old words next c.requires.same c.requires.same_next start at forward (omega arith) none) in
     let word = c.kept_word-kept.result in
@@ -85,7 +85,7 @@ listed-preserved c =
 
 -- the words behind the last listed one have no row
 module _ (wanted : Bool) (old words next : List ℕ) (same : length words ≡ length old) (same_next : length next ≡ length old)
-    (places : List ℕ) (count i : ℕ) (listed : AreListed (length old) places count old) (last : i ≡ count) where
+    (places : List ℕ) (count i : ℕ) (listed : HasGaps (length old) places count old) (last : i ≡ count) where
   forward : next_after places i ≤ length old
   forward = next_within (length old) places count old listed i (omega arith)
 
@@ -108,11 +108,11 @@ pub returns-clause-chosen : goal.returns-clause-chosen
 unfolding target
 returns-clause-chosen c =
     all_narrowed c.args.is_set c.args.chosen.now c.args.words.now c.args.next.now c.requires.same c.requires.same_next
-    c.args.listed.now.places c.args.listed.now.count c.listed.i c.requires.listed (omega (arith, c.listed.auto.i-end)) c.listed.chosen c.listed.invariant.filled
+    c.args.listed.now.places c.args.listed.now.count c.listed.i (gaps (length c.args.chosen.now) c.args.listed.now.places c.args.listed.now.count c.args.chosen.now c.requires.listed) (omega (arith, c.listed.auto.i-end)) c.listed.chosen c.listed.invariant.filled
 
 pub returns-clause-clear : goal.returns-clause-clear
 unfolding target made
 returns-clause-clear c =
     all_counted c.args.is_set c.args.chosen.now c.args.words.now c.args.next.now c.requires.same c.requires.same_next
-    c.args.listed.now.places c.args.listed.now.count c.listed.i c.requires.listed (omega (arith, c.listed.auto.i-end)) c.listed.clear c.listed.invariant.counted
+    c.args.listed.now.places c.args.listed.now.count c.listed.i (gaps (length c.args.chosen.now) c.args.listed.now.places c.args.listed.now.count c.args.chosen.now c.requires.listed) (omega (arith, c.listed.auto.i-end)) c.listed.clear c.listed.invariant.counted
     ∙ ap (λ rows. sum_by count_ones (zip2 (word_kept false) rows c.args.next.now)) (sym (returns-clause-chosen c))

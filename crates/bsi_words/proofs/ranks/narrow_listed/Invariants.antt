@@ -2,7 +2,7 @@ use Rattle.std.proofs.Common.{◌≡◌, ◌*◌, ◌≤◌, false, take}
 use Rattle.std.specs.Prelude.{sum_by, count_ones}
 use Rattle.std.specs.Simd.Lanes.{zip2}
 use Rattle.bsi_bits.proofs.Filling.{IsFilled, paired}
-use Rattle.bsi_words.specs.Listing.{next_after}
+use Rattle.bsi_words.proofs.Listing.{next_after}
 use Rattle.bsi_words.specs.Ranks.{word_kept}
 use Rattle.bsi_words.proofs.ranks.narrow_listed.Given as goal
 
