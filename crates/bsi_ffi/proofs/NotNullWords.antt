@@ -30,14 +30,14 @@ module _ (bytes : List ℕ) (i word byte : ℕ) (few : i < 8) (is : get_or bytes
   pub byte_above-bits : (r : ℕ) → r < 8 * (i + 1) → bit_at (bit_or word (byte * 2 ^ (8 * i) % 2 ^ 64)) r ≡ bit_at (get_or bytes (r / 8) 0) (r % 8)
   byte_above-bits r within = elim (cases_lt r (8 * i)) [
     | inl low ↦
-      let none : bit_at (byte * 2 ^ (8 * i) + 0) r ≡ 0 = bit_at_cat_low byte (8 * i) 0 r low ∙ bit_at-zero r in
-      both r ∙ ap (λ b. max (bit_at word r) b) none ∙ omega arith ∙ bits r low
+        let none : bit_at (byte * 2 ^ (8 * i) + 0) r ≡ 0 = bit_at_cat_low byte (8 * i) 0 r low ∙ bit_at-zero r in
+        both r ∙ ap (λ b. max (bit_at word r) b) none ∙ omega arith ∙ bits r low
     | inr high ↦
-      let none : bit_at word r ≡ 0 = bit_at_above word (8 * i) r clear high in
-      let byte_is : r / 8 ≡ i = omega (arith, high, within) in
-      let place : r - 8 * i ≡ r % 8 = omega (arith, high, within) in
-      let some = bit_at_cat_high byte (8 * i) 0 r (omega (arith, none, clear)) high in
-      both r ∙ ap₂ max none (some ∙ ap (bit_at byte) place) ∙ omega arith ∙ ap (λ n. bit_at n (r % 8)) (sym is ∙ ap (λ k. get_or bytes k 0) (sym byte_is))
+        let none : bit_at word r ≡ 0 = bit_at_above word (8 * i) r clear high in
+        let byte_is : r / 8 ≡ i = omega (arith, high, within) in
+        let place : r - 8 * i ≡ r % 8 = omega (arith, high, within) in
+        let some = bit_at_cat_high byte (8 * i) 0 r (omega (arith, none, clear)) high in
+        both r ∙ ap₂ max none (some ∙ ap (bit_at byte) place) ∙ omega arith ∙ ap (λ n. bit_at n (r % 8)) (sym is ∙ ap (λ k. get_or bytes k 0) (sym byte_is))
   ]
 
 -- the first bits of a word that has those of a bitmap from a byte on

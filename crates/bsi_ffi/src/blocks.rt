@@ -13,13 +13,7 @@ use crate::refusal::Refusal;
 use bsi_table::{Block, Index, MAX_BLOCK_ROWS, NoMemory};
 
 /// Fills the block with so many rows of a feeder, from row `from` on, column by column. Each fits.
-fn fill_block(
-    feeder: u32,
-    columns: &[GivenColumn],
-    from: usize,
-    count: usize,
-    block: &mut Block,
-)
+fn fill_block(feeder: u32, columns: &[GivenColumn], from: usize, count: usize, block: &mut Block)
     requires fed { feeder < block.old.feeders }
     requires even { are_columns (length block.old.schema.columns) columns.now ≡ true }
     requires taken { AreTaken block.old.schema.columns columns.now (row_count columns.now) }
