@@ -1,8 +1,8 @@
 -- Rows of columns, block by block.
 use Rattle.std.proofs.Common.{◌≡◌, ◌<◌, ℕ, ◌+◌, List, [], ◌∷◌, ◌++◌, true, refl, ap, sym, subst, ◌∙◌, zero, suc, arith, append_assoc}
-use Rattle.std.specs.Prelude.{length, IsTrue}
+use Rattle.std.specs.Prelude.{IsTrue}
 use Rattle.std.proofs.lemmas.List.{append-nil}
-use Rattle.std.proofs.lemmas.List.FromFn.{length-map-range_with_len, map-range_with_len_more}
+use Rattle.std.proofs.lemmas.List.FromFn.{map-range_with_len_more}
 use Rattle.std.proofs.lemmas.List.Elements.{All-nil, All-push}
 use Rattle.bsi_schema.specs.Columns.{fits, NamedColumn}
 use Rattle.bsi_rows.specs.Rows.{FedRow}
@@ -11,20 +11,15 @@ use Rattle.bsi_ffi.specs.declared.columns.GivenColumn.{GivenColumn}
 use Rattle.bsi_ffi.specs.Columns.{given_rows, row_of}
 
 -- one row more
-pub given_rows-more : (feeder : ℕ) (columns : List GivenColumn) (from n : ℕ)
+given_rows-more : (feeder : ℕ) (columns : List GivenColumn) (from n : ℕ)
     → given_rows feeder columns from (n + 1) ≡ given_rows feeder columns from n ++ (feeder, row_of columns (from + n)) ∷ []
 unfolding given_rows
 given_rows-more feeder columns from n = map-range_with_len_more (λ r. (feeder, row_of columns r)) from n (from + n) refl
 
 -- no row
-pub given_rows-none : (feeder : ℕ) (columns : List GivenColumn) (from : ℕ) → given_rows feeder columns from 0 ≡ []
+given_rows-none : (feeder : ℕ) (columns : List GivenColumn) (from : ℕ) → given_rows feeder columns from 0 ≡ []
 unfolding given_rows
 given_rows-none feeder columns from = refl
-
--- as many as are asked for
-pub length-given_rows : (feeder : ℕ) (columns : List GivenColumn) (from n : ℕ) → length (given_rows feeder columns from n) ≡ n
-unfolding given_rows
-length-given_rows feeder columns from n = length-map-range_with_len (λ r. (feeder, row_of columns r)) from n
 
 -- a block behind another
 pub given_rows-append : (feeder : ℕ) (columns : List GivenColumn) (from a b : ℕ)

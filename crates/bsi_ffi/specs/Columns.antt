@@ -1,5 +1,5 @@
 -- Rows that are given as columns: numbers, and a bitmap that says which of them are there.
-use Rattle.std.specs.Prelude.{◌≡◌, ℕ, ◌+◌, ◌/◌, ◌%◌, ◌<◌, ◌==◌, ◌||◌, ◌&&◌, nat_eq, nat_le, Bool, true, false, List, [], ◌∷◌, length, map, Option, Some, None, slice_index, slice_index_or, take, ℤ, pos, if◌then◌else◌}
+use Rattle.std.specs.Prelude.{◌≡◌, ℕ, ◌+◌, ◌/◌, ◌%◌, ◌^◌, ◌<◌, ◌==◌, ◌||◌, ◌&&◌, nat_eq, nat_le, Bool, true, false, List, [], ◌∷◌, length, map, Option, Some, None, slice_index, slice_index_or, take, ℤ, pos, if◌then◌else◌}
 use Rattle.std.specs.Int.{bit_at}
 use Rattle.std.specs.List.{list_all, prefix_len, range_with_len}
 use Rattle.bsi_ffi.specs.declared.columns.GivenColumn.{GivenColumn}
@@ -9,6 +9,11 @@ use Rattle.bsi_rows.specs.Rows.{entry_at, Entries, FedRow}
 -- a bitmap has bit r, the lowest digit of a byte first; one of no byte has each
 abbrev pub is_valid : List ℕ → ℕ → Bool
 is_valid valid r = nat_eq (length valid) 0 || (bit_at (slice_index valid (r / 8)) (r % 8) == 1)
+
+-- a word tells which of so many entries, from one on, are there: it has bit r where the bitmap has that of entry from + r
+pub record IsNotNullWord (valid : List ℕ) (from count word : ℕ) : Type 0 where
+  pub there : (r : ℕ) → r < count → (bit_at word r == 1) ≡ is_valid valid (from + r)
+  pub clear : word < 2 ^ count
 
 -- the column has so many numbers, and a bit for each
 abbrev pub has_rows : ℕ → GivenColumn → Bool

@@ -1,63 +1,35 @@
 //! Rows of columns that go into an index, block by block.
 
 ghost use Rattle.std.specs.Prelude.{◌≡◌, ◌+◌, ◌%◌, ◌<◌, ◌≤◌, length, true, IfErr, OnErr, OnOk};
-ghost use Rattle.std.specs.List.{list_all};
 ghost use Rattle.bsi_ffi.specs.Calls.{with_first, AreAppendable, AppendsColumns, IsRowsRefusal};
-ghost use Rattle.bsi_ffi.specs.Columns.{are_columns, given_rows, has_rows, row_count, row_of, AreTaken};
+ghost use Rattle.bsi_ffi.specs.Columns.{are_columns, given_rows, row_count, AreTaken};
 ghost use Rattle.bsi_rows.specs.RowBlocks.{max_block_rows};
 ghost use Rattle.bsi_rows.specs.Table.{with_rows};
 ghost use Rattle.bsi_table.specs.Index.{table_of};
 
-use crate::columns::{GivenColumn, are_columns, count_rows, entry, first_unlike};
+use crate::columns::{GivenColumn, are_columns, count_rows, first_unlike, not_null_word};
 use crate::fitting::first_misfit;
 use crate::refusal::Refusal;
 use bsi_table::{Block, Index, MAX_BLOCK_ROWS, NoMemory};
-use std::alloc::Global;
 
-/// Reads the entries of row `r` of the columns. It takes no memory if there is room for an entry of each.
-fn read_entries(
-    columns: &[GivenColumn],
-    rows: usize,
-    r: usize,
-    entries: &mut Vec<Option<i64>>,
-) -> Result<(), NoMemory>
-    requires whole { list_all (has_rows rows) columns.now ≡ true }
-    requires within { r < rows }
-    ensures { OnOk result (entries.new.items ≡ row_of columns.now r) }
-{
-    entries.clear();
-    entries.reserve(columns.len())?;
-    'columns: for column in columns {
-        entries.push_reserved(entry(column, rows, r));
-    }
-    Ok(())
-}
-
-/// Fills the block with so many rows of a feeder, from row `from` on. Each fits.
-fn fill_block(
-    feeder: u32,
-    columns: &[GivenColumn],
-    from: usize,
-    count: usize,
-    entries: &mut Vec<Option<i64>>,
-    block: &mut Block,
-) -> Result<(), NoMemory>
+/// Fills the block with so many rows of a feeder, from row `from` on, column by column. Each fits.
+fn fill_block(feeder: u32, columns: &[GivenColumn], from: usize, count: usize, block: &mut Block)
     requires fed { feeder < block.old.feeders }
     requires even { are_columns (length block.old.schema.columns) columns.now ≡ true }
     requires taken { AreTaken block.old.schema.columns columns.now (row_count columns.now) }
     requires within { from + count ≤ row_count columns.now }
-    requires few { count ≤ max_block_rows }
+    requires first { from % max_block_rows ≡ 0 }
+    requires few { (0 < count) × (count ≤ max_block_rows) }
     ensures schema { block.new.schema ≡ block.old.schema }
     ensures feeders { block.new.feeders ≡ block.old.feeders }
-    ensures rows { OnOk result (block.new.rows ≡ given_rows feeder columns.now from count) }
+    ensures rows { block.new.rows ≡ given_rows feeder columns.now from count }
 {
     block.clear();
-    let rows = count_rows(columns);
-    'rows: for r in from..from + count {
-        read_entries(columns, rows, r, entries)?;
-        block.push_fitting(feeder, entries);
+    block.push_nulls(feeder, count);
+    'columns: for (c, column) in columns.iter().enumerate() {
+        let not_null = not_null_word(column, from, count);
+        block.write_column(c, &column.values[from..from + count], not_null);
     }
-    Ok(())
 }
 
 /// Appends so many rows from row `from` on, or none. Each fits, and all are within the limit.
@@ -67,14 +39,14 @@ fn append_block(
     columns: &[GivenColumn],
     from: usize,
     count: usize,
-    entries: &mut Vec<Option<i64>>,
     block: &mut Block,
 ) -> Result<(), NoMemory>
     requires fed { feeder < index.old.feeders }
     requires even { are_columns (length index.old.schema.columns) columns.now ≡ true }
     requires taken { AreTaken index.old.schema.columns columns.now (row_count columns.now) }
     requires within { from + count ≤ row_count columns.now }
-    requires few { count ≤ max_block_rows }
+    requires first { from % max_block_rows ≡ 0 }
+    requires few { (0 < count) × (count ≤ max_block_rows) }
     requires schema { block.old.schema ≡ index.old.schema }
     requires feeders { block.old.feeders ≡ index.old.feeders }
     ensures schema { block.new.schema ≡ block.old.schema }
@@ -84,7 +56,7 @@ fn append_block(
         ≡ with_rows (table_of index.old) (given_rows feeder columns.now from count)) }
     ensures kept { OnErr result (table_of index.new ≡ table_of index.old) }
 {
-    fill_block(feeder, columns, from, count, entries, block)?;
+    fill_block(feeder, columns, from, count, block);
     // All rows were tested, so only memory can be refused.
     index.append_block(block).map_err(|_| NoMemory)?;
     Ok(())
@@ -93,7 +65,6 @@ fn append_block(
 /// Appends all rows of the columns, in blocks, and writes how many were appended. If memory is refused, these are those
 /// of the blocks before.
 fn append_blocks(
-    alloc: Global,
     index: &mut Index,
     feeder: u32,
     columns: &[GivenColumn],
@@ -112,20 +83,11 @@ fn append_blocks(
     if rows == 0 {
         return Ok(());
     }
-    let mut entries = Vec::new(alloc);
     let mut block = index.new_block()?;
     'parts: for k in 0..rows.div_ceil(MAX_BLOCK_ROWS) {
         let from = MAX_BLOCK_ROWS * k;
         let count = (rows - from).min(MAX_BLOCK_ROWS);
-        append_block(
-            index,
-            feeder,
-            columns,
-            from,
-            count,
-            &mut entries,
-            &mut block,
-        )?;
+        append_block(index, feeder, columns, from, count, &mut block)?;
         *appended = (from + count) as u64;
     }
     Ok(())
@@ -171,7 +133,6 @@ fn check_rows(
 /// row, and appends none. If memory is refused, it writes how many were appended. It writes the first column that is
 /// refused.
 pub(crate) fn append_columns(
-    alloc: Global,
     index: &mut Index,
     feeder: u32,
     columns: &[GivenColumn],
@@ -183,6 +144,6 @@ pub(crate) fn append_columns(
         (table_of index.new) result }
 {
     check_rows(index, feeder, columns, row, column)?;
-    append_blocks(alloc, index, feeder, columns, row)?;
+    append_blocks(index, feeder, columns, row)?;
     Ok(())
 }

@@ -101,7 +101,7 @@ pub fn append(
         *column = 0;
         return Err(Refusal::Closed);
     };
-    let ending = state.append(alloc, feeder, columns, row, column);
+    let ending = state.append(feeder, columns, row, column);
     put(index, state);
     ending
 }

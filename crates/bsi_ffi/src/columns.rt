@@ -1,8 +1,10 @@
 //! Rows that C gives as columns.
 
-ghost use Rattle.std.specs.Prelude.{◌≡◌, ◌<◌, true};
+ghost use Rattle.std.specs.Prelude.{◌≡◌, ℕ, ◌+◌, ◌*◌, ◌/◌, ◌%◌, ◌<◌, ◌≤◌, length, slice_index, true};
+ghost use Rattle.std.specs.Int.{bit_at};
 ghost use Rattle.std.specs.List.{list_all};
-ghost use Rattle.bsi_ffi.specs.Columns.{are_columns, entry_of, first_unlike, has_rows, row_count};
+ghost use Rattle.bsi_ffi.specs.Columns.{are_columns, entry_of, first_unlike, has_rows, row_count, IsNotNullWord};
+ghost use Rattle.bsi_rows.specs.RowBlocks.{max_block_rows};
 ghost use Rattle.bsi_schema.specs.Columns.{is_between};
 
 use bsi_schema::Limits;
@@ -62,7 +64,7 @@ pub(crate) fn first_unlike(columns: &[GivenColumn], count: u32) -> usize
 }
 
 /// Returns the entry of row `r`.
-pub(crate) fn entry(column: &GivenColumn, rows: usize, r: usize) -> Option<i64>
+fn entry(column: &GivenColumn, rows: usize, r: usize) -> Option<i64>
     requires whole { has_rows rows column.now ≡ true }
     requires within { r < rows }
     ensures { result ≡ entry_of r column.now }
@@ -83,4 +85,33 @@ pub(crate) fn is_taken(column: &GivenColumn, rows: usize, r: usize, limits: Limi
         return true;
     };
     limits.takes(Some(i128::from(number)))
+}
+
+/// Returns the word that tells which of so many entries, from entry `from` on, are there. It reads whole bytes.
+pub(crate) fn not_null_word(column: &GivenColumn, from: usize, count: usize) -> u64
+    requires whole { has_rows (length column.now.values.now) column.now ≡ true }
+    requires within { from + count ≤ length column.now.values.now }
+    requires first { from % max_block_rows ≡ 0 }
+    requires few { (0 < count) × (count ≤ max_block_rows) }
+    ensures { IsNotNullWord column.now.valid.now from count result }
+{
+    let each = u64::MAX >> (64 - count);
+    if column.valid.is_empty() {
+        return each;
+    }
+    let first = from / 8;
+    word_of(&column.valid[first..first + count.div_ceil(8)]) & each
+}
+
+/// Returns the word of at most eight bytes, of which the first is the lowest.
+fn word_of(bytes: &[u8]) -> u64
+    requires { length bytes.now ≤ 8 }
+    ensures { (r : ℕ) → r < 8 * length bytes.now →
+        bit_at result r ≡ bit_at (slice_index bytes.now (r / 8)) (r % 8) }
+{
+    let mut word = 0;
+    'bytes: for (i, byte) in bytes.iter().enumerate() {
+        word |= u64::from(*byte) << (8 * i);
+    }
+    word
 }

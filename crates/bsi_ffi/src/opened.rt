@@ -9,7 +9,6 @@ use crate::blocks::append_columns;
 use crate::columns::GivenColumn;
 use crate::refusal::Refusal;
 use bsi_table::Index;
-use std::alloc::Global;
 use std::marker::Model;
 
 /// An index, and the text that declared its columns and its limit.
@@ -88,7 +87,6 @@ impl Opened {
     /// Appends the rows of the columns, as `append_columns` does.
     pub(crate) fn append(
         &mut self,
-        alloc: Global,
         feeder: u32,
         columns: &[GivenColumn],
         row: &mut u64,
@@ -99,6 +97,6 @@ impl Opened {
         ensures rows { AppendsColumns self.old.table feeder columns.now row.new column.new
             self.new.table result }
     {
-        append_columns(alloc, &mut self.index, feeder, columns, row, column)
+        append_columns(&mut self.index, feeder, columns, row, column)
     }
 }

@@ -50,7 +50,6 @@ impl State {
     /// Appends the rows of the columns, if one handle alone holds the index.
     pub(crate) fn append(
         &mut self,
-        alloc: Global,
         feeder: u32,
         columns: &[GivenColumn],
         row: &mut u64,
@@ -62,7 +61,7 @@ impl State {
         *row = 0;
         *column = 0;
         match self {
-            State::Alone(opened) => opened.append(alloc, feeder, columns, row, column),
+            State::Alone(opened) => opened.append(feeder, columns, row, column),
             State::Shared(_) => Err(Refusal::Shared),
             State::Moved => Err(Refusal::Closed),
         }

@@ -1,52 +1,68 @@
-use Rattle.std.proofs.Common.{◌≡◌, ◌+◌, ◌-◌, List, [], ◌∷◌, ◌++◌, true, length, refl, ap, sym, subst, ◌∙◌, arith}
-use Rattle.std.proofs.lemmas.List.{length-append}
-use Rattle.bsi_schema.specs.Columns.{fits, Declared}
-use Rattle.bsi_rows.specs.RowBlocks.{RowBlock}
-use Rattle.bsi_rows.specs.Rows.{Entries, FedRow}
-use Rattle.bsi_ffi.specs.Columns.{given_rows, row_of}
-use Rattle.bsi_ffi.proofs.GivenRows.{given_rows-more, given_rows-none}
+use Rattle.std.proofs.Common.{◌≡◌, List, None, length, replicate, sym, ap, subst, ◌∙◌, arith, below_more}
+use Rattle.bsi_schema.specs.Columns.{Declared}
+use Rattle.bsi_ffi.specs.Columns.{given_rows}
+use Rattle.bsi_rows.specs.RowBlocks.{emptied_block, with_null_rows, RowBlock}
+use Rattle.bsi_rows.specs.Rows.{column_of, feeders_of, FedRow}
+use Rattle.bsi_rows.specs.Table.{AreFitting}
+use Rattle.bsi_ffi.proofs.GivenColumns.{columns_many, feeders-given_rows, feeders-replicate, null_rows-fitting, written-column, written-long, written-taken}
+use Rattle.bsi_ffi.proofs.GivenRows.{fitting-given_rows}
+use Rattle.bsi_ffi.proofs.RowsByColumn.{same_rows}
 use Rattle.bsi_ffi.proofs.blocks.fill_block.Goals as goal
 
-pub rows-init : goal.rows-init
-rows-init c =
-    let none = ap (λ (b : RowBlock). b.rows) c.clear.ensures in
-    let zero : 0 ≡ c.args.from - c.args.from = omega arith in
+-- the rows are of the feeder, and of nulls
+pub columns-init : goal.columns-init
+columns-init c =
+    let old = c.args.block.now in
+    let is : c.push_nulls.new.self ≡ with_null_rows (emptied_block old) c.args.feeder c.args.count =
+    c.push_nulls.ensures ∙ ap (λ (b : RowBlock). with_null_rows b c.args.feeder c.args.count) c.clear.ensures in
     record {
-      schema = refl;
-      feeders = refl;
-      rows = none ∙ sym (given_rows-none c.args.feeder c.args.columns.now c.args.from) ∙ ap (given_rows c.args.feeder c.args.columns.now c.args.from) zero;
-      long = ap length none ∙ zero;
-      past = omega arith;
+      schema = ap (λ (b : RowBlock). b.schema) is;
+      feeders = ap (λ (b : RowBlock). b.feeders) is;
+      from = ap (λ (b : RowBlock). feeders_of b.rows) is ∙ feeders-replicate c.args.count c.args.feeder (replicate (length old.schema.columns) None);
+      fitting = subst (λ (b : RowBlock). AreFitting b.schema.columns b.rows) (sym is) (null_rows-fitting old.schema.columns c.args.count c.args.feeder);
+      written = λ k below. absurd {A = column_of c.push_nulls.new.self.rows k ≡ column_of (given_rows c.args.feeder c.args.columns.now c.args.from c.args.count) k} (omega (arith, below));
     }
 
-pub push_fitting-requires-clause-room : goal.push_fitting-requires-clause-room
-push_fitting-requires-clause-room c = omega (arith, c.rows.invariant.long, c.rows.invariant.past, c.rows-test.true, c.requires.few)
+-- a column is written
+pub write_column-requires-clause-long : goal.write_column-requires-clause-long
+write_column-requires-clause-long c =
+    written-long c.args.block.now.schema.columns c.args.columns.now c.requires.even c.columns.c _ (omega arith)
+    c.args.feeder c.args.from c.args.count _ c.not_null_word-not_null.result (omega arith) c.requires.within c.not_null_word-not_null.ensures
+    c.columns.block.rows c.columns.invariant.from
 
--- the row fits
-pub push_fitting-requires-clause-fits : goal.push_fitting-requires-clause-fits
-push_fitting-requires-clause-fits c =
-    let schema : c.rows.block.schema ≡ c.args.block.now.schema = c.rows.invariant.schema ∙ ap (λ (b : RowBlock). b.schema) c.clear.ensures in
-    subst (λ (d : Declared). fits d.columns c.deref.result.now ≡ true) (sym schema)
-    (subst (λ (r : Entries). fits c.args.block.now.schema.columns r ≡ true) (sym (c.deref.ensures.value ∙ c.in_ok-read_entries.ensures))
-    (c.requires.taken c.rows.r (omega (arith, c.rows-test.true, c.requires.within))))
+pub write_column-requires-clause-taken : goal.write_column-requires-clause-taken
+write_column-requires-clause-taken c =
+    written-taken c.args.block.now.schema.columns c.args.columns.now c.requires.even c.columns.c _ (omega arith)
+    c.args.feeder c.args.from c.args.count _ c.not_null_word-not_null.result (omega arith) c.requires.within c.not_null_word-not_null.ensures
+    c.columns.block.schema.columns (ap (λ (s : Declared). s.columns) c.columns.invariant.schema) c.requires.taken
 
--- so it is added
-pub rows-preserved : goal.rows-preserved
-rows-preserved c =
-    let all = c.rows.invariant in
-    let row = c.deref.result.now in
-    let is = c.deref.ensures.value ∙ c.in_ok-read_entries.ensures in
-    let added = c.push_fitting.ensures in
-    let rows = ap (λ (b : RowBlock). b.rows) added in
-    let from = c.args.from in
-    let at : c.rows.r ≡ from + (c.rows.r - from) = omega (arith, all.past) in
-    let more : c.rows.r - from + 1 ≡ c.rows.r + 1 - from = omega (arith, all.past) in
+pub columns-preserved : goal.columns-preserved
+columns-preserved c =
+    let all = c.columns.invariant in
+    let has = c.write_column.ensures.column in
+    let rows : List FedRow = given_rows c.args.feeder c.args.columns.now c.args.from c.args.count in
+    let new : List FedRow = c.write_column.new.self.rows in
+    let here : column_of new c.columns.c ≡ column_of rows c.columns.c =
+    has.written ∙ written-column c.args.block.now.schema.columns c.args.columns.now c.requires.even c.columns.c _ (omega arith)
+    c.args.feeder c.args.from c.args.count _ c.not_null_word-not_null.result (omega arith) c.requires.within c.not_null_word-not_null.ensures in
     record {
-      schema = ap (λ (b : RowBlock). b.schema) added ∙ all.schema;
-      feeders = ap (λ (b : RowBlock). b.feeders) added ∙ all.feeders;
-      rows = rows ∙ ap (λ (xs : List FedRow). xs ++ (c.args.feeder, row) ∷ []) all.rows
-          ∙ ap (λ (r : Entries). given_rows c.args.feeder c.args.columns.now from (c.rows.r - from) ++ (c.args.feeder, r) ∷ []) (is ∙ ap (row_of c.args.columns.now) at)
-          ∙ sym (given_rows-more c.args.feeder c.args.columns.now from (c.rows.r - from)) ∙ ap (given_rows c.args.feeder c.args.columns.now from) more;
-      long = ap length rows ∙ omega (arith, length-append c.rows.block.rows ((c.args.feeder, row) ∷ []), all.long, all.past);
-      past = omega (arith, all.past);
+      schema = has.schema ∙ all.schema;
+      feeders = has.feeders ∙ all.feeders;
+      from = has.from ∙ all.from;
+      fitting = c.write_column.ensures.fitting;
+      written = below_more (λ k. column_of new k ≡ column_of rows k) c.columns.c
+          (λ k below. has.others k (λ same. absurd (omega (arith, same, below))) ∙ all.written k below) here;
     }
+
+-- each column is written, so these are the rows
+pub returns-clause-rows : goal.returns-clause-rows
+returns-clause-rows c =
+    let old = c.args.block.now in
+    let now = c.columns.block in
+    let all = c.columns.invariant in
+    let rows : List FedRow = given_rows c.args.feeder c.args.columns.now c.args.from c.args.count in
+    same_rows old.schema.columns now.rows rows
+    (subst (λ (s : Declared). AreFitting s.columns now.rows) all.schema all.fitting)
+    (fitting-given_rows old.schema.columns c.args.feeder c.args.columns.now c.args.from c.args.count (λ r before. c.requires.taken r (omega (arith, before, c.requires.within))))
+    (all.from ∙ sym (feeders-given_rows c.args.feeder c.args.columns.now c.args.from c.args.count))
+    (λ k below. all.written k (omega (arith, below, columns_many (length old.schema.columns) c.args.columns.now c.requires.even, c.columns-test.false)))
