@@ -2,11 +2,13 @@
 //! and writers that fail.
 #![tactic(auto)]
 
+mod blocks;
 mod columns;
 mod streams;
 mod tables;
 mod whole;
 
+pub use blocks::{has_fitting_rows, write_values};
 pub use columns::{
     FORMS, MakingError, TestForm, Wide, append, compared, empty_column, empty_decomposed,
     empty_slices, has_bits,

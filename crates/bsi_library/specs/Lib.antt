@@ -6,6 +6,7 @@ pub use Rattle.bsi_groups.specs.Tops
 pub use Rattle.bsi_load.specs.Runs
 pub use Rattle.bsi_load.specs.Shown
 pub use Rattle.bsi_load.specs.Sizes
+pub use Rattle.bsi_orders.specs.Blocks
 pub use Rattle.bsi_orders.specs.Orders
 pub use Rattle.bsi_orders.specs.Rows as ColumnRows
 pub use Rattle.bsi_orders.specs.Totals

@@ -10,7 +10,8 @@ pub use bsi_load as machine;
 pub use bsi_parallel as parallel;
 pub use bsi_system as running;
 pub use bsi_table::{
-    Answer, AppendError, AskError, Block, ColumnSpec, Form, Index, IndexError, MAX_BLOCK_ROWS,
-    MAX_FEEDERS, MAX_ROWS, MAX_SLICES, NoMemory, Op, Pred, Query, Row, Schema, SchemaError, Total,
+    Answer, AppendError, AskError, Block, BlockColumn, ColumnSpec, Form, Index, IndexError,
+    MAX_BLOCK_ROWS, MAX_FEEDERS, MAX_ROWS, MAX_SLICES, NoMemory, Op, Pred, Query, Row, Schema,
+    SchemaError, Total,
 };
 pub use bsi_text as texts;

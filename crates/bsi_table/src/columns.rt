@@ -5,9 +5,9 @@
 ghost use Rattle.std.specs.Prelude.{◌≡◌, ℕ, ◌+◌, ◌<◌, ◌≤◌, [], All, None, length, slice_index_or, true, IfOk, OnOk};
 ghost use Rattle.bsi_bits.specs.BitList.{max_len};
 ghost use Rattle.bsi_columns.specs.AnyRows.{any_entries};
-ghost use Rattle.bsi_shift.specs.Shifted.{shifted_entries, shifted_room};
+ghost use Rattle.bsi_shift.specs.Shifted.{shifted_entries, shifted_room, shifted_size, IsInRange};
 ghost use Rattle.bsi_schema.specs.Columns.{column_at, IsForm};
-ghost use Rattle.bsi_rows.specs.Rows.{row_entries};
+ghost use Rattle.bsi_rows.specs.Rows.{column_of, row_entries};
 ghost use Rattle.bsi_table.specs.Kept.{kept_at, AreAlikeColumns, AreInRange, AreKept, AreI64, AreSameColumns, HasMore, HaveMore, HaveOneMore, HaveRoom, HaveRows, IsInForm, Keeps, TakesRow, row_in};
 
 use crate::{Block, Form, NoMemory, Schema};
@@ -101,8 +101,20 @@ pub(crate) fn push_block_each(columns: &mut [Shifted], block: &Block)
     ensures { HaveMore columns.old columns.new block.now.rows }
 {
     'columns: for (c, column) in columns.iter_mut().enumerate() {
-        column.push_block_reserved(block.column(c));
+        push_column(column, block, c);
     }
+}
+
+/// Appends to a column its entries of a block of rows, as column `c`, into room that is already there.
+fn push_column(column: &mut Shifted, block: &Block, c: usize)
+    requires within { c < length block.now.schema.columns }
+    requires room { length block.now.rows ≤ shifted_room column.old }
+    requires range { All (IsInRange column.old.offset (shifted_size column.old))
+        (column_of block.now.rows c) }
+    ensures { HasMore column.old column.new (column_of block.now.rows c) }
+{
+    let entries = block.column(c);
+    column.push_block_reserved(entries.offset, entries.numbers, entries.not_null);
 }
 
 /// Appends to each column all entries of another one, which is kept alike, into room that is already there.

@@ -10,8 +10,9 @@ mod totals;
 
 pub use bitmaps::{column_from_bitmaps, count_bitmaps};
 pub use bsi_rows::{
-    Answer, AppendError, AskError, Block, ColumnSpec, Form, IndexError, MAX_BLOCK_ROWS,
-    MAX_FEEDERS, MAX_ROWS, MAX_SLICES, Op, Pred, Query, Row, Schema, SchemaError, Total,
+    Answer, AppendError, AskError, Block, BlockColumn, ColumnSpec, Form, IndexError,
+    MAX_BLOCK_ROWS, MAX_FEEDERS, MAX_ROWS, MAX_SLICES, Op, Pred, Query, Row, Schema, SchemaError,
+    Total,
 };
 pub use index::Index;
 pub use std::alloc::AllocError as NoMemory;

@@ -13,8 +13,8 @@ column_in_range kept rows c within taken =
     let InRange : Option ℤ → Type 0 = IsInRange (kept_at kept c).offset (shifted_size (kept_at kept c)) in
     All-map InRange (λ row. entry_at row.1 c) rows (All-weaker (λ row. TakesRow kept row.1) (λ row. InRange (entry_at row.1 c)) (λ row takes. takes.range c within) rows taken)
 
-pub push_block_reserved-requires-clause-range : goal.push_block_reserved-requires-clause-range
-push_block_reserved-requires-clause-range c =
+pub push_column-requires-clause-range : goal.push_column-requires-clause-range
+push_column-requires-clause-range c =
     let now = c.columns.columns in
     let at = c.columns.c in
     let old = c.args.columns.now in
@@ -22,6 +22,4 @@ push_block_reserved-requires-clause-range c =
     let within : at < length now = omega (arith, c.columns-test.true, c.columns.auto.columns) in
     let column = get_or now at c.index-columns-c.result in
     let read : column ≡ kept_at old at = sym c.index-columns-c.is ∙ sym (kept_read now at c.index-columns-c.result within c.index-columns-c.is) ∙ c.columns.invariant.others at (omega arith) in
-    let all = column_in_range old rows at c.columns-test.true c.requires.taken in
-    subst (All (IsInRange column.offset (shifted_size column))) (sym c.column.ensures.entries)
-    (subst (λ (column : OffsetColumn). All (IsInRange column.offset (shifted_size column)) (column_of rows at)) (sym read) all)
+    subst (λ (column : OffsetColumn). All (IsInRange column.offset (shifted_size column)) (column_of rows at)) (sym read) (column_in_range old rows at c.columns-test.true c.requires.taken)
