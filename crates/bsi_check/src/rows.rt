@@ -139,12 +139,13 @@ fn count_records<I: Read + Drop>(
 {
     let (mut records, mut bad) = (0u64, 0u64);
     let mut fields = ByteRecord::new(alloc);
+    let mut entries = Vec::new(alloc);
     let mut row = Row::new(Vec::new(alloc));
     'records: while records < MAX_RECORDS {
         if !read_next(input, &mut fields)? {
             return Ok(FileCounts { records, bad });
         }
-        let good = is_good_record(alloc, layout, &fields, &mut row)?;
+        let good = is_good_record(alloc, layout, &fields, &mut entries, &mut row)?;
         records += 1;
         if good {
             continue;
@@ -166,12 +167,13 @@ fn is_good_record(
     alloc: Global,
     layout: &Layout,
     fields: &ByteRecord,
+    entries: &mut Vec<Option<i64>>,
     row: &mut Row,
 ) -> Result<bool, NoMemory>
     ensures { IfOk result (λ good. good
         ≡ is_some (good_row layout.now.schema layout.now.header (fields_of fields.now))) }
 {
-    layout.read(alloc, fields, row)
+    layout.read(alloc, fields, entries, row)
 }
 
 /// Adds the reason why a record is bad.

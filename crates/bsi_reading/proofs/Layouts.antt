@@ -1,20 +1,17 @@
 -- The fields of a record by their places, and a header's names.
-use Rattle.std.proofs.Common.{◌≡◌, ℕ, ◌+◌, ◌<◌, ◌≤◌, Bool, true, false, cond, not, if◌then◌else◌, ◌&&◌, List, [], ◌∷◌, length, take, drop, get_or, Option, Some, None, map, option_and_then, nat_eq, refl, sym, ap, ap₂, ◌∙◌, arith, below_more, ℤ, ◌++◌}
+use Rattle.std.proofs.Common.{◌≡◌, ℕ, ◌+◌, ◌<◌, ◌≤◌, Bool, true, false, cond, not, if◌then◌else◌, ◌&&◌, List, [], ◌∷◌, length, take, drop, get_or, Option, Some, None, option_and_then, nat_eq, refl, sym, ap, ap₂, ◌∙◌, arith, below_more, ℤ, ◌++◌}
 use Rattle.std.specs.List.{list_all}
 use Rattle.std.specs.Str.{bytes_eq}
 use Rattle.std.proofs.lemmas.Bool.Decides.{Decides-eqb}
 use Rattle.std.proofs.lemmas.List.{at_drop_more, get_or-map, get_or_append_left, length-append, length-map, take_all}
 use Rattle.std.proofs.lemmas.Option.{none-some, same_Some}
 use Rattle.std.proofs.Math.Seq.{get_or-append_seam}
-use Rattle.std.proofs.lemmas.Simd.{map-map}
 use Rattle.std.proofs.lemmas.List.Folds.{list_all_more, list_all_at}
 use Rattle.std.proofs.lemmas.List.Sums.{prefix_len-drop_all}
-use Rattle.bsi_schema.specs.Columns.{column_at, entry_at, fits, is_taken_by, Declared, NamedColumn}
-use Rattle.bsi_schema.specs.Limits.{limits_of}
-use Rattle.bsi_schema.specs.declared.limits.Limits.{Limits}
+use Rattle.bsi_schema.specs.Columns.{column_at, entry_at, fits, is_taken_by, no_column, Declared, NamedColumn}
 use Rattle.bsi_rows.specs.Rows.{Entries}
 use Rattle.bsi_schema.proofs.Fitting.{fits-each, misfit-at}
-use Rattle.bsi_records.specs.Numbers.{Field, entry_in, value_in, values_in}
+use Rattle.bsi_records.specs.Numbers.{Field, value_in, values_in}
 use Rattle.bsi_reading.specs.RowFiles.{fitting, in_order, place_of}
 use Rattle.bsi_records.proofs.Values.{behind, values_done, values_next, values_stop}
 
@@ -61,46 +58,6 @@ not_one n m same other = by (nat_eq m 1) refl
     by false e = e
     by true e = absurd (other (same ∙ (Decides-eqb m 1).0 e))
 
--- ---- the fields in the order of the columns
-
--- the fields at these places
-abbrev pub fields_at : List Field → List ℕ → List Field
-fields_at fields places = map (λ place. get_or fields place []) places
-
-pub ordered : (schema : Declared) (header fields : List Field) (places : List ℕ) → places ≡ map (λ column. place_of header column.name) schema.columns
-    → fields_at fields places ≡ in_order schema header fields
-ordered schema header fields places are = ap (fields_at fields) are ∙ map-map (λ place. get_or fields place []) (λ column. place_of header column.name) schema.columns
-
--- so many of the fields were read as these values
-pub record IsRead (signed : Bool) (fields : List Field) (places : List ℕ) (i : ℕ) (values : Entries) : Type 0 where
-  pub so_far : values_in signed (fields_at fields places) ≡ behind values (values_in signed (drop i (fields_at fields places)))
-  pub long : length values ≡ i
-
-module _ (signed : Bool) (fields : List Field) (places : List ℕ) (i : ℕ) (values : Entries) (read : IsRead signed fields places i values) where
-  abbrev pub whole : Option Entries
-  whole = values_in signed (fields_at fields places)
-
-  at_place_i : i < length places → get_or (fields_at fields places) i [] ≡ get_or fields (get_or places i 0) []
-  at_place_i within = get_or-map (λ place. get_or fields place []) places i 0 [] within
-
-  there : i < length places → i < length (fields_at fields places)
-  there within = omega (arith, length-map places (λ place. get_or fields place []))
-
-  pub value_next : (value : Option ℤ) → i < length places → value_in signed (get_or fields (get_or places i 0) []) ≡ Some value
-      → IsRead signed fields places (i + 1) (values ++ value ∷ [])
-  value_next value within this = record {
-    so_far = values_next signed whole (fields_at fields places) i values read.so_far value (there within) (ap (value_in signed) (at_place_i within) ∙ this);
-    long = length-append {A = Option ℤ} values (value ∷ []) ∙ ap (λ n. n + 1) read.long;
-  }
-
-  pub value_stop : i < length places → value_in signed (get_or fields (get_or places i 0) []) ≡ None → None ≡ whole
-  value_stop within this =
-      values_stop signed whole (fields_at fields places) i values read.so_far (there within) (ap (value_in signed) (at_place_i within) ∙ this)
-
-  pub value_done : length places ≤ i → Some values ≡ whole
-  value_done all =
-      values_done signed whole (fields_at fields places) i values read.so_far (omega (arith, length-map places (λ place. get_or fields place [])))
-
 -- ---- entries that their columns take
 
 -- the entry that a column takes
@@ -138,63 +95,63 @@ misfit schema entries entry i (Some more) long within refused =
     ap (λ b. if b then Some row else None)
     (misfit-at schema.columns row i within (ap (is_taken_by (column_at schema.columns i)) (at_seam entries more entry i long) ∙ refused))
 
+-- ---- the fields in the order of the columns, read as entries
+
+-- the field of column i
+pub ordered_field : (schema : Declared) (header fields : List Field) (i : ℕ) → i < length schema.columns
+    → get_or fields (place_of header (column_at schema.columns i).name) [] ≡ get_or (in_order schema header fields) i []
+ordered_field schema header fields i within = sym (get_or-map (λ column. get_or fields (place_of header column.name) []) schema.columns i no_column [] within)
+
 -- so many of the fields were read as entries that their columns take
-module _ (schema : Declared) (header fields : List Field) (i : ℕ) (entries : Entries)
-    (read : IsRead schema.signed fields (map (λ column. place_of header column.name) schema.columns) i entries) where
-  abbrev field_i : Field
-  field_i = get_or fields (get_or (map (λ column. place_of header column.name) schema.columns) i 0) []
+pub record IsRead (schema : Declared) (header fields : List Field) (i : ℕ) (entries : Entries) : Type 0 where
+  pub so_far : values_in schema.signed (in_order schema header fields) ≡ behind entries (values_in schema.signed (drop i (in_order schema header fields)))
+  pub long : length entries ≡ i
+  pub taken : (k : ℕ) → k < i → is_taken_by (column_at schema.columns k) (entry_at entries k) ≡ true
+
+module _ (schema : Declared) (header fields : List Field) (i : ℕ) (entries : Entries) (read : IsRead schema header fields i entries) where
+  abbrev in_row : List Field
+  in_row = in_order schema header fields
 
   abbrev found : Option (Option ℤ)
-  found = value_in schema.signed field_i
+  found = value_in schema.signed (get_or in_row i [])
 
-  among : i < length schema.columns → i < length (map (λ column. place_of header column.name) schema.columns)
-  among within = omega (arith, within, length-map schema.columns (λ column. place_of header column.name))
-
-  all_fields : fields_at fields (map (λ column. place_of header column.name) schema.columns) ≡ in_order schema header fields
-  all_fields = ordered schema header fields (map (λ column. place_of header column.name) schema.columns) refl
-
-  -- what is read of the field of column i
-  pub entry_is : (signed : Bool) (limits : Limits) (text : Field) → signed ≡ schema.signed → limits ≡ limits_of (column_at schema.columns i) → text ≡ field_i
-      → entry_in signed limits text ≡ option_and_then (taken_by (column_at schema.columns i)) found
-  entry_is signed limits text signed_is limits_are text_is =
-      ap (λ s. entry_in s limits text) signed_is ∙ ap (λ l. entry_in schema.signed l text) limits_are
-      ∙ ap (entry_in schema.signed (limits_of (column_at schema.columns i))) text_is
+  long_row : length in_row ≡ length schema.columns
+  long_row = length-map schema.columns (λ column. get_or fields (place_of header column.name) [])
 
   -- one more
   pub entry_read : (entry : Option ℤ) → i < length schema.columns → option_and_then (taken_by (column_at schema.columns i)) found ≡ Some entry
-      → IsRead schema.signed fields (map (λ column. place_of header column.name) schema.columns) (i + 1) (entries ++ entry ∷ [])
-  entry_read entry within this = value_next _ _ _ _ _ read entry (among within) (taken_value (column_at schema.columns i) found entry this).0
-
-  pub entry_taken : ((k : ℕ) → k < i → is_taken_by (column_at schema.columns k) (entry_at entries k) ≡ true)
-      → (entry : Option ℤ) → option_and_then (taken_by (column_at schema.columns i)) found ≡ Some entry
-      → (k : ℕ) → k < i + 1 → is_taken_by (column_at schema.columns k) (entry_at (entries ++ entry ∷ []) k) ≡ true
-  entry_taken before entry this =
-      below_more _ _
-      (λ k below. ap (is_taken_by (column_at schema.columns k)) (get_or_append_left entries (entry ∷ []) None k (omega (arith, below, read.long))) ∙ before k below)
-      (ap (is_taken_by (column_at schema.columns i))
-      (ap (λ n. entry_at (entries ++ entry ∷ []) n) (sym read.long) ∙ get_or-append_seam entries entry [] None)
-      ∙ (taken_value (column_at schema.columns i) found entry this).1)
+      → IsRead schema header fields (i + 1) (entries ++ entry ∷ [])
+  entry_read entry within this =
+      let is = taken_value (column_at schema.columns i) found entry this in
+      record {
+        so_far = values_next schema.signed (values_in schema.signed in_row) in_row i entries read.so_far entry (omega (arith, within, long_row)) is.0;
+        long = length-append {A = Option ℤ} entries (entry ∷ []) ∙ ap (λ n. n + 1) read.long;
+        taken = below_more _ _
+            (λ k below. ap (is_taken_by (column_at schema.columns k)) (get_or_append_left entries (entry ∷ []) None k (omega (arith, below, read.long))) ∙ read.taken k below)
+            (ap (is_taken_by (column_at schema.columns i))
+            (ap (λ n. entry_at (entries ++ entry ∷ []) n) (sym read.long) ∙ get_or-append_seam entries entry [] None)
+            ∙ is.1);
+      }
 
   -- one that is no value, or that its column does not take
   pub entry_stop : i < length schema.columns → option_and_then (taken_by (column_at schema.columns i)) found ≡ None
-      → None ≡ fitting schema (values_in schema.signed (in_order schema header fields))
-  entry_stop within this = by found refl this ∙ ap (λ fs. fitting schema (values_in schema.signed fs)) all_fields
+      → None ≡ fitting schema (values_in schema.signed in_row)
+  entry_stop within this = by found refl this
     where
-      by : (o : Option (Option ℤ)) → found ≡ o → option_and_then (taken_by (column_at schema.columns i)) o ≡ None
-          → None ≡ fitting schema (values_in schema.signed (fields_at fields (map (λ column. place_of header column.name) schema.columns)))
-      by None is none = ap (fitting schema) (value_stop _ _ _ _ _ read (among within) is)
+      there : i < length in_row
+      there = omega (arith, within, long_row)
+
+      by : (o : Option (Option ℤ)) → found ≡ o → option_and_then (taken_by (column_at schema.columns i)) o ≡ None → None ≡ fitting schema (values_in schema.signed in_row)
+      by None is none = ap (fitting schema) (values_stop schema.signed (values_in schema.signed in_row) in_row i entries read.so_far there is)
       by (Some value) is none =
-          let more = value_next _ _ _ _ _ read value (among within) is in
-          misfit schema entries value i _ read.long within (taken_not (column_at schema.columns i) value none) ∙ sym (ap (fitting schema) more.so_far)
+          misfit schema entries value i _ read.long within (taken_not (column_at schema.columns i) value none)
+          ∙ sym (ap (fitting schema) (values_next schema.signed (values_in schema.signed in_row) in_row i entries read.so_far value there is))
 
   -- all
-  pub entries_fit : ((k : ℕ) → k < i → is_taken_by (column_at schema.columns k) (entry_at entries k) ≡ true) → i ≡ length schema.columns
-      → fits schema.columns entries ≡ true
-  entries_fit before all = fits-each schema.columns entries (read.long ∙ all) (λ k within. before k (omega (arith, within, all)))
+  pub entries_fit : i ≡ length schema.columns → fits schema.columns entries ≡ true
+  entries_fit all = fits-each schema.columns entries (read.long ∙ all) (λ k within. read.taken k (omega (arith, within, all)))
 
-  pub entries_done : ((k : ℕ) → k < i → is_taken_by (column_at schema.columns k) (entry_at entries k) ≡ true) → i ≡ length schema.columns
-      → Some entries ≡ fitting schema (values_in schema.signed (in_order schema header fields))
-  entries_done before all =
-      ap (λ b. if b then Some entries else None) (sym (entries_fit before all))
-      ∙ ap (fitting schema) (value_done _ _ _ _ _ read (omega (arith, all, length-map schema.columns (λ column. place_of header column.name))))
-      ∙ ap (λ fs. fitting schema (values_in schema.signed fs)) all_fields
+  pub entries_done : i ≡ length schema.columns → Some entries ≡ fitting schema (values_in schema.signed in_row)
+  entries_done all =
+      ap (λ b. if b then Some entries else None) (sym (entries_fit all))
+      ∙ ap (fitting schema) (values_done schema.signed (values_in schema.signed in_row) in_row i entries read.so_far (omega (arith, all, long_row)))

@@ -13,7 +13,7 @@ ghost use Rattle.bsi_records.specs.Numbers.{values_in};
 ghost use Rattle.bsi_reading.specs.RowFiles.{fitting, given, good_row, in_order, is_header, is_known, is_named_once, place_of};
 
 use crate::NoMemory;
-use bsi_records::{field, read_entry, read_value};
+use bsi_records::{field, read_entry};
 use bsi_rows::{Block, Row, Schema};
 use csv::ByteRecord;
 use std::alloc::Global;
@@ -96,38 +96,34 @@ impl Layout {
         Block::new(alloc, &self.schema, feeders)
     }
 
-    /// Empties a row, and makes room in it for an entry of each column.
-    pub(crate) fn make_room(&self, alloc: Global, row: &mut Row) -> Result<(), NoMemory>
-        ensures { OnOk result (row.new ≡ []) }
+    /// Makes room in a list for the entries of a row.
+    pub(crate) fn make_room(&self, entries: &mut Vec<Option<i64>>) -> Result<(), NoMemory>
+        ensures { OnOk result (length self.now.schema.columns ≤ vec_capacity entries.new) }
     {
-        let mut values = mem::replace(row, Row::new(Vec::new(alloc))).into_values();
-        values.clear();
-        values.reserve(self.places.len())?;
-        *row = Row::new(values);
-        Ok(())
+        entries.clear();
+        entries.reserve(self.places.len())
     }
 
-    /// Reads a record into a row, and returns whether the record is good. It allocates no memory if the row has room.
-    pub fn read(&self, alloc: Global, fields: &ByteRecord, row: &mut Row) -> Result<bool, NoMemory>
+    /// Reads a record into its entries, makes a row of these if the record is good, and returns whether it is. It
+    /// allocates no memory if the list and the row have room.
+    pub fn read(
+        &self,
+        alloc: Global,
+        fields: &ByteRecord,
+        entries: &mut Vec<Option<i64>>,
+        row: &mut Row,
+    ) -> Result<bool, NoMemory>
         ensures row { IfOk result (λ good. given good row.new
             ≡ good_row self.now.schema self.now.header (fields_of fields.now)) }
         ensures fits { IfOk result (λ good. good ≡ true →
             IsTrue (fits self.now.schema.columns row.new)) }
     {
-        if fields.len() != self.header.len() {
+        self.make_room(entries)?;
+        if fields.len() != self.header.len() || !self.read_entries(fields, entries) {
             return Ok(false);
         }
-        if !self.read_values(alloc, fields, row)? {
-            return Ok(false);
-        }
-        Ok(self.schema.fits(row))
-    }
-
-    /// Makes a list of no entries, with room for those of a row.
-    pub(crate) fn entries(&self, alloc: Global) -> Result<Vec<Option<i64>>, NoMemory>
-        ensures { IfOk result (λ entries. length self.now.schema.columns ≤ vec_capacity entries) }
-    {
-        Vec::with_capacity(alloc, self.places.len())
+        set_row(alloc, entries, row)?;
+        Ok(true)
     }
 
     /// Reads a record into the entries of a row, adds these to a block if the record is good, and returns whether it
@@ -159,7 +155,6 @@ impl Layout {
     }
 
     /// Reads the fields of a record in the order of the columns as the entries of a row, and returns whether this fits.
-    // A block takes entries of 64 bits, tested as they are read. A row of numbers of 128 bits is read by `read_values`.
     fn read_entries(&self, fields: &ByteRecord, entries: &mut Vec<Option<i64>>) -> bool
         requires wide { length self.now.schema.columns ≤ vec_capacity entries.old }
         ensures row { given result entries.new.items
@@ -179,31 +174,20 @@ impl Layout {
         }
         true
     }
+}
 
-    /// Reads the fields of a record in the order of the columns, and returns whether each is a value.
-    fn read_values(
-        &self,
-        alloc: Global,
-        fields: &ByteRecord,
-        row: &mut Row,
-    ) -> Result<bool, NoMemory>
-        ensures { IfOk result (λ read. given read row.new
-            ≡ values_in self.now.schema.signed
-            (in_order self.now.schema self.now.header (fields_of fields.now))) }
-    {
-        let signed = self.schema.signed();
-        let mut values = mem::replace(row, Row::new(Vec::new(alloc))).into_values();
-        values.clear();
-        'places: for place in &self.places {
-            let Some(value) = read_value(signed, field(fields, *place)) else {
-                *row = Row::new(values);
-                return Ok(false);
-            };
-            values.push(value)?;
-        }
-        *row = Row::new(values);
-        Ok(true)
+/// Makes a row of these entries.
+fn set_row(alloc: Global, entries: &[Option<i64>], row: &mut Row) -> Result<(), NoMemory>
+    ensures { OnOk result (row.new ≡ entries.now) }
+{
+    let mut values = mem::replace(row, Row::new(Vec::new(alloc))).into_values();
+    values.clear();
+    values.reserve(entries.len())?;
+    'entries: for entry in entries {
+        values.push_reserved(entry.map(i128::from));
     }
+    *row = Row::new(values);
+    Ok(())
 }
 
 /// Returns whether a header names each column exactly once, and nothing else.

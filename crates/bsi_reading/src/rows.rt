@@ -1,7 +1,7 @@
 //! The rows of a row file, one after another.
 //!
-//! The room of a row is asked for before a record is taken, so a bad record takes none. An ended source has no rows
-//! left because it has ended: no clause of `csv` says that its reader is over.
+//! The entries of a record are read into room that the source keeps, so a bad record takes none. An ended source has no
+//! rows left because it has ended: no clause of `csv` says that its reader is over.
 
 ghost use Rattle.std.specs.Prelude.{◌≡◌, ◌≢◌, ◌<◌, ◌≤◌, Some, None, Ok, Err, true, false, is_some, length, IfOk, IfErr, IfSome, IsTrue, OnOk};
 ghost use Rattle.csv.specs.Reading.{reader_state, source_of, strip_bom};
@@ -85,6 +85,8 @@ pub struct RowSource<R: Read + Drop> {
     layout: Layout,
     input: Reader<R>,
     fields: ByteRecord,
+    // Room for the entries of the current record.
+    entries: Vec<Option<i64>>,
     // How many records were taken after the header, and how many of them were bad.
     taken: u64,
     bad: u64,
@@ -129,6 +131,7 @@ impl<R: Read + Drop> RowSource<R> {
             layout,
             input,
             fields: ByteRecord::new(alloc),
+            entries: Vec::new(alloc),
             taken: 0,
             bad: 0,
             end: None,
@@ -158,15 +161,13 @@ impl<R: Read + Drop> RowSource<R> {
         ensures few { self.new.counts.taken ≤ max_records }
     {
         let mut row = Row::new(Vec::new(self.alloc));
-        if !self.next_into(&mut row)? {
-            return Ok(None);
-        }
-        Ok(Some(row))
+        let found = self.next_into(&mut row)?;
+        Ok(found.then_some(row))
     }
 
     /// Makes `row` the row of the next good record, and returns whether there was one. It works as `next_row` does, but
-    /// for a row that has had as many entries before it allocates no memory. If it returns no row, `row` may have any
-    /// entries.
+    /// once a record was read, it allocates no memory for a row that has had as many entries before. If it returns no
+    /// row, `row` may have any entries.
     pub fn next_into(&mut self, row: &mut Row) -> Result<bool, SourceFault>
         ensures failed { (fault : SourceFault) → self.old.end ≡ Some (Err fault) →
             (result ≡ Err fault) × (self.new ≡ self.old) }
@@ -196,6 +197,7 @@ impl<R: Read + Drop> RowSource<R> {
             &self.layout,
             &mut self.input,
             &mut self.fields,
+            &mut self.entries,
             row,
             &mut self.taken,
             &mut self.bad,
@@ -212,8 +214,8 @@ impl<R: Read + Drop> RowSource<R> {
     }
 
     /// Adds the rows of the next good records to a block, each as one of this feeder, until the block has 64 rows or no
-    /// record is left. It works as so many calls of `next_row` do, but it allocates memory for one row alone. A fault
-    /// that is met once a row was added is left to the next call.
+    /// record is left. It works as so many calls of `next_row` do, but it allocates memory for the entries of one record
+    /// alone. A fault that is met once a row was added is left to the next call.
     pub fn fill(&mut self, feeder: u32, block: &mut Block) -> Result<(), SourceFault>
         requires alike { HaveSameLimits block.old.schema self.old.layout.schema }
         requires room { length block.old.rows < max_block_rows }
@@ -239,10 +241,10 @@ impl<R: Read + Drop> RowSource<R> {
         }
         let before = block.len();
         let full = put_rows(
-            self.alloc,
             &self.layout,
             &mut self.input,
             &mut self.fields,
+            &mut self.entries,
             feeder,
             block,
             &mut self.taken,
@@ -289,13 +291,13 @@ fn read_layout<R: Read + Drop>(
     Layout::new(alloc, schema, header)?.ok_or(SourceFault::BadHeader)
 }
 
-/// Takes records until one is good and makes `row` its row, and returns whether there was one. It asks first for the
-/// room of the row, so that a bad record takes none.
+/// Takes records until one is good and makes `row` its row, and returns whether there was one.
 fn take_row<R: Read + Drop>(
     alloc: Global,
     layout: &Layout,
     input: &mut Reader<R>,
     fields: &mut ByteRecord,
+    entries: &mut Vec<Option<i64>>,
     row: &mut Row,
     taken: &mut u64,
     bad: &mut u64,
@@ -313,12 +315,11 @@ fn take_row<R: Read + Drop>(
     ensures plain { OnOk result (IsPlain input.new) }
     ensures counts { AreCounts (counts_of taken.new bad.new) }
 {
-    layout.make_room(alloc, row)?;
     'records: while *taken < MAX_RECORDS {
         if !read_next(input, fields)? {
             return Ok(false);
         }
-        let good = layout.read(alloc, fields, row)?;
+        let good = layout.read(alloc, fields, entries, row)?;
         *taken += 1;
         if good {
             return Ok(true);
@@ -332,12 +333,12 @@ fn take_row<R: Read + Drop>(
 }
 
 /// Takes records and puts the rows of the good ones into a block until it is full, and returns whether it is. It asks
-/// first for the room of one row, and reads each record into it.
+/// first for the room of one record's entries, and reads each into it.
 fn put_rows<R: Read + Drop>(
-    alloc: Global,
     layout: &Layout,
     input: &mut Reader<R>,
     fields: &mut ByteRecord,
+    entries: &mut Vec<Option<i64>>,
     feeder: u32,
     block: &mut Block,
     taken: &mut u64,
@@ -353,14 +354,14 @@ fn put_rows<R: Read + Drop>(
     ensures plain { OnOk result (IsPlain input.new) }
     ensures counts { AreCounts (counts_of taken.new bad.new) }
 {
-    let mut entries = layout.entries(alloc)?;
+    layout.make_room(entries)?;
     'records: while block.len() < MAX_BLOCK_ROWS {
         // A record counts once its fields have been read.
         let mut count = *taken;
         if !take_record(input, fields, &mut count)? {
             return Ok(false);
         }
-        let good = layout.add(fields, &mut entries, feeder, block);
+        let good = layout.add(fields, entries, feeder, block);
         *taken = count;
         if !good {
             *bad += 1;

@@ -9,12 +9,12 @@ use Rattle.bsi_reading.proofs.rows.put_rows.Goals as goal
 pub records-init : goal.records-init
 records-init g c = record {
   put = put_none g.R.Read.remaining c.args.layout.now c.args.input.now (counts_of c.args.taken.now c.args.bad.now) c.args.feeder c.args.block.now c.requires.plain c.requires.counts;
-  wide = c.in_ok-entries.ensures;
+  wide = c.in_ok-make_room.ensures;
 }
 
 -- memory for a row is refused
-pub returns-in_err-entries-clause-puts : goal.returns-in_err-entries-clause-puts
-returns-in_err-entries-clause-puts g c =
+pub returns-in_err-make_room-clause-puts : goal.returns-in_err-make_room-clause-puts
+returns-in_err-make_room-clause-puts g c =
     puts_wanting g.R.Read.remaining c.args.layout.now c.args.input.now c.args.input.now (counts_of c.args.taken.now c.args.bad.now) (counts_of c.args.taken.now c.args.bad.now) c.args.feeder
     c.args.block.now c.args.block.now
     (put_none g.R.Read.remaining c.args.layout.now c.args.input.now (counts_of c.args.taken.now c.args.bad.now) c.args.feeder c.args.block.now c.requires.plain c.requires.counts)

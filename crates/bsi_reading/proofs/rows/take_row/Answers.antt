@@ -2,7 +2,6 @@ use Rattle.std.proofs.Common.{true, false, rules, sym, ap, ◌∙◌}
 use Rattle.csv.specs.Reading.{ReadRecord}
 use Rattle.csv.specs.Records.{fields_of}
 use Rattle.bsi_reading.specs.RowFiles.{given}
-use Rattle.bsi_reading.specs.Sources.{counts_of}
 use Rattle.bsi_reading.proofs.Taking.{has_ended, is_too_long, memory_fails, read_fails, taken_bad, taken_good, taken_none}
 use Rattle.bsi_reading.proofs.rows.take_row.Goals as goal
 
@@ -10,7 +9,7 @@ pub records-init : goal.records-init
 records-init g c = record { taken = taken_none _ _ _ _; plain = c.requires.plain; counts = c.requires.counts }
 
 pub returns-in_err-read_next-clause-stopped : goal.returns-in_err-read_next-clause-stopped
-returns-in_err-read_next-clause-stopped g c = read_fails _ _ _ _ _ _ c.records.invariant _ c.from_residual-in_err-read_next.result c.from_residual-in_err-read_next.ensures.1
+returns-in_err-read_next-clause-stopped g c = read_fails _ _ _ _ _ _ c.records.invariant _ c.from_residual.result c.from_residual.ensures.1
 
 pub returns-then-not-branch-clause-given : goal.returns-then-not-branch-clause-given
 returns-then-not-branch-clause-given g c =
@@ -18,11 +17,6 @@ returns-then-not-branch-clause-given g c =
     let fields = fields_of c.read_next.new.fields in
     let none : ReadRecord g.R.Read.remaining c.records.input input false fields = search rules in
     has_ended _ _ _ _ _ _ c.records.invariant input fields none
-
-pub returns-in_err-make_room-clause-stopped : goal.returns-in_err-make_room-clause-stopped
-returns-in_err-make_room-clause-stopped g c =
-    memory_fails g.R.Read.remaining c.args.layout.now c.args.input.now c.args.input.now (counts_of c.args.taken.now c.args.bad.now) (counts_of c.args.taken.now c.args.bad.now)
-    (record { taken = taken_none _ _ _ _; plain = c.requires.plain; counts = c.requires.counts }) c.from_residual.result c.from_residual.ensures.1
 
 pub returns-in_err-good-clause-stopped : goal.returns-in_err-good-clause-stopped
 returns-in_err-good-clause-stopped g c =
