@@ -8,7 +8,7 @@ use Rattle.bsi_records.specs.Numbers.{Field}
 use Rattle.bsi_records.specs.Reading.{IsReadAs}
 use Rattle.bsi_rows.specs.declared.query.Query.{Query}
 use Rattle.bsi_schema.specs.Columns.{Declared}
-use Rattle.bsi_reading.specs.Sources.{max_records, HasRead, IsPlain}
+use Rattle.bsi_reading.specs.Sources.{max_records, IsPlain}
 use Rattle.bsi_reading.proofs.FirstRecords.{first_all, first_more, first_none, HasReadFirst}
 use Rattle.bsi_reading.proofs.Taking.{is_over, one_read}
 use Rattle.bsi_check.specs.Checks.{AreCountedAsks, HaveBadAsks, IsAsked, IsAskVerdict, IsNoQuery}

@@ -1,7 +1,7 @@
-use Rattle.std.proofs.Common.{◌≡◌, ◌+◌, true, false, rules, arith, refl, sym, subst, Bool}
+use Rattle.std.proofs.Common.{◌+◌, true, false, rules, arith, refl, subst, Bool}
 use Rattle.csv.specs.Reading.{ReadRecord}
 use Rattle.csv.specs.Records.{fields_of}
-use Rattle.bsi_check.specs.Checks.{IsAskVerdict, TellsUnless}
+use Rattle.bsi_check.specs.Checks.{IsAskVerdict}
 use Rattle.bsi_check.proofs.Asking.{asks_all, asks_bad, asks_good, asks_none}
 use Rattle.bsi_check.proofs.Telling.{grows, tells_some, told_some}
 use Rattle.bsi_check.proofs.asks.count_asks.Goals as goal

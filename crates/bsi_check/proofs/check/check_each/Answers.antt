@@ -1,4 +1,4 @@
-use Rattle.std.proofs.Common.{Bool, ◌&&◌, List, ◌++◌, [], ◌∷◌, sym, subst, ◌∙◌}
+use Rattle.std.proofs.Common.{Bool, sym, subst}
 use Rattle.std.specs.List.{list_all}
 use Rattle.std.specs.Vec.Iter.{into_iter_items}
 use Rattle.bsi_check.specs.Checks.{is_clean, TellsUnless}

@@ -1,8 +1,8 @@
-use Rattle.std.proofs.Common.{◌≡◌, ◌≤◌, List, [], ℕ, length, inr, map, sum, nat_le, sym, subst, arith, ap, ◌∙◌, ◌++◌, rules}
+use Rattle.std.proofs.Common.{◌≡◌, List, [], ℕ, length, inr, map, sum, nat_le, subst, arith, ap, rules}
 use Rattle.std.specs.List.{list_all}
 use Rattle.std.specs.Prelude.{IfSome}
 use Rattle.bsi_check.specs.Checks.{has_good_asks, is_clean, IsFound, TellsUnless}
-use Rattle.bsi_check.specs.Reports.{are_good, fed_text, good_rows, text_of}
+use Rattle.bsi_check.specs.Reports.{are_good, good_rows, text_of}
 use Rattle.bsi_check.proofs.Joined.{matched_long, matched_map}
 use Rattle.bsi_check.proofs.Telling.{tells_both}
 use Rattle.bsi_check.proofs.check.report_on.Goals as goal

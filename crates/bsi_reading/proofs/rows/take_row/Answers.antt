@@ -1,7 +1,7 @@
-use Rattle.std.proofs.Common.{true, false, rules, sym, ap, ◌∙◌}
+use Rattle.std.proofs.Common.{◌≡◌, true, false, rules, subst}
 use Rattle.csv.specs.Reading.{ReadRecord}
 use Rattle.csv.specs.Records.{fields_of}
-use Rattle.bsi_reading.specs.RowFiles.{given}
+use Rattle.bsi_reading.specs.RowFiles.{given, good_row}
 use Rattle.bsi_reading.proofs.Taking.{has_ended, is_too_long, memory_fails, read_fails, taken_bad, taken_good, taken_none}
 use Rattle.bsi_reading.proofs.rows.take_row.Goals as goal
 
@@ -28,7 +28,7 @@ returns-then-good-clause-given g c =
     let fields = fields_of c.read_next.new.fields in
     let reads : ReadRecord g.R.Read.remaining c.records.input input true fields = search rules in
     taken_good _ _ _ _ _ _ c.records.invariant input fields c.read.new.row reads
-    (sym (ap (λ good. given good c.read.new.row) c.if-good.true) ∙ c.in_ok-good.ensures.row)
+    (subst (λ good. given good c.read.new.row ≡ good_row c.args.layout.now.schema c.args.layout.now.header fields) c.if-good.true c.in_ok-good.ensures.row)
 
 pub records-preserved : goal.records-preserved
 records-preserved g c =
@@ -36,7 +36,7 @@ records-preserved g c =
     let fields = fields_of c.read_next.new.fields in
     let reads : ReadRecord g.R.Read.remaining c.records.input input true fields = search rules in
     taken_bad _ _ _ _ _ _ c.records.invariant input fields reads c.in_ok-read_next.ensures.plain c.records-test.true
-    (sym (ap (λ good. given good c.read.new.row) c.if-good.false) ∙ c.in_ok-good.ensures.row)
+    (subst (λ good. given good c.read.new.row ≡ good_row c.args.layout.now.schema c.args.layout.now.header fields) c.if-good.false c.in_ok-good.ensures.row)
 
 pub returns-in_err-read_next-2-clause-stopped : goal.returns-in_err-read_next-2-clause-stopped
 returns-in_err-read_next-2-clause-stopped g c =
