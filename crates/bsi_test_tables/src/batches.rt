@@ -1,13 +1,20 @@
-//! Blocks of rows that an index appends, and indexes that take all rows of another one. Where memory is refused, the
-//! same call is made again.
+//! Blocks of rows that an index appends, row by row or column by column, and indexes that take all rows of another one.
+//! Where memory is refused, the same call is made again.
 
-use crate::tables::{answer, index_of};
-use bsi_columns::NoMemory;
-use bsi_fixtures::{DeclaredColumn, FORMS, QTY, TestForm, row_of};
-use bsi_table::{Answer, AppendError, Block, Index, IndexError, MAX_BLOCK_ROWS, Pred, Row, Total};
+ghost use Rattle.std.specs.Prelude.{◌≡◌, IfOk};
+ghost use Rattle.bsi_rows.specs.RowBlocks.{no_block_rows};
+
+use crate::tables::{answer, index_of, lists};
+use bsi_columns::{NoMemory, Op};
+use bsi_fixtures::{DeclaredColumn, FORMS, QTY, TestForm, has_fitting_rows, row_of, write_values};
+use bsi_table::{
+    Answer, AppendError, Block, Index, IndexError, MAX_BLOCK_ROWS, Pred, Row, Schema, Total,
+};
 use std::alloc::Global;
 
-fn block_of(index: &Index) -> Result<Block, NoMemory> {
+fn block_of(index: &Index) -> Result<Block, NoMemory>
+    ensures { IfOk result (λ block. block ≡ no_block_rows index.now.schema index.now.feeders) }
+{
     match index.new_block() {
         Err(_) => index.new_block(),
         made => made,
@@ -116,6 +123,92 @@ fn batches_behind_each_other(rt: HostRuntime) {
     for form in FORMS {
         assert!(rt;
             matches!(takes_batches(rt.alloc(), form), Ok(true)),
+            "{form:?}"
+        );
+    }
+}
+
+// Fills a block with three rows column by column, of which the second has a null in the first column. Returns whether
+// the columns take them.
+fn fill_columns(block: &mut Block, schema: &Schema) -> bool
+    requires { block.old.schema ≡ schema.now }
+{
+    if block.feeders() == 0 {
+        return false;
+    }
+    block.clear();
+    block.push_nulls(0, 3);
+    write_values(block, schema, 0, &[1, 5, 3], 0b101)
+        && write_values(block, schema, 1, &[2, 4, 0], 0b111)
+}
+
+// A block of these rows, for an index.
+fn columns_of(index: &Index) -> Result<Option<Block>, NoMemory> {
+    let mut block = block_of(index)?;
+    if !fill_columns(&mut block, index.schema()) {
+        return Ok(None);
+    }
+    Ok(Some(block))
+}
+
+// Appends a block of another schema, if its rows fit. A refused growth changes nothing, and the same call is made again.
+fn append_fitting(index: &mut Index, block: &Block) -> Result<Option<u64>, NoMemory> {
+    if block.feeders() > index.feeders() || !has_fitting_rows(block, index.schema())? {
+        return Ok(None);
+    }
+    match index.append_block(block) {
+        Err(AppendError::NoMemory) => Ok(index.append_block(block).ok()),
+        done => Ok(done.ok()),
+    }
+}
+
+// Whether the rows go in behind each other, as a block of the index and as one of other offsets.
+fn takes_columns(index: &mut Index, other: &Index) -> Result<bool, NoMemory> {
+    let (Some(own), Some(moved)) = (columns_of(index)?, columns_of(other)?) else {
+        return Ok(false);
+    };
+    let taken = append(index, &own) == Some(Ok(0)) && !index.takes(&moved);
+    Ok(taken && append_fitting(index, &moved)? == Some(3))
+}
+
+// Whether the index has the rows of both blocks.
+fn has_columns(index: &Index) -> bool {
+    lists(index, Pred::Null(0), &[(0, 1), (0, 4)])
+        && lists(index, Pred::Columns(0, Op::Lt, 1), &[(0, 0), (0, 3)])
+        && answer(index, Total::Sum(0), Pred::All) == Ok(Answer::Sum(8))
+        && answer(index, Total::Sum(1), Pred::All) == Ok(Answer::Sum(12))
+}
+
+// An index of no rows, in two columns of this form, from these numbers on.
+fn two_columns(alloc: Global, form: TestForm, offsets: [i64; 2]) -> Result<Index, IndexError> {
+    let first = DeclaredColumn {
+        form,
+        offset: offsets[0],
+        ..QTY
+    };
+    let second = DeclaredColumn {
+        name: "second",
+        offset: offsets[1],
+        ..first
+    };
+    index_of(alloc, &[first, second], 1, 10)
+}
+
+fn takes_both(alloc: Global, form: TestForm, index: &mut Index) -> Result<bool, IndexError> {
+    let other = two_columns(alloc, form, [-1, 0])?;
+    Ok(takes_columns(index, &other)? && has_columns(index))
+}
+
+fn takes_blocks(alloc: Global, form: TestForm) -> Result<bool, IndexError> {
+    let mut index = two_columns(alloc, form, [0, -2])?;
+    takes_both(alloc, form, &mut index)
+}
+
+#[test]
+fn blocks_that_are_filled_column_by_column(rt: HostRuntime) {
+    for form in FORMS {
+        assert!(rt;
+            matches!(takes_blocks(rt.alloc(), form), Ok(true)),
             "{form:?}"
         );
     }

@@ -64,3 +64,11 @@ pub(crate) fn answer(index: &Index, total: Total, pred: Pred) -> Result<Answer, 
 pub(crate) fn has_rows(index: &Index, count: u64) -> bool {
     index.len() == count && answer(index, Total::Count, Pred::All) == Ok(Answer::Count(count))
 }
+
+/// Returns whether the predicate selects these rows.
+pub(crate) fn lists(index: &Index, pred: Pred, wanted: &[(u32, u64)]) -> bool {
+    match answer(index, Total::Rows, pred) {
+        Ok(Answer::Rows(rows)) => rows.as_slice() == wanted,
+        _ => false,
+    }
+}

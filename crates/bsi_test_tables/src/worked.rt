@@ -1,7 +1,7 @@
 //! A schema, and an index on worked rows. Each test tolerates one refused allocation, and then
 //! makes the same call again.
 
-use crate::tables::{answer, append_row, has_rows, index_of};
+use crate::tables::{answer, append_row, has_rows, index_of, lists};
 use bsi_columns::{AnyColumn, NoMemory, Op};
 use bsi_fixtures::{DeclaredColumn, FORMS, QTY, TestForm, Wide, add, both, has_bits, not, row_of};
 use bsi_table::{Answer, AskError, Index, IndexError, Pred, Row, Schema, SchemaError, Total};
@@ -25,13 +25,6 @@ fn three_rows(alloc: Global, form: TestForm) -> Result<Index, IndexError> {
     let mut index = index_of(alloc, &[column], 2, 10)?;
     append_rows(alloc, &mut index)?;
     Ok(index)
-}
-
-fn lists(index: &Index, pred: Pred, wanted: &[(u32, u64)]) -> bool {
-    match answer(index, Total::Rows, pred) {
-        Ok(Answer::Rows(rows)) => rows.as_slice() == wanted,
-        _ => false,
-    }
 }
 
 // Whether the first missing column of a query is told.
