@@ -7,9 +7,9 @@ use Rattle.std.proofs.lemmas.List.{ext_get_or, get_or-drop, get_or-map, get_or-t
 use Rattle.std.proofs.lemmas.List.Elements.{All-from_get_or, All-replicate}
 use Rattle.std.proofs.lemmas.List.FromFn.{get_or-map-range_with_len, length-map-range_with_len}
 use Rattle.std.proofs.lemmas.List.Sums.{AllPass-from_list_all}
+use Rattle.bsi_orders.specs.Blocks.{value_entries, value_entry}
 use Rattle.bsi_schema.specs.Columns.{column_at, fits, is_taken_by, NamedColumn}
 use Rattle.bsi_schema.proofs.Fitting.{fits-at}
-use Rattle.bsi_rows.specs.RowBlocks.{value_entries, value_entry}
 use Rattle.bsi_rows.specs.Rows.{column_of, entry_at, feeders_of, Entries, FedRow}
 use Rattle.bsi_rows.specs.Table.{AreFitting}
 use Rattle.bsi_rows.proofs.BlockRows.{map_twice}

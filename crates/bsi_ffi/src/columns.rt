@@ -64,9 +64,9 @@ pub(crate) fn first_unlike(columns: &[GivenColumn], count: u32) -> usize
 }
 
 /// Returns the entry of row `r`.
-fn entry(column: &GivenColumn, rows: usize, r: usize) -> Option<i64>
-    requires whole { has_rows rows column.now ≡ true }
-    requires within { r < rows }
+fn entry(column: &GivenColumn, r: usize) -> Option<i64>
+    requires whole { has_rows (length column.now.values.now) column.now ≡ true }
+    requires within { r < length column.now.values.now }
     ensures { result ≡ entry_of r column.now }
 {
     if !column.valid.is_empty() && column.valid[r / 8] >> (r % 8) & 1 == 0 {
@@ -76,12 +76,12 @@ fn entry(column: &GivenColumn, rows: usize, r: usize) -> Option<i64>
 }
 
 /// Returns whether a column of a schema takes the entry of row `r`.
-pub(crate) fn is_taken(column: &GivenColumn, rows: usize, r: usize, limits: Limits) -> bool
-    requires whole { has_rows rows column.now ≡ true }
-    requires within { r < rows }
+pub(crate) fn is_taken(column: &GivenColumn, r: usize, limits: Limits) -> bool
+    requires whole { has_rows (length column.now.values.now) column.now ≡ true }
+    requires within { r < length column.now.values.now }
     ensures { result ≡ is_between limits.least limits.size (entry_of r column.now) }
 {
-    let Some(number) = entry(column, rows, r) else {
+    let Some(number) = entry(column, r) else {
         return true;
     };
     limits.takes(Some(i128::from(number)))

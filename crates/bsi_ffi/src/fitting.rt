@@ -10,16 +10,16 @@ use bsi_schema::Limits;
 use bsi_table::Schema;
 
 /// Returns the first row before `end` whose entry is not taken. If there is none, it returns `end`.
-fn first_refused(column: &GivenColumn, rows: usize, end: usize, limits: Limits) -> usize
-    requires whole { has_rows rows column.now ≡ true }
-    requires few { end ≤ rows }
+fn first_refused(column: &GivenColumn, end: usize, limits: Limits) -> usize
+    requires whole { has_rows (length column.now.values.now) column.now ≡ true }
+    requires few { end ≤ length column.now.values.now }
     ensures within { result ≤ end }
     ensures taken { (r : ℕ) → r < result →
         is_between limits.least limits.size (entry_of r column.now) ≡ true }
     ensures refused { result < end →
         is_between limits.least limits.size (entry_of result column.now) ≡ false }
 {
-    let refused = (0..end).find(|r| !is_taken(column, rows, *r, limits));
+    let refused = (0..end).find(|r| !is_taken(column, *r, limits));
     refused.unwrap_or(end)
 }
 
@@ -60,7 +60,7 @@ pub(crate) fn first_misfit(schema: &Schema, columns: &[GivenColumn], rows: usize
         column: 0,
     };
     'columns: for (c, column) in columns.iter().enumerate() {
-        let row = first_refused(column, rows, misfit.row, limits[c]);
+        let row = first_refused(column, misfit.row, limits[c]);
         misfit = earlier(misfit, Misfit { row, column: c });
     }
     misfit

@@ -21,11 +21,11 @@ use Rattle.std.proofs.lemmas.Map.Made.{is_member-Decides, length-from_keys}
 use Rattle.std.proofs.lemmas.Nat.Bits.{bit_at-zero}
 use Rattle.bsi_bits.specs.BitList.{without}
 use Rattle.bsi_bits.specs.Packed.{bit_of}
+use Rattle.bsi_orders.specs.Blocks.{value_entry}
 use Rattle.bsi_orders.specs.Orders.{values_at}
 use Rattle.bsi_groups.specs.Entries.{is_entry}
 use Rattle.bsi_groups.specs.Replies.{block_numbers}
 use Rattle.bsi_groups.proofs.Order.{entry_is}
-use Rattle.bsi_shift.specs.Blocks.{block_entry}
 use Rattle.bsi_shift.proofs.Relating.{and_bit, word_bit}
 
 -- numbers that are sorted, each kept once, are the different ones
@@ -76,7 +76,7 @@ pub no_numbers : (rows : ℕ) (block : List ℤ) → block_numbers rows block 0 
 unfolding block_numbers
 no_numbers rows block = refl
 
-pub more_numbers : (rows : ℕ) (block : List ℤ) (n : ℕ) → block_numbers rows block (n + 1) ≡ block_numbers rows block n ++ filter_map (λ e. e) (block_entry rows block n ∷ [])
+pub more_numbers : (rows : ℕ) (block : List ℤ) (n : ℕ) → block_numbers rows block (n + 1) ≡ block_numbers rows block n ++ filter_map (λ e. e) (value_entry block rows n ∷ [])
 unfolding block_numbers
 more_numbers rows block n = let next : n + 1 ≡ suc n = omega arith in ap (block_numbers rows block) next
 
@@ -93,14 +93,14 @@ without_number rows block n is =
     ∙ append-nil (block_numbers rows block n)
 
 -- the entry at a one of both words
-entry_there : (rows there r : ℕ) (block : List ℤ) (found : Bool) (e : Option ℤ) → (bit_at rows r == 1) ≡ found → block_entry there block r ≡ e
-    → block_entry (bit_and rows there) block r ≡ cond found e None
+entry_there : (rows there r : ℕ) (block : List ℤ) (found : Bool) (e : Option ℤ) → (bit_at rows r == 1) ≡ found → value_entry block there r ≡ e
+    → value_entry block (bit_and rows there) r ≡ cond found e None
 entry_there rows there r block found e row is =
     ap (λ b. if b then Some (get_or block r (pos 0)) else None) (and_bit rows there r ∙ ap (λ b. b && (bit_at there r == 1)) row)
     ∙ by found
     ∙ ap (λ e. cond found e None) is
   where
-    by : (b : Bool) → (if b && (bit_at there r == 1) then Some (get_or block r (pos 0)) else None) ≡ cond b (block_entry there block r) None
+    by : (b : Bool) → (if b && (bit_at there r == 1) then Some (get_or block r (pos 0)) else None) ≡ cond b (value_entry block there r) None
     by true = refl
     by false = refl
 
@@ -109,7 +109,7 @@ module _ (found : List Bool) (entries : List (Option ℤ)) (same : length entrie
   numbers_upto n = values_at (take n found) (take n entries)
 
   -- the numbers of the rows of one word more, once they are read
-  pub block_read : (there : ℕ) (block : List ℤ) → ((r : ℕ) → r < 64 → block_entry there block r ≡ get_or entries (64 * at + r) None)
+  pub block_read : (there : ℕ) (block : List ℤ) → ((r : ℕ) → r < 64 → value_entry block there r ≡ get_or entries (64 * at + r) None)
       → values_at (take (64 * (at + 1)) found) (take (64 * (at + 1)) entries)
       ≡ values_at (take (64 * at) found) (take (64 * at) entries) ++ block_numbers (bit_and (get_or words at 0) there) block 64
   block_read there block read = let end : 64 * (at + 1) ≡ 64 * at + 64 = omega arith in ap numbers_upto end ∙ upto 64 (omega arith)
@@ -127,7 +127,7 @@ module _ (found : List Bool) (entries : List (Option ℤ)) (same : length entrie
           ∙ ap₂ ◌++◌ (upto n (omega arith))
           (ap (λ e. filter_map (λ e. e) (e ∷ []))
           (sym (entry_there (get_or words at 0) there n block (get_or found (64 * at + n) false) (get_or entries (64 * at + n) None) (word_bit words at n (omega arith) ∙ bits (64 * at + n)) (read n (omega arith)))))
-          ∙ append_assoc (numbers_upto (64 * at)) (block_numbers rows block n) (filter_map (λ e. e) (block_entry rows block n ∷ []))
+          ∙ append_assoc (numbers_upto (64 * at)) (block_numbers rows block n) (filter_map (λ e. e) (value_entry block rows n ∷ []))
           ∙ ap (λ ns. numbers_upto (64 * at) ++ ns) (sym (more_numbers rows block n) ∙ ap (block_numbers rows block) one)
 
   -- a word of no row has no number

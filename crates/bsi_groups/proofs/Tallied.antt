@@ -13,9 +13,10 @@ use Rattle.std.proofs.lemmas.List.{append-nil, length-map, length-set, take_all,
 use Rattle.std.proofs.lemmas.List.Elements.{All-push, All-weaker, Contains-append_left, Contains-push, All-head, All-tail}
 use Rattle.std.proofs.lemmas.Nat.Bits.{bit_at-zero, shr_and_one}
 use Rattle.bsi_bits.specs.Packed.{bit_of}
+use Rattle.bsi_orders.specs.Offsets.{number_of}
 use Rattle.bsi_orders.specs.Orders.{IsGreatestBy, IsLeastBy}
 use Rattle.bsi_orders.specs.WholeNumbers.{signed_order, signed_sum, IsSignedGreatestOf, IsSignedLeastOf}
-use Rattle.bsi_shift.specs.Shifted.{number_of, shifted_entries, shifted_size, OffsetColumn}
+use Rattle.bsi_shift.specs.Shifted.{shifted_entries, shifted_size, OffsetColumn}
 use Rattle.bsi_shift.proofs.Relating.{word_bit}
 use Rattle.bsi_groups.specs.Entries.{is_entry, rows_having}
 use Rattle.bsi_groups.specs.Tallies.{entries_or_nulls, entry_of, numbers_of, tallied, AreTallies, IsPlace, IsTally}

@@ -10,13 +10,14 @@ use Rattle.std.proofs.lemmas.List.{length-map, map-append}
 use Rattle.std.proofs.lemmas.List.Elements.{All-cons, All-contains, All-contains_itself, All-filter, All-get_or, All-head, All-nil, All-push, All-tail, All-weaker, Contains-append_left, Contains-push, filter_passes}
 use Rattle.std.proofs.lemmas.Simd.{length-zip2}
 use Rattle.std.proofs.lemmas.List.Quantifiers.{all_pairs_push}
+use Rattle.bsi_orders.specs.Offsets.{number_of, IsInRange}
 use Rattle.bsi_rows.specs.Rows.{column_of, FedRow}
 use Rattle.bsi_rows.specs.declared.query.Answer.{Answer}
 use Rattle.bsi_rows.specs.declared.query.Answer.TheVariants.{Count as count_answer}
 use Rattle.bsi_rows.specs.declared.query.Total.{Total}
 use Rattle.bsi_rows.specs.declared.query.Total.TheVariants.{Count, Sum, Least, Greatest, Median, Rank, Rows}
 use Rattle.bsi_table.specs.Totals.{IsTotalAt}
-use Rattle.bsi_shift.specs.Shifted.{number_of, shifted_entries, shifted_size, IsInRange, OffsetColumn}
+use Rattle.bsi_shift.specs.Shifted.{shifted_entries, shifted_size, OffsetColumn}
 use Rattle.bsi_groups.specs.Entries.{comes_before, is_entry, rows_having}
 use Rattle.bsi_groups.specs.Groups.{entries_at, keys_of, rows_with, AreGroups, AreMore, Rise}
 use Rattle.bsi_groups.specs.Tallies.{column_read, entries_or_nulls, entry_of, AreTallies, IsTally, IsTotalOf}

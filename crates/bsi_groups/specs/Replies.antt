@@ -1,15 +1,15 @@
 -- The replies to calls that read a column of the rows that a predicate selects.
 use Rattle.std.specs.Prelude.{◌≡◌, ℕ, zero, suc, ℤ, Bool, [], ◌∷◌, ◌++◌, ◌<◌, List, Option, Some, None, Result, Ok, Err, length, map, slice_index, slice_index_or}
 use Rattle.std.specs.List.{filter_map}
-use Rattle.bsi_orders.specs.Ranks.{IsSignedRankOf}
+use Rattle.bsi_orders.specs.Blocks.{value_entry}
 use Rattle.bsi_orders.specs.Orders.{values_at}
+use Rattle.bsi_orders.specs.Ranks.{IsSignedRankOf}
 use Rattle.bsi_schema.specs.Columns.{Declared}
 use Rattle.bsi_rows.specs.Answers.{columns_of_pred, missing_of}
 use Rattle.bsi_rows.specs.Rows.{column_of, holds, row_entries, FedRow}
 use Rattle.bsi_rows.specs.declared.errors.AskError.{AskError}
 use Rattle.bsi_rows.specs.declared.errors.AskError.TheVariants.{BadColumn, NoMemory}
 use Rattle.bsi_rows.specs.declared.query.Pred.{Pred}
-use Rattle.bsi_shift.specs.Blocks.{block_entry}
 
 -- the first column that is not there: the one that is read, else one of the predicate's
 abbrev pub missing_on : Declared → ℕ → Pred → Option ℕ
@@ -37,4 +37,4 @@ pub record AreRanked (ranks : List ℕ) (numbers : List ℤ) (answers : List (Op
 -- the numbers of a block that stand at the ones among the first n places of a word, in their order
 unfoldable pub block_numbers : ℕ → List ℤ → ℕ → List ℤ
 block_numbers rows block zero = []
-block_numbers rows block (suc n) = block_numbers rows block n ++ filter_map (λ e. e) (block_entry rows block n ∷ [])
+block_numbers rows block (suc n) = block_numbers rows block n ++ filter_map (λ e. e) (value_entry block rows n ∷ [])

@@ -1,13 +1,14 @@
 -- Tallies of the rows of a found set by their entries in a column.
 use Rattle.std.specs.Prelude.{◌≡◌, ◌<◌, ◌+◌, ◌*◌, ◌^◌, ◌≤ℤ◌, ◌+ℤ◌, ℕ, ℤ, pos, Bool, List, Option, Some, None, length, map, nat_lt, slice_index_or, take, if◌then◌else◌}
 use Rattle.std.specs.List.{filter_map, items_where_true}
+use Rattle.bsi_orders.specs.Offsets.{number_of}
 use Rattle.bsi_orders.specs.WholeNumbers.{signed_sum, IsSignedLeastOf, IsSignedGreatestOf}
 use Rattle.bsi_rows.specs.Answers.{IsValue}
 use Rattle.bsi_rows.specs.declared.query.Answer.{Answer}
 use Rattle.bsi_rows.specs.declared.query.Answer.TheVariants.{Count as count_answer, Sum as sum_answer}
 use Rattle.bsi_rows.specs.declared.query.Total.{Total}
 use Rattle.bsi_rows.specs.declared.query.Total.TheVariants.{Count, Sum, Least, Greatest, Median, Rank, Rows}
-use Rattle.bsi_shift.specs.Shifted.{number_of, shifted_entries, shifted_size, OffsetColumn}
+use Rattle.bsi_shift.specs.Shifted.{shifted_entries, shifted_size, OffsetColumn}
 use Rattle.bsi_groups.specs.Entries.{rows_having}
 use Rattle.bsi_groups.specs.declared.tally.Tally.{Tally}
 

@@ -6,8 +6,9 @@ ghost use Rattle.std.specs.Option.{option_map};
 ghost use Rattle.bsi_rows.specs.Answers.{columns_of_total, missing_of};
 ghost use Rattle.bsi_rows.specs.Rows.{column_of};
 ghost use Rattle.bsi_table.specs.Totals.{NeedsNoMemory};
-ghost use Rattle.bsi_shift.specs.Blocks.{block_entry};
-ghost use Rattle.bsi_shift.specs.Shifted.{number_of, shifted_entries, shifted_size, IsInRange};
+ghost use Rattle.bsi_orders.specs.Blocks.{value_entry};
+ghost use Rattle.bsi_orders.specs.Offsets.{number_of, IsInRange};
+ghost use Rattle.bsi_shift.specs.Shifted.{shifted_entries, shifted_size};
 ghost use Rattle.bsi_groups.specs.Groups.{AreGroups, IsRefusedOver};
 ghost use Rattle.bsi_groups.specs.Tallies.{column_read, entries_or_nulls, AreTallies, IsPlace};
 
@@ -158,7 +159,7 @@ fn tally_block(
 /// Reads the entries of 64 rows of a column as `Shifted::read_block` does, or nulls where there is no column.
 fn read_entries(column: Option<&Shifted>, at: usize, block: &mut [i64; MAX_BLOCK]) -> u64
     requires { IfSome column (λ c. at < word_count (length (shifted_entries c.now))) }
-    ensures { (found : List Bool) (r : ℕ) → r < max_block → block_entry result block.new r
+    ensures { (found : List Bool) (r : ℕ) → r < max_block → value_entry block.new result r
         ≡ slice_index_or (entries_or_nulls found
         (option_map (λ c. shifted_entries c.now) column.entry)) (64 * at + r) None }
 {
@@ -171,7 +172,7 @@ fn read_entries(column: Option<&Shifted>, at: usize, block: &mut [i64; MAX_BLOCK
 /// Returns the entry of a row of a block.
 fn entry_in(there: u64, block: &[i64; MAX_BLOCK], r: usize) -> Option<i64>
     requires { r < max_block }
-    ensures { result ≡ block_entry there block.now r }
+    ensures { result ≡ value_entry block.now there r }
 {
     if there >> r & 1 == 1 {
         Some(block[r])

@@ -8,7 +8,8 @@ use Rattle.std.proofs.lemmas.List.{get_or-map, length-map}
 use Rattle.std.proofs.lemmas.List.Elements.{All-from_get_or}
 use Rattle.std.proofs.lemmas.List.FromFn.{get_or-map-range_with_len, length-map-range_with_len}
 use Rattle.std.proofs.lemmas.Nat.Bits.{bit_at-lt}
-use Rattle.bsi_orders.specs.Blocks.{block_entries, block_entry, offset_entries, IsNumberBlock}
+use Rattle.bsi_orders.specs.Blocks.{block_entries, block_entry, offset_entries, value_entries, value_entry, IsNumberBlock}
+use Rattle.bsi_orders.specs.Offsets.{number_of}
 use Rattle.bsi_orders.specs.Rows.{number_or_zero}
 
 module _ (numbers : List ℕ) (not_null : ℕ) where
@@ -49,9 +50,27 @@ module _ (numbers : List ℕ) (not_null : ℕ) where
 
 module _ (offset : ℤ) (numbers : List ℕ) (not_null : ℕ) where
   pub length-offset_entries : length (offset_entries offset numbers not_null) ≡ length numbers
-  length-offset_entries = length-map (block_entries numbers not_null) (option_map (λ n. offset +ℤ pos n)) ∙ length-block_entries numbers not_null
+  length-offset_entries = length-map (block_entries numbers not_null) (option_map (number_of offset)) ∙ length-block_entries numbers not_null
 
-  pub get_or-offset_entries : (r : ℕ) → r < length numbers → get_or (offset_entries offset numbers not_null) r None ≡ option_map (λ n. offset +ℤ pos n) (block_entry numbers not_null r)
+  pub get_or-offset_entries : (r : ℕ) → r < length numbers → get_or (offset_entries offset numbers not_null) r None ≡ option_map (number_of offset) (block_entry numbers not_null r)
   get_or-offset_entries r within =
-      get_or-map (option_map (λ n. offset +ℤ pos n)) (block_entries numbers not_null) r None None (omega (arith, within, length-block_entries numbers not_null))
-      ∙ ap (option_map (λ n. offset +ℤ pos n)) (get_or-block_entries numbers not_null r within)
+      get_or-map (option_map (number_of offset)) (block_entries numbers not_null) r None None (omega (arith, within, length-block_entries numbers not_null))
+      ∙ ap (option_map (number_of offset)) (get_or-block_entries numbers not_null r within)
+
+-- the entries of a block of whole numbers
+module _ (values : List ℤ) (not_null : ℕ) where
+  pub length-value_entries : length (value_entries values not_null) ≡ length values
+  unfolding value_entries
+  length-value_entries = length-map-range_with_len (value_entry values not_null) 0 (length values)
+
+  pub get_or-value_entries : (r : ℕ) → r < length values → get_or (value_entries values not_null) r None ≡ value_entry values not_null r
+  unfolding value_entries
+  get_or-value_entries r within = get_or-map-range_with_len (value_entry values not_null) 0 (length values) r r None within (omega arith)
+
+  -- a fact of each
+  pub All-value_entries : (P : Option ℤ → Type 0) → ((r : ℕ) → r < length values → P (value_entry values not_null r)) → All P (value_entries values not_null)
+  All-value_entries P each =
+      All-from_get_or P (value_entries values not_null) None
+      (λ r below.
+      let there : r < length values = omega (arith, below, length-value_entries) in
+      subst P (sym (get_or-value_entries r there)) (each r there))

@@ -1,8 +1,9 @@
 -- A block of entries: a number for each row, and a word whose bit r tells whether entry r is a number or a null.
-use Rattle.std.specs.Prelude.{◌≡◌, ℕ, ◌<◌, ◌^◌, ◌==◌, ℤ, pos, ◌+ℤ◌, List, Option, Some, None, length, map, slice_index, if◌then◌else◌}
+use Rattle.std.specs.Prelude.{◌≡◌, ℕ, ◌<◌, ◌^◌, ◌==◌, ℤ, pos, List, Option, Some, None, length, map, slice_index, slice_index_or, if◌then◌else◌}
 use Rattle.std.specs.Int.{bit_at}
 use Rattle.std.specs.List.{range_with_len}
 use Rattle.std.specs.Option.{option_map}
+use Rattle.bsi_orders.specs.Offsets.{number_of}
 
 -- the number of a null is 0, and the word has no bit past the last row
 pub record IsNumberBlock (numbers : List ℕ) (not_null : ℕ) : Type 0 where
@@ -19,4 +20,11 @@ block_entries numbers not_null = map (block_entry numbers not_null) (range_with_
 
 -- those whose numbers stand less an offset
 abbrev pub offset_entries : ℤ → List ℕ → ℕ → List (Option ℤ)
-offset_entries offset numbers not_null = map (option_map (λ n. offset +ℤ pos n)) (block_entries numbers not_null)
+offset_entries offset numbers not_null = map (option_map (number_of offset)) (block_entries numbers not_null)
+
+-- the same of whole numbers, of which that of a null may be any
+abbrev pub value_entry : List ℤ → ℕ → ℕ → Option ℤ
+value_entry values not_null r = if bit_at not_null r == 1 then Some (slice_index_or values r (pos 0)) else None
+
+unfoldable pub value_entries : List ℤ → ℕ → List (Option ℤ)
+value_entries values not_null = map (value_entry values not_null) (range_with_len 0 (length values))

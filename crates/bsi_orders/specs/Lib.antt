@@ -1,4 +1,5 @@
 pub mod Blocks
+pub mod Offsets
 pub mod Orders
 pub mod Ranks
 pub mod Rows

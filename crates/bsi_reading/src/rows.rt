@@ -1,7 +1,7 @@
 //! The rows of a row file, one after another.
 //!
-//! The entries of a record are read into room that the source keeps, so a bad record takes none. An ended source has no
-//! rows left because it has ended: no clause of `csv` says that its reader is over.
+//! The entries of a record are read into room that the source makes at its first record and keeps, so no later bad record
+//! takes any. An ended source has no rows left because it has ended: no clause of `csv` says that its reader is over.
 
 ghost use Rattle.std.specs.Prelude.{◌≡◌, ◌≢◌, ◌<◌, ◌≤◌, Some, None, Ok, Err, true, false, is_some, length, IfOk, IfErr, IfSome, IsTrue, OnOk};
 ghost use Rattle.csv.specs.Reading.{reader_state, source_of, strip_bom};

@@ -9,7 +9,7 @@ use Rattle.std.proofs.lemmas.Bool.Decides.{nat_tests}
 use Rattle.std.proofs.lemmas.Int.{ints}
 use Rattle.std.proofs.lemmas.List.{append-nil, append_assoc, get_or_past, get_or-drop, get_or-map, get_or-replicate, get_or-set_other, get_or-set_same, get_or-take, length-append, length-drop, length-replicate, length-take-le, replicate-append-replicate}
 use Rattle.std.proofs.lemmas.List.Elements.{All-append, All-get_or, All-push, All-replicate}
-use Rattle.std.proofs.lemmas.List.FromFn.{fill_by_all, get_or-map-range_with_len, length-map-range_with_len}
+use Rattle.std.proofs.lemmas.List.FromFn.{fill_by_all, length-map-range_with_len}
 use Rattle.std.proofs.Math.Pow.{pow_mono}
 use Rattle.std.proofs.Math.Seq.{take-append_seam}
 use Rattle.std.proofs.lemmas.Nat.{one_shl, or_lt, pow_below, pow_pos}
@@ -18,9 +18,10 @@ use Rattle.bsi_schema.specs.Columns.{column_at, fits, is_taken_by, no_column, si
 use Rattle.bsi_schema.specs.Limits.{limits_of}
 use Rattle.bsi_schema.specs.declared.limits.Limits.{Limits}
 use Rattle.bsi_schema.proofs.Fitting.{fits-at, fits-each, fits-length, limits_long, within}
-use Rattle.bsi_rows.specs.RowBlocks.{kept_entry, least_at, placed_entry, placed_row, placed_rows, value_entries, value_entry, IsBlock, IsFrom, IsSameCell, IsValueAt, IsWritten}
-use Rattle.bsi_orders.specs.Blocks.{offset_entries, IsNumberBlock}
-use Rattle.bsi_orders.proofs.BlockEntries.{get_or-offset_entries, length-offset_entries}
+use Rattle.bsi_orders.specs.Blocks.{offset_entries, value_entries, value_entry, IsNumberBlock}
+use Rattle.bsi_orders.specs.Offsets.{number_of, IsInRange}
+use Rattle.bsi_orders.proofs.BlockEntries.{get_or-offset_entries, get_or-value_entries, length-offset_entries, length-value_entries}
+use Rattle.bsi_rows.specs.RowBlocks.{kept_entry, least_at, placed_entry, placed_row, placed_rows, IsBlock, IsSameCell, IsValueAt, IsWritten}
 use Rattle.bsi_rows.specs.Rows.{column_of, entry_at, Entries}
 use Rattle.bsi_rows.proofs.BlockRows.{column-placed_rows, entry-placed_row, no_column-placed_rows, placed_row-same, placed_row-written, placed_rows-more, placed_rows-same, same_below}
 
@@ -30,7 +31,7 @@ module _ (limits : List Limits) (numbers not_null new_numbers new_not_null : Lis
   kept_same = ap₂ (λ bit (number : ℕ). if bit == 1 then Some number else None) same.bit same.number
 
   pub placed_same : placed_entry limits new_numbers new_not_null c r ≡ placed_entry limits numbers not_null c r
-  placed_same = ap (option_map (λ n. least_at limits c +ℤ pos n)) kept_same
+  placed_same = ap (option_map (number_of (least_at limits c))) kept_same
 
 -- a row that fits is written behind the others of a block
 module _ (columns : List NamedColumn) (limits : List Limits) (feeders : ℕ) (row_feeders numbers not_null new_numbers new_not_null : List ℕ)
@@ -92,7 +93,7 @@ some_is_not_none same = absurd (true≢false (ap is_some same))
 module _ (limits : List Limits) (numbers not_null : List ℕ) (c r : ℕ) (within : 64 * c + r < length numbers) (clear : get_or not_null c 0 < 2 ^ r) where
   pub written_null : IsWritten limits (set numbers (64 * c + r) 0) not_null c r None
   written_null = record {
-    entry_is = ap (λ bit. option_map (λ n. least_at limits c +ℤ pos n) (if bit == 1 then Some (get_or (set numbers (64 * c + r) 0) (64 * c + r) 0) else None)) (bit_at_above (get_or not_null c 0) r r clear (omega arith));
+    entry_is = ap (λ bit. option_map (number_of (least_at limits c)) (if bit == 1 then Some (get_or (set numbers (64 * c + r) 0) (64 * c + r) 0) else None)) (bit_at_above (get_or not_null c 0) r r clear (omega arith));
     null = λ none. get_or-set_same numbers (64 * c + r) 0 0 within;
     clear = let more = pow_below r (r + 1) (omega arith) in omega (arith, clear, more);
   }
@@ -105,12 +106,12 @@ module _ (limits : List Limits) (numbers not_null : List ℕ) (c r : ℕ) (withi
     word_is : get_or written_word c 0 ≡ bit_or (get_or not_null c 0) (1 * 2 ^ r % 2 ^ 64)
     word_is = get_or-set_same not_null c _ 0 there
 
-    pub written_number : (entry : Option ℤ) → entry ≡ Some (least_at limits c +ℤ pos n) → IsWritten limits (set numbers (64 * c + r) n) written_word c r entry
+    pub written_number : (entry : Option ℤ) → entry ≡ Some (number_of (least_at limits c) n) → IsWritten limits (set numbers (64 * c + r) n) written_word c r entry
     written_number entry is =
         let bit : bit_at (get_or written_word c 0) r ≡ 1 = ap (λ w. bit_at w r) word_is ∙ bit_at_set_same w64 (get_or not_null c 0) r near in
         let number = get_or-set_same numbers (64 * c + r) n 0 within in
         record {
-          entry_is = ap₂ (λ b (x : ℕ). option_map (λ n. least_at limits c +ℤ pos n) (if b == 1 then Some x else None)) bit number ∙ sym is;
+          entry_is = ap₂ (λ b (x : ℕ). option_map (number_of (least_at limits c)) (if b == 1 then Some x else None)) bit number ∙ sym is;
           null = λ none. absurd (some_is_not_none (sym (ap₂ (λ b (x : ℕ). if b == 1 then Some x else None) bit number) ∙ none));
           clear = subst (λ w. w < 2 ^ (r + 1)) (sym word_is) below;
         }
@@ -158,7 +159,7 @@ module _ (columns : List NamedColumn) (limits : List Limits) (feeders : ℕ) (ro
       (length-offset_entries offset lent_numbers word ∙ lent_long)
       (λ r below.
       get_or-offset_entries offset lent_numbers word r (omega (arith, below, lent_long))
-      ∙ ap (λ (n : ℕ). option_map (λ n. offset +ℤ pos n) (if bit_at word r == 1 then Some n else None)) (lent_number r below))
+      ∙ ap (λ (n : ℕ). option_map (number_of offset) (if bit_at word r == 1 then Some n else None)) (lent_number r below))
       ∙ sym (column-placed_rows (length columns) row_feeders (placed_entry limits numbers not_null) c within)
 
 -- an entry that its column takes
@@ -166,17 +167,17 @@ module _ (columns : List NamedColumn) (limits : List Limits) (are : limits ≡ m
   pub least_is : (c : ℕ) → c < length columns → least_at limits c ≡ (column_at columns c).offset
   least_is c within = ap (λ ls. least_at ls c) are ∙ ap (λ (l : Limits). l.least) (get_or-map limits_of columns c no_column (record { least = pos 0; size = 0 }) within)
 
-  pub taken_from : (c : ℕ) (entry : Option ℤ) → c < length columns → is_taken_by (column_at columns c) entry ≡ true → IsFrom (least_at limits c) entry
-  taken_from c entry there taken = subst (λ (least : ℤ). IsFrom least entry) (sym (least_is c there)) (by (All-get_or IsColumn columns c no_column there all) entry taken)
+  pub taken_from : (c : ℕ) (entry : Option ℤ) → c < length columns → is_taken_by (column_at columns c) entry ≡ true → IsInRange (least_at limits c) (2 ^ 64) entry
+  taken_from c entry there taken = subst (λ (least : ℤ). IsInRange least (2 ^ 64) entry) (sym (least_is c there)) (by (All-get_or IsColumn columns c no_column there all) entry taken)
     where
-      by : IsColumn (column_at columns c) → (entry : Option ℤ) → is_taken_by (column_at columns c) entry ≡ true → IsFrom (column_at columns c).offset entry
+      by : IsColumn (column_at columns c) → (entry : Option ℤ) → is_taken_by (column_at columns c) entry ≡ true → IsInRange (column_at columns c).offset (2 ^ 64) entry
       by is None taken = tt
       by is (Some x) taken =
           let column = column_at columns c in
           let range = within column.offset x (column.offset +ℤ pos (size_in column.form)) taken in
           (range.0, omega (arith, ints, range.1, is.low, is.below))
 
-  pub fitting_from : (row : Entries) → fits columns row ≡ true → (c : ℕ) → c < length limits → IsFrom (least_at limits c) (entry_at row c)
+  pub fitting_from : (row : Entries) → fits columns row ≡ true → (c : ℕ) → c < length limits → IsInRange (least_at limits c) (2 ^ 64) (entry_at row c)
   fitting_from row fit c near =
       let there : c < length columns = omega (arith, near, limits_long columns limits are) in
       taken_from c (entry_at row c) there (fits-at columns row c fit there)
@@ -226,7 +227,7 @@ module _ (columns : List NamedColumn) (limits : List Limits) (feeders : ℕ) (ro
 
   behind_null : (c r : ℕ) → length row_feeders ≤ r → placed_entry limits new_numbers not_null c r ≡ None
   behind_null c r past =
-      ap (λ bit. option_map (λ n. least_at limits c +ℤ pos n) (if bit == 1 then Some (get_or new_numbers (64 * c + r) 0) else None))
+      ap (λ bit. option_map (number_of (least_at limits c)) (if bit == 1 then Some (get_or new_numbers (64 * c + r) 0) else None))
       (bit_at_above (get_or not_null c 0) (length row_feeders) r (is.clear c) past)
 
   pub null_rows_more : (n : ℕ) → n ≤ count → placed_rows (length columns) (row_feeders ++ replicate n feeder) (placed_entry limits new_numbers not_null)
@@ -267,14 +268,6 @@ module _ (columns : List NamedColumn) (limits : List Limits) (feeders : ℕ) (ro
         clear = λ c. let more = pow_mono {i = length row_feeders} {j = length (row_feeders ++ replicate count feeder)} (omega (arith, many)) in omega (arith, is.clear c, more);
       }
 
-pub length-value_entries : (values : List ℤ) (word : ℕ) → length (value_entries values word) ≡ length values
-unfolding value_entries
-length-value_entries values word = length-map-range_with_len (value_entry values word) 0 (length values)
-
-pub get_or-value_entries : (values : List ℤ) (word r : ℕ) → r < length values → get_or (value_entries values word) r None ≡ value_entry values word r
-unfolding value_entries
-get_or-value_entries values word r within = get_or-map-range_with_len (value_entry values word) 0 (length values) r r None within (omega arith)
-
 length-placed_row : (columns : ℕ) (entry : ℕ → ℕ → Option ℤ) (r : ℕ) → length (placed_row columns entry r) ≡ columns
 unfolding placed_row
 length-placed_row columns entry r = length-map-range_with_len (λ c. entry c r) 0 columns
@@ -288,9 +281,6 @@ module _ (columns : List NamedColumn) (limits : List Limits) (feeders : ℕ) (ro
   abbrev pub words_with : List ℕ
   words_with = set not_null c word
 
-  old_entry : ℕ → ℕ → Option ℤ
-  old_entry = placed_entry limits numbers not_null
-
   word_there : get_or words_with c 0 ≡ word
   word_there = get_or-set_same not_null c word 0 (omega (arith, there, is.words))
 
@@ -303,12 +293,12 @@ module _ (columns : List NamedColumn) (limits : List Limits) (feeders : ℕ) (ro
   -- an entry of it is the value's
   pub entry_written : (r : ℕ) → r < length row_feeders → placed_entry limits new_numbers words_with c r ≡ value_entry values word r
   entry_written r below =
-      ap (λ w. option_map (λ n. least_at limits c +ℤ pos n) (if bit_at w r == 1 then Some (get_or new_numbers (64 * c + r) 0) else None)) word_there
+      ap (λ w. option_map (number_of (least_at limits c)) (if bit_at w r == 1 then Some (get_or new_numbers (64 * c + r) 0) else None)) word_there
       ∙ by (bit_at word r == 1) refl
     where
       by : (b : Bool) → (bit_at word r == 1) ≡ b
-          → option_map (λ n. least_at limits c +ℤ pos n) (if b then Some (get_or new_numbers (64 * c + r) 0) else None) ≡ (if b then Some (get_or values r (pos 0)) else None)
-      by true set = ap Some ((written r (omega (arith, below, many))).there (one set))
+          → option_map (number_of (least_at limits c)) (if b then Some (get_or new_numbers (64 * c + r) 0) else None) ≡ (if b then Some (get_or values r (pos 0)) else None)
+      by true set = ap Some ((written r (omega (arith, below, many))).number (one set))
         where
           one : (bit_at word r == 1) ≡ true → bit_at word r ≡ 1
           one set = grind (arith, nat_tests)

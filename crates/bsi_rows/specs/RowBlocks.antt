@@ -1,8 +1,9 @@
 -- Blocks of rows, kept column by column.
-use Rattle.std.specs.Prelude.{◌≡◌, ◌≢◌, ℕ, ◌+◌, ◌*◌, ◌^◌, ◌<◌, ◌≤◌, ◌==◌, ◌+ℤ◌, ◌≤ℤ◌, ◌<ℤ◌, pos, List, [], ◌∷◌, ◌++◌, All, IfSome, None, Option, Some, length, map, replicate, slice_index, slice_index_or, ℤ, true, if◌then◌else◌}
+use Rattle.std.specs.Prelude.{◌≡◌, ◌≢◌, ℕ, ◌+◌, ◌*◌, ◌^◌, ◌<◌, ◌≤◌, ◌==◌, pos, List, [], ◌∷◌, ◌++◌, All, None, Option, Some, length, map, replicate, slice_index, slice_index_or, ℤ, true, if◌then◌else◌}
 use Rattle.std.specs.Int.{bit_at}
 use Rattle.std.specs.List.{range_with_len}
 use Rattle.std.specs.Option.{option_map}
+use Rattle.bsi_orders.specs.Offsets.{number_of}
 use Rattle.bsi_schema.specs.Columns.{fits, Declared, IsColumn, NamedColumn}
 use Rattle.bsi_schema.specs.Limits.{limits_of}
 use Rattle.bsi_schema.specs.declared.limits.Limits.{Limits}
@@ -33,14 +34,6 @@ with_block_row block feeder row = record block { rows = block.rows ++ (feeder, r
 abbrev pub with_null_rows : RowBlock → ℕ → ℕ → RowBlock
 with_null_rows block feeder count =
     record block { rows = block.rows ++ replicate count (feeder, replicate (length block.schema.columns) None) }
-
--- the entry of row r in a column of values: a null where the word has no bit r
-abbrev pub value_entry : List ℤ → ℕ → ℕ → Option ℤ
-value_entry values not_null r = if bit_at not_null r == 1 then Some (slice_index_or values r (pos 0)) else None
-
--- its entries, in order of the rows
-unfoldable pub value_entries : List ℤ → ℕ → List (Option ℤ)
-value_entries values not_null = map (value_entry values not_null) (range_with_len 0 (length values))
 
 -- the same block, where column c has these entries
 pub record HasColumn (old new : RowBlock) (c : ℕ) (entries : List (Option ℤ)) : Type 0 where
@@ -73,27 +66,25 @@ kept_entry numbers not_null c r =
 
 -- that entry, whose number stands less the least that the column takes
 abbrev pub placed_entry : List Limits → List ℕ → List ℕ → ℕ → ℕ → Option ℤ
-placed_entry limits numbers not_null c r = option_map (λ n. least_at limits c +ℤ pos n) (kept_entry numbers not_null c r)
-
--- a null, or a number from the least on, which has 64 bits less that
-abbrev pub IsFrom : ℤ → Option ℤ → Type 0
-IsFrom least entry = IfSome entry (λ x. (least ≤ℤ x) × (x <ℤ (least +ℤ pos (2 ^ 64))))
+placed_entry limits numbers not_null c r = option_map (number_of (least_at limits c)) (kept_entry numbers not_null c r)
 
 -- entry r of column c is kept as before
 pub record IsSameCell (numbers not_null new_numbers new_not_null : List ℕ) (c r : ℕ) : Type 0 where
   pub number : slice_index new_numbers (max_block_rows * c + r) ≡ slice_index numbers (max_block_rows * c + r)
   pub bit : bit_at (slice_index new_not_null c) r ≡ bit_at (slice_index not_null c) r
 
--- entry r of column c is this one, of which the number of a null is 0
+-- entry r of column c is this one, of which the number of a null is 0, and no later entry is a number
 pub record IsWritten (limits : List Limits) (numbers not_null : List ℕ) (c r : ℕ) (entry : Option ℤ) : Type 0 where
   pub entry_is : placed_entry limits numbers not_null c r ≡ entry
   pub null : kept_entry numbers not_null c r ≡ None → slice_index numbers (max_block_rows * c + r) ≡ 0
   pub clear : slice_index not_null c < 2 ^ (r + 1)
 
 -- the number of value r of column c, and 0 for a null
-pub record IsValueAt (limits : List Limits) (values : List ℤ) (present : ℕ) (numbers : List ℕ) (c r : ℕ) : Type 0 where
-  pub there : bit_at present r ≡ 1 → least_at limits c +ℤ pos (slice_index numbers (max_block_rows * c + r)) ≡ slice_index_or values r (pos 0)
-  pub null : bit_at present r ≡ 0 → slice_index numbers (max_block_rows * c + r) ≡ 0
+pub record IsValueAt (limits : List Limits) (values : List ℤ) (not_null : ℕ) (numbers : List ℕ) (c r : ℕ) : Type 0 where
+  pub number :
+      bit_at not_null r ≡ 1
+      → number_of (least_at limits c) (slice_index numbers (max_block_rows * c + r)) ≡ slice_index_or values r (pos 0)
+  pub null : bit_at not_null r ≡ 0 → slice_index numbers (max_block_rows * c + r) ≡ 0
 
 -- row r of so many columns, by the entry of each column in each row
 unfoldable pub placed_row : ℕ → (ℕ → ℕ → Option ℤ) → ℕ → Entries
@@ -119,6 +110,10 @@ pub record IsBlock (columns : List NamedColumn) (limits : List Limits) (feeders 
   pub long : length numbers ≡ max_block_rows * length columns
   pub words : length not_null ≡ length columns
   pub from : All (λ feeder. feeder < feeders) row_feeders
-  pub fitting : (r : ℕ) → r < length row_feeders → fits columns (placed_row (length columns) (placed_entry limits numbers not_null) r) ≡ true
-  pub nulls : (c r : ℕ) → c < length columns → r < length row_feeders → kept_entry numbers not_null c r ≡ None → slice_index numbers (max_block_rows * c + r) ≡ 0
+  pub fitting :
+      (r : ℕ) → r < length row_feeders
+      → fits columns (placed_row (length columns) (placed_entry limits numbers not_null) r) ≡ true
+  pub nulls :
+      (c r : ℕ) → c < length columns → r < length row_feeders
+      → kept_entry numbers not_null c r ≡ None → slice_index numbers (max_block_rows * c + r) ≡ 0
   pub clear : (c : ℕ) → slice_index not_null c < 2 ^ length row_feeders

@@ -7,13 +7,13 @@
 //! ghost snapshot would do for the proofs: what has a snapshot can't be shown to go to another thread.
 
 ghost use Rattle.std.specs.Prelude.{◌≡◌, ◌↔◌, [], ◌+◌, ◌++◌, ◌^◌, ◌<◌, ◌≤◌, All, Some, IfOk, IsTrue, length, replicate, slice_get, vec_capacity, true, false};
-ghost use Rattle.bsi_orders.specs.Blocks.{offset_entries, IsNumberBlock};
+ghost use Rattle.bsi_orders.specs.Blocks.{offset_entries, value_entries, IsNumberBlock};
 ghost use Rattle.bsi_schema.specs.Columns.{column_at, fits, is_taken_by};
-ghost use Rattle.bsi_rows.specs.RowBlocks.{emptied_block, entries_of, max_block_rows, no_block_rows, value_entries, with_block_row, with_null_rows, HasColumn, HaveSameLimits};
+ghost use Rattle.bsi_rows.specs.RowBlocks.{emptied_block, entries_of, max_block_rows, no_block_rows, with_block_row, with_null_rows, HasColumn, HaveSameLimits};
 ghost use Rattle.bsi_rows.specs.Rows.{column_of, feeders_of};
 ghost use Rattle.bsi_rows.specs.Table.{AreFitting, AreFrom};
 
-use crate::cells::{read_row, write_entries, write_nulls, write_row, write_values};
+use crate::cells::{read_row, takes_values, write_entries, write_nulls, write_row, write_values};
 use crate::{NoMemory, Row, Schema};
 use bsi_schema::{Limits, have_same_limits, take_each};
 use std::alloc::Global;
@@ -23,9 +23,9 @@ use std::sync::Arc;
 /// The most rows of a block that can be appended at once.
 pub const MAX_BLOCK_ROWS: usize = 64;
 
-/// At most 64 rows that fit a schema, each from one of so many feeders. A row is tested once, as it is added. Filling
-/// the block again takes no memory. For each of the 64 rows it takes 8 bytes and a bit a column, and 4 bytes for its
-/// feeder.
+/// At most 64 rows that fit a schema, each from one of so many feeders. `push` tests a row as it adds it; the other calls
+/// are given what fits. Filling the block again takes no memory. For each of the 64 rows it takes 8 bytes and a bit a
+/// column, and 4 bytes for its feeder.
 pub struct Block {
     schema: Arc<Schema, Global>,
     // What each column takes, beside the shared schema, so that a row is tested without it.
@@ -185,6 +185,18 @@ impl Block {
         push_feeder(&mut self.row_feeders, feeder, rows);
     }
 
+    /// Returns whether column `c` takes each of these entries: value `r` where bit `r` of `not_null` is set, and a null
+    /// elsewhere.
+    pub fn takes_column(&self, c: usize, values: &[i64], not_null: u64) -> bool
+        requires within { c < length self.now.schema.columns }
+        requires few { length values.now ≤ max_block_rows }
+        ensures { IsTrue result
+            ↔ All (λ entry. is_taken_by (column_at self.now.schema.columns c) entry ≡ true)
+            (value_entries values.now not_null) }
+    {
+        takes_values(self.limits[c], values, not_null)
+    }
+
     /// Writes the entries of column `c` in all rows at once: value `r` where bit `r` of `not_null` is set, and a null
     /// elsewhere. The column takes each.
     pub fn write_column(&mut self, c: usize, values: &[i64], not_null: u64)
@@ -229,6 +241,7 @@ impl Block {
     /// Lends the entries of column `c`, in order of the rows.
     pub fn column(&self, c: usize) -> BlockColumn<'_>
         requires { c < length self.now.schema.columns }
+        ensures offset { result.offset ≡ (column_at self.now.schema.columns c).offset }
         ensures entries { offset_entries result.offset result.numbers.now result.not_null
             ≡ column_of self.now.rows c }
         ensures block { IsNumberBlock result.numbers.now result.not_null }

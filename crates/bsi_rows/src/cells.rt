@@ -1,9 +1,12 @@
 //! The entries of the rows of a block, column by column. The numbers of column `c` stand in 64 places from place
 //! `64 * c` on, each less the least number that the column takes, and bit `r` of word `c` tells whether entry `r` is one.
 
-ghost use Rattle.std.specs.Prelude.{◌≡◌, ◌≢◌, ℕ, pos, ◌+◌, ◌*◌, ◌^◌, ◌<◌, ◌≤◌, ◌+ℤ◌, IfOk, Some, length, slice_index, slice_index_or, true, false};
-ghost use Rattle.bsi_schema.specs.Columns.{entry_at};
-ghost use Rattle.bsi_rows.specs.RowBlocks.{least_at, max_block_rows, placed_entry, placed_row, value_entry, IsFrom, IsSameCell, IsValueAt, IsWritten};
+ghost use Rattle.std.specs.Prelude.{◌≡◌, ◌≢◌, ◌↔◌, ℕ, ◌+◌, ◌*◌, ◌^◌, ◌<◌, ◌≤◌, All, IfOk, IsTrue, Some, length, slice_index, true, false};
+ghost use Rattle.bsi_orders.specs.Blocks.{value_entries, value_entry};
+ghost use Rattle.bsi_orders.specs.Offsets.{number_of, IsInRange};
+ghost use Rattle.bsi_schema.specs.Columns.{entry_at, is_between};
+ghost use Rattle.bsi_rows.specs.RowBlocks.{least_at, max_block_rows, placed_entry, placed_row, IsSameCell, IsValueAt, IsWritten};
+ghost use Rattle.bsi_rows.specs.Table.{end_of_u64};
 
 use crate::NoMemory;
 use crate::block::MAX_BLOCK_ROWS;
@@ -12,8 +15,8 @@ use std::alloc::Global;
 
 /// Returns how far a number is above the least one.
 fn distance(least: i64, number: i128) -> u64
-    requires { IsFrom least (Some number) }
-    ensures { least +ℤ pos result ≡ number }
+    requires { IsInRange least end_of_u64 (Some number) }
+    ensures { number_of least result ≡ number }
 {
     (number - i128::from(least)) as u64
 }
@@ -31,16 +34,16 @@ fn write_entry(
     requires long { length numbers.old ≡ max_block_rows * length limits.now }
     requires words { length not_null.old ≡ length limits.now }
     requires place { r < max_block_rows }
-    requires range { IsFrom (least_at limits.now c) entry }
+    requires range { IsInRange (least_at limits.now c) end_of_u64 entry }
     requires clear { slice_index not_null.old c < 2 ^ r }
     ensures long { length numbers.new ≡ length numbers.old }
     ensures words { length not_null.new ≡ length not_null.old }
     ensures written { IsWritten limits.now numbers.new not_null.new c r entry }
-    ensures rows { (k s : ℕ) → s < max_block_rows → s ≢ r →
+    ensures other_rows { (k s : ℕ) → s < max_block_rows → s ≢ r →
         IsSameCell numbers.old not_null.old numbers.new not_null.new k s }
-    ensures columns { (k : ℕ) → k ≢ c →
+    ensures other_columns { (k : ℕ) → k ≢ c →
         IsSameCell numbers.old not_null.old numbers.new not_null.new k r }
-    ensures kept { (k : ℕ) → k ≢ c → slice_index not_null.new k ≡ slice_index not_null.old k }
+    ensures other_words { (k : ℕ) → k ≢ c → slice_index not_null.new k ≡ slice_index not_null.old k }
 {
     let Some(number) = entry else {
         numbers[MAX_BLOCK_ROWS * c + r] = 0;
@@ -63,13 +66,13 @@ pub(crate) fn write_row(
     requires words { length not_null.old ≡ length limits.now }
     requires place { r < max_block_rows }
     requires range { (c : ℕ) → c < length limits.now →
-        IsFrom (least_at limits.now c) (entry_at entries.now c) }
+        IsInRange (least_at limits.now c) end_of_u64 (entry_at entries.now c) }
     requires clear { (c : ℕ) → slice_index not_null.old c < 2 ^ r }
     ensures long { length numbers.new ≡ length numbers.old }
     ensures words { length not_null.new ≡ length not_null.old }
     ensures written { (c : ℕ) → c < length limits.now →
         IsWritten limits.now numbers.new not_null.new c r (entry_at entries.now c) }
-    ensures rows { (c s : ℕ) → s < max_block_rows → s ≢ r →
+    ensures other_rows { (c s : ℕ) → s < max_block_rows → s ≢ r →
         IsSameCell numbers.old not_null.old numbers.new not_null.new c s }
 {
     'columns: for (c, entry) in entries.iter().enumerate() {
@@ -90,26 +93,18 @@ pub(crate) fn write_entries(
     requires words { length not_null.old ≡ length limits.now }
     requires place { r < max_block_rows }
     requires range { (c : ℕ) → c < length limits.now →
-        IsFrom (least_at limits.now c) (entry_at entries.now c) }
+        IsInRange (least_at limits.now c) end_of_u64 (entry_at entries.now c) }
     requires clear { (c : ℕ) → slice_index not_null.old c < 2 ^ r }
     ensures long { length numbers.new ≡ length numbers.old }
     ensures words { length not_null.new ≡ length not_null.old }
     ensures written { (c : ℕ) → c < length limits.now →
         IsWritten limits.now numbers.new not_null.new c r (entry_at entries.now c) }
-    ensures rows { (c s : ℕ) → s < max_block_rows → s ≢ r →
+    ensures other_rows { (c s : ℕ) → s < max_block_rows → s ≢ r →
         IsSameCell numbers.old not_null.old numbers.new not_null.new c s }
 {
     'columns: for (c, entry) in entries.iter().enumerate() {
-        write_entry(limits, to_i128(*entry), c, r, numbers, not_null);
+        write_entry(limits, entry.map(i128::from), c, r, numbers, not_null);
     }
-}
-
-/// Returns the same entry, as a number of 128 bits.
-fn to_i128(entry: Option<i64>) -> Option<i128>
-    ensures { result ≡ entry }
-{
-    let number = entry?;
-    Some(i128::from(number))
 }
 
 /// Reads the entries of row `r`.
@@ -153,13 +148,39 @@ fn read_entry(
     Some(i128::from(limits[c].least()) + i128::from(numbers[MAX_BLOCK_ROWS * c + r]))
 }
 
-/// Returns how far a value is above the least one, and 0 for a null.
-fn stored(least: i64, value: i64, there: bool) -> u64
-    requires { there ≡ true → IsFrom least (Some value) }
-    ensures there { there ≡ true → least +ℤ pos result ≡ value }
-    ensures null { there ≡ false → result ≡ 0 }
+/// Returns entry `r` of a column of values.
+fn value_at(values: &[i64], not_null: u64, r: usize) -> Option<i128>
+    requires within { r < length values.now }
+    requires few { length values.now ≤ max_block_rows }
+    ensures { result ≡ value_entry values.now not_null r }
 {
-    if there {
+    if not_null >> r & 1 == 0 {
+        return None;
+    }
+    Some(i128::from(values[r]))
+}
+
+/// Returns whether each entry of a column of values is a null or one of these numbers.
+pub(crate) fn takes_values(limits: Limits, values: &[i64], not_null: u64) -> bool
+    requires { length values.now ≤ max_block_rows }
+    ensures { IsTrue result ↔ All (λ entry. is_between limits.least limits.size entry ≡ true)
+        (value_entries values.now not_null) }
+{
+    'rows: for r in 0..values.len() {
+        if !limits.takes(value_at(values, not_null, r)) {
+            return false;
+        }
+    }
+    true
+}
+
+/// Returns how far a value is above the least one, and 0 for a null.
+fn stored(least: i64, value: i64, is_number: bool) -> u64
+    requires { is_number ≡ true → IsInRange least end_of_u64 (Some value) }
+    ensures number { is_number ≡ true → number_of least result ≡ value }
+    ensures null { is_number ≡ false → result ≡ 0 }
+{
+    if is_number {
         distance(least, i128::from(value))
     } else {
         0
@@ -170,7 +191,7 @@ fn stored(least: i64, value: i64, there: bool) -> u64
 pub(crate) fn write_values(
     limits: &[Limits],
     values: &[i64],
-    present: u64,
+    not_null: u64,
     c: usize,
     numbers: &mut [u64],
 )
@@ -178,10 +199,10 @@ pub(crate) fn write_values(
     requires long { length numbers.old ≡ max_block_rows * length limits.now }
     requires few { length values.now ≤ max_block_rows }
     requires from { (r : ℕ) → r < length values.now →
-        IsFrom (least_at limits.now c) (value_entry values.now present r) }
+        IsInRange (least_at limits.now c) end_of_u64 (value_entry values.now not_null r) }
     ensures long { length numbers.new ≡ length numbers.old }
     ensures written { (r : ℕ) → r < length values.now →
-        IsValueAt limits.now values.now present numbers.new c r }
+        IsValueAt limits.now values.now not_null numbers.new c r }
     ensures others { (k s : ℕ) → k ≢ c → s < max_block_rows →
         slice_index numbers.new (max_block_rows * k + s)
         ≡ slice_index numbers.old (max_block_rows * k + s) }
@@ -189,7 +210,7 @@ pub(crate) fn write_values(
     let least = limits[c].least();
     let first = MAX_BLOCK_ROWS * c;
     'rows: for (r, value) in values.iter().enumerate() {
-        numbers[first + r] = stored(least, *value, present >> r & 1 == 1);
+        numbers[first + r] = stored(least, *value, not_null >> r & 1 == 1);
     }
 }
 

@@ -10,15 +10,15 @@ use Rattle.std.proofs.lemmas.List.{get_or_past}
 use Rattle.std.proofs.lemmas.Nat.Bits.{bit_at-lt, bit_at_and}
 use Rattle.bsi_bits.specs.Packed.{bit_of}
 use Rattle.bsi_columns.proofs.EntryReads.{all_read}
+use Rattle.bsi_orders.specs.Blocks.{value_entry}
+use Rattle.bsi_orders.specs.Offsets.{number_of}
+use Rattle.bsi_orders.specs.Orders.{compares_by}
 use Rattle.bsi_orders.specs.Rows.{number_or_zero}
 use Rattle.bsi_orders.specs.WholeNumbers.{signed_relates}
-use Rattle.bsi_orders.specs.Orders.{compares_by}
 use Rattle.bsi_orders.specs.WholeNumbers.{signed_order}
 use Rattle.bsi_orders.specs.declared.op.Op.{Op}
 use Rattle.bsi_slices.specs.Related.{relates, relates_entries}
 use Rattle.bsi_slices.specs.declared.slices.related.Relating.{Relating}
-use Rattle.bsi_shift.specs.Blocks.{block_entry}
-use Rattle.bsi_shift.specs.Shifted.{number_of}
 
 some_read : (entries : List (Option ℕ)) (r : ℕ) → get_or (map is_some entries) r false ≡ is_some (get_or entries r None)
 some_read [] r = refl
@@ -45,7 +45,7 @@ pub entry_read : (offset : ℤ) (stored : List (Option ℕ)) (size at r : ℕ) (
     → All (λ e. number_or_zero e < size) stored → ((i : ℕ) → bit_of words i ≡ get_or (map is_some stored) i false)
     → (64 * at + r < length stored → get_or numbers r 0 ≡ number_or_zero (get_or stored (64 * at + r) None))
     → (get_or numbers r 0 < 2 ^ 63 → number_of offset (get_or numbers r 0) <ℤ pos (2 ^ 63) → get_or shifted r (pos 0) ≡ number_of offset (get_or numbers r 0))
-    → block_entry (get_or words at 0) shifted r ≡ option_map (number_of offset) (get_or stored (64 * at + r) None)
+    → value_entry shifted (get_or words at 0) r ≡ option_map (number_of offset) (get_or stored (64 * at + r) None)
 entry_read offset stored size at r words numbers shifted near some most within below bits read moved =
     entry_of offset (get_or stored (64 * at + r) None) (bit_at (get_or words at 0) r == 1) (get_or shifted r (pos 0))
     (word_bit words at r near ∙ bits (64 * at + r) ∙ some_read stored (64 * at + r)) (λ n is.

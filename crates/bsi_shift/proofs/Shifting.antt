@@ -9,13 +9,14 @@ use Rattle.bsi_columns.specs.declared.any.AnyColumn.{AnyColumn}
 use Rattle.bsi_columns.specs.AnyRows.{any_entries, any_form, any_size, size_in_form}
 use Rattle.bsi_columns.proofs.EntryReads.{map_read}
 use Rattle.bsi_orders.specs.Blocks.{block_entries, block_entry, offset_entries, IsNumberBlock}
+use Rattle.bsi_orders.specs.Offsets.{number_of, IsInRange}
 use Rattle.bsi_orders.specs.Orders.{compares_by, values_at}
 use Rattle.bsi_orders.specs.Rows.{number_or_zero, number_order, selects}
+use Rattle.bsi_orders.specs.WholeNumbers.{signed_order, signed_selects}
 use Rattle.bsi_orders.specs.declared.op.Op.{Op}
 use Rattle.bsi_orders.proofs.BlockEntries.{length-offset_entries, get_or-offset_entries, number-block_entry}
 use Rattle.bsi_slices.proofs.BlockWords.{small-block_entries}
-use Rattle.bsi_shift.specs.Shifted.{OffsetColumn, shifted_entries, number_of, IsInRange, IsShifted}
-use Rattle.bsi_orders.specs.WholeNumbers.{signed_order, signed_selects}
+use Rattle.bsi_shift.specs.Shifted.{OffsetColumn, shifted_entries, IsShifted}
 
 -- the entries of stored numbers and an offset
 abbrev pub entries_from : ℤ → List (Option ℕ) → List (Option ℤ)

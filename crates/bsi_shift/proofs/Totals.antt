@@ -12,14 +12,15 @@ use mir.Syntax.{w64}
 use mir.Val.{SFits}
 use Rattle.bsi_slices.proofs.CallerLemmas.{count_cons}
 use Rattle.bsi_slices.proofs.Ranking.{count_split, member_from_count}
+use Rattle.bsi_orders.specs.Offsets.{number_of}
 use Rattle.bsi_orders.specs.Orders.{values_at}
+use Rattle.bsi_orders.specs.Ranks.{IsSignedRanked}
 use Rattle.bsi_orders.specs.Rows.{number_or_zero}
 use Rattle.bsi_orders.specs.Totals.{IsLeastOf, IsGreatestOf, IsMedianOf, IsRanked}
+use Rattle.bsi_orders.specs.WholeNumbers.{signed_sum, IsSignedLeastOf, IsSignedGreatestOf, IsSignedMedianOf}
 use Rattle.bsi_columns.specs.AnyRows.{any_entries}
 use Rattle.bsi_columns.specs.declared.any.AnyColumn.{AnyColumn}
-use Rattle.bsi_orders.specs.Ranks.{IsSignedRanked}
-use Rattle.bsi_shift.specs.Shifted.{number_of, shifted_entries, OffsetColumn}
-use Rattle.bsi_orders.specs.WholeNumbers.{signed_sum, IsSignedLeastOf, IsSignedGreatestOf, IsSignedMedianOf}
+use Rattle.bsi_shift.specs.Shifted.{shifted_entries, OffsetColumn}
 use Rattle.bsi_shift.proofs.Shifting.{values_at-shifted_entries}
 
 -- ---- sums

@@ -1,19 +1,16 @@
 -- A column of whole numbers, each of which is stored less an offset.
-use Rattle.std.specs.Prelude.{◌≡◌, ℕ, ◌<◌, ◌≤◌, All, ℤ, pos, ◌+ℤ◌, ◌≤ℤ◌, ◌<ℤ◌, List, Option, IfSome, map}
+use Rattle.std.specs.Prelude.{◌≡◌, ℕ, ◌<◌, ◌≤◌, All, ℤ, pos, ◌+ℤ◌, ◌≤ℤ◌, List, Option, map}
 use Rattle.std.specs.Option.{option_map}
 use Rattle.bsi_digits.specs.Digits.{max_end, max_size}
 use Rattle.bsi_columns.specs.declared.any.AnyColumn.{AnyColumn}
 use Rattle.bsi_columns.specs.AnyRows.{any_entries, any_form, any_room, any_size}
+use Rattle.bsi_orders.specs.Offsets.{number_of}
 use Rattle.bsi_orders.specs.Rows.{number_or_zero}
 
 -- what a contract sees of it: the column of stored numbers, and the offset
 pub record OffsetColumn : Type 0 where
   pub stored : AnyColumn
   pub offset : ℤ
-
--- the number that is stored as n
-abbrev pub number_of : ℤ → ℕ → ℤ
-number_of offset n = offset +ℤ pos n
 
 -- the numbers and nulls, in order of the rows
 unfoldable pub shifted_entries : OffsetColumn → List (Option ℤ)
@@ -31,10 +28,6 @@ shifted_room c = any_room c.stored
 pub record IsAlike (old new : OffsetColumn) : Type 0 where
   pub offset : new.offset ≡ old.offset
   pub form : any_form new.stored ≡ any_form old.stored
-
--- the entry is a null, or one of as many numbers as the size, from the offset on
-abbrev pub IsInRange : ℤ → ℕ → Option ℤ → Type 0
-IsInRange offset size entry = IfSome entry (λ x. (offset ≤ℤ x) × (x <ℤ (offset +ℤ pos size)))
 
 -- the numbers are as many as the size, all below 2^63, and those of the entries are among them
 pub record IsShifted (stored : AnyColumn) (offset : ℤ) (size : ℕ) : Type 0 where

@@ -6,7 +6,8 @@ ghost use Rattle.bsi_digits.specs.Digits.{max_end, max_size};
 ghost use Rattle.bsi_bits.specs.BitList.{max_block, max_len};
 ghost use Rattle.bsi_columns.specs.AnyRows.{any_entries, any_size};
 ghost use Rattle.bsi_orders.specs.Blocks.{offset_entries, IsNumberBlock};
-ghost use Rattle.bsi_shift.specs.Shifted.{shifted_entries, shifted_size, shifted_room, number_of, IsAlike, IsInRange};
+ghost use Rattle.bsi_orders.specs.Offsets.{number_of, IsInRange};
+ghost use Rattle.bsi_shift.specs.Shifted.{shifted_entries, shifted_size, shifted_room, IsAlike};
 
 use crate::NoMemory;
 use bsi_bits::{Bits, MAX_BLOCK};
@@ -157,8 +158,8 @@ impl Shifted {
     }
 
     /// Appends a block of at most 64 entries into room that is already there. Bit `r` of the word `not_null` tells
-    /// whether entry `r` is a number, as `push_reserved` takes it: `offset` and the number at place `r`, which is 0 for
-    /// a null. Where `offset` is the column's own, the numbers go in as they are.
+    /// whether entry `r` is a number, as `push_reserved` takes it: `offset` and number `r`, which is 0 for a null. Where
+    /// `offset` is the column's own, the numbers go in as they are.
     pub fn push_block_reserved(&mut self, offset: i64, numbers: &[u64], not_null: u64)
         requires few { length numbers.now ≤ max_block }
         requires block { IsNumberBlock numbers.now not_null }

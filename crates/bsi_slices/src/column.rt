@@ -7,8 +7,8 @@ ghost use Rattle.std.specs.Prelude.{◌≡◌, ◌↔◌, ℕ, ◌^◌, ◌+◌,
 ghost use Rattle.bsi_digits.specs.Digits.{max_size};
 ghost use Rattle.bsi_bits.specs.BitList.{max_block, max_len, sum_end};
 ghost use Rattle.bsi_orders.specs.Blocks.{block_entries, IsNumberBlock};
-ghost use Rattle.bsi_orders.specs.Rows.{number_or_zero, selects};
 ghost use Rattle.bsi_orders.specs.Orders.{values_at};
+ghost use Rattle.bsi_orders.specs.Rows.{number_or_zero, selects};
 ghost use Rattle.bsi_orders.specs.Totals.{IsRanked, IsLeastOf, IsGreatestOf, IsMedianOf};
 
 use crate::{NoMemory, Op};
@@ -81,9 +81,9 @@ pub trait Column: Drop {
         ensures form { form_of self.new ≡ form_of self.old }
         ensures room { room_of self.old ≤ room_of self.new + 1 };
 
-    /// Appends a block of at most 64 entries into room that is already there. Entry `r` is the number at place `r`,
-    /// which is below the size, or a null if bit `r` of the word `not_null` is clear; the number of a null is 0. The
-    /// provided body appends them one by one.
+    /// Appends a block of at most 64 entries into room that is already there. Entry `r` is number `r`, which is below
+    /// the size, or a null if bit `r` of the word `not_null` is clear; the number of a null is 0. The provided body
+    /// appends them one by one.
     fn push_block_reserved(&mut self, numbers: &[u64], not_null: u64)
         requires few { length numbers.now ≤ max_block }
         requires block { IsNumberBlock numbers.now not_null }

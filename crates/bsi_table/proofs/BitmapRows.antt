@@ -12,12 +12,13 @@ use Rattle.bsi_columns.specs.AnyRows.{any_entries, AnyForm}
 use Rattle.bsi_columns.specs.Places.{bits_each, column_bitmaps, form_places, AreOfNone}
 use Rattle.bsi_columns.proofs.FromBitmaps.{read_bits}
 use Rattle.bsi_digits.proofs.CallerLemmas.{size_pos}
+use Rattle.bsi_orders.specs.Offsets.{number_of}
 use Rattle.bsi_orders.specs.Rows.{number_or_zero}
 use Rattle.bsi_schema.specs.Columns.{is_taken_by, size_in, Entries, IsForm, NamedColumn}
 use Rattle.bsi_schema.specs.declared.form.Form.{Form}
 use Rattle.bsi_schema.specs.declared.form.Form.TheVariants.{Slices, Equality, Range}
 use Rattle.bsi_schema.proofs.Fitting.{within}
-use Rattle.bsi_shift.specs.Shifted.{number_of, shifted_entries, OffsetColumn}
+use Rattle.bsi_shift.specs.Shifted.{shifted_entries, OffsetColumn}
 use Rattle.bsi_shift.proofs.Shifting.{shifted_entries-is}
 use Rattle.bsi_table.specs.Bitmaps.{stored_entry, HaveNoEntries}
 use Rattle.bsi_table.specs.Kept.{kept_form}

@@ -5,10 +5,11 @@ use Rattle.std.specs.Prelude.{int_le, int_lt, slice_index_or, IsTrue, OnErr, Res
 use Rattle.std.proofs.lemmas.Int.{ints}
 use Rattle.std.proofs.lemmas.List.{length-append, length-map}
 use Rattle.std.proofs.lemmas.List.Elements.{All-append, All-cons, All-get_or, All-map, All-nil, All-weaker}
+use Rattle.bsi_orders.specs.Offsets.{number_of, IsInRange}
 use Rattle.bsi_columns.specs.declared.any.AnyColumn.{AnyColumn}
 use Rattle.bsi_columns.specs.AnyRows.{any_entries, any_form, any_size, size_in_form}
 use Rattle.bsi_origins.specs.Origins.{OriginList}
-use Rattle.bsi_shift.specs.Shifted.{number_of, shifted_entries, shifted_size, IsAlike, IsInRange, OffsetColumn}
+use Rattle.bsi_shift.specs.Shifted.{shifted_entries, shifted_size, IsAlike, OffsetColumn}
 use Rattle.bsi_schema.specs.declared.form.Form.{Form}
 use Rattle.bsi_schema.specs.declared.form.Form.TheVariants.{Slices, Equality, Range}
 use Rattle.bsi_schema.specs.Columns.{column_at, fits, is_taken_by, size_in, NamedColumn}

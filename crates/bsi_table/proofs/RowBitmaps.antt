@@ -6,13 +6,14 @@ use Rattle.std.specs.Option.{option_map}
 use Rattle.std.proofs.lemmas.List.{ext_get_or, get_or-map, length-map}
 use Rattle.std.proofs.lemmas.List.Elements.{All-get_or, All-map, All-weaker}
 use Rattle.std.proofs.lemmas.List.FromFn.{get_or-range_with_len, length-range_with_len}
+use Rattle.bsi_orders.specs.Offsets.{number_of}
 use Rattle.bsi_columns.specs.Places.{form_places}
 use Rattle.bsi_columns.proofs.BitmapEntries.{digits_tell, same_stored, slices_tell, TellApart}
 use Rattle.bsi_schema.specs.declared.form.Form.{Form}
 use Rattle.bsi_schema.specs.declared.form.Form.TheVariants.{Slices, Equality, Range}
 use Rattle.bsi_schema.specs.Columns.{column_at, entry_at, fits, no_column, size_in, Declared, Entries, IsColumn, IsForm, NamedColumn}
 use Rattle.bsi_schema.proofs.Fitting.{fits-at, fits-length}
-use Rattle.bsi_shift.specs.Shifted.{number_of, shifted_entries, OffsetColumn}
+use Rattle.bsi_shift.specs.Shifted.{shifted_entries, OffsetColumn}
 use Rattle.bsi_rows.specs.Rows.{column_of, feeders_of, FedRow}
 use Rattle.bsi_rows.specs.Table.{AreFitting}
 use Rattle.bsi_table.specs.Bitmaps.{bitmaps_of, entries_bitmaps, stored_entry, HaveNoEntries}

@@ -1,12 +1,13 @@
 -- The columns that keep the rows of a table.
 use Rattle.std.specs.Prelude.{◌≡◌, ℕ, ◌+◌, ◌<◌, ◌≤◌, List, [], ◌∷◌, ◌++◌, Option, None, All, length, map, slice_index, slice_index_or, ℤ, pos, ◌+ℤ◌, ◌≤ℤ◌}
 use Rattle.std.specs.List.{range_with_len}
+use Rattle.bsi_orders.specs.Offsets.{IsInRange}
 use Rattle.bsi_digits.specs.Digits.{max_end}
 use Rattle.bsi_digits.specs.Signed.{least_i64, IsI64}
 use Rattle.bsi_columns.specs.declared.any.AnyColumn.{AnyColumn}
 use Rattle.bsi_columns.specs.declared.any.AnyColumn.TheVariants.{Slices as kept_slices}
 use Rattle.bsi_columns.specs.AnyRows.{any_form, equality_under, range_under, slices_of, AnyForm}
-use Rattle.bsi_shift.specs.Shifted.{shifted_entries, shifted_room, shifted_size, IsAlike, IsInRange, OffsetColumn}
+use Rattle.bsi_shift.specs.Shifted.{shifted_entries, shifted_room, shifted_size, IsAlike, OffsetColumn}
 use Rattle.bsi_schema.specs.declared.form.Form.{Form}
 use Rattle.bsi_schema.specs.declared.form.Form.TheVariants.{Slices, Equality, Range}
 use Rattle.bsi_schema.specs.Columns.{column_at, entry_at, size_in, Entries, NamedColumn}

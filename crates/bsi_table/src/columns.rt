@@ -3,9 +3,10 @@
 //! A block of rows goes in column by column. All columns and the list of feeders grow before the first is changed.
 
 ghost use Rattle.std.specs.Prelude.{◌≡◌, ℕ, ◌+◌, ◌<◌, ◌≤◌, [], All, None, length, slice_index_or, true, IfOk, OnOk};
+ghost use Rattle.bsi_orders.specs.Offsets.{IsInRange};
 ghost use Rattle.bsi_bits.specs.BitList.{max_len};
 ghost use Rattle.bsi_columns.specs.AnyRows.{any_entries};
-ghost use Rattle.bsi_shift.specs.Shifted.{shifted_entries, shifted_room, shifted_size, IsInRange};
+ghost use Rattle.bsi_shift.specs.Shifted.{shifted_entries, shifted_room, shifted_size};
 ghost use Rattle.bsi_schema.specs.Columns.{column_at, IsForm};
 ghost use Rattle.bsi_rows.specs.Rows.{column_of, row_entries};
 ghost use Rattle.bsi_table.specs.Kept.{kept_at, AreAlikeColumns, AreInRange, AreKept, AreI64, AreSameColumns, HasMore, HaveMore, HaveOneMore, HaveRoom, HaveRows, IsInForm, Keeps, TakesRow, row_in};

@@ -1,7 +1,7 @@
--- The words that have a row, listed by their places.
+-- Words among which are all that have a row, listed by their places.
 use Rattle.std.specs.Prelude.{◌≢◌, ℕ, ◌+◌, ◌<◌, ◌≤◌, Contains, List, length, slice_index, take}
 
--- so many places are listed: those of the first n words that are not 0, rising
+-- so many places are listed, rising and below n: those of the first n words that are not 0, and perhaps of others
 pub record AreListed (n : ℕ) (places : List ℕ) (count : ℕ) (words : List ℕ) : Type 0 where
   pub few : count ≤ length places
   pub within : (i : ℕ) → i < count → slice_index places i < n

@@ -5,24 +5,26 @@ ghost use Rattle.std.specs.Int.{bit_at};
 ghost use Rattle.bsi_digits.specs.Digits.{max_size};
 ghost use Rattle.bsi_digits.specs.Signed.{end_of_i64};
 ghost use Rattle.bsi_bits.specs.BitList.{max_block, word_count};
+ghost use Rattle.bsi_orders.specs.Blocks.{value_entry};
+ghost use Rattle.bsi_orders.specs.Offsets.{number_of};
 ghost use Rattle.bsi_orders.specs.Orders.{compares_by};
 ghost use Rattle.bsi_orders.specs.WholeNumbers.{signed_order, signed_relates};
 ghost use Rattle.bsi_slices.specs.Related.{relates};
-ghost use Rattle.bsi_shift.specs.Blocks.{block_entry, KeepsRelated};
-ghost use Rattle.bsi_shift.specs.Shifted.{number_of, shifted_entries};
+ghost use Rattle.bsi_shift.specs.Blocks.{KeepsRelated};
+ghost use Rattle.bsi_shift.specs.Shifted.{shifted_entries};
 
 use crate::Shifted;
 use bsi_bits::MAX_BLOCK;
 use bsi_columns::{Column, Op, Relating};
 
 impl Shifted {
-    /// Reads the 64 rows from row `64 * at` on: writes the number of row `64 * at + r` at place `r`, and returns a word
-    /// whose bit `r` says whether it has one. Past the last row the bits are 0. What is written for a row without a
-    /// number is unspecified. It takes no memory.
+    /// Reads the 64 rows from row `64 * at` on: writes that of row `64 * at + r` as number `r`, and returns a word whose
+    /// bit `r` says whether it has one. Past the last row the bits are 0. What is written for a row without a number is
+    /// unspecified. It takes no memory.
     pub fn read_block(&self, at: usize, numbers: &mut [i64; MAX_BLOCK]) -> u64
         requires { at < word_count (length (shifted_entries self.now)) }
         ensures long { length numbers.new ≡ max_block }
-        ensures entries { (r : ℕ) → r < max_block → block_entry result numbers.new r
+        ensures entries { (r : ℕ) → r < max_block → value_entry numbers.new result r
             ≡ slice_index_or (shifted_entries self.now) (64 * at + r) None }
     {
         let mut stored = [0; MAX_BLOCK];

@@ -8,10 +8,11 @@ ghost use Rattle.std.specs.Prelude.{◌≡◌, ℕ, ℤ, ◌<ℤ◌, ◌+◌, �
 ghost use Rattle.bsi_digits.specs.Digits.{max_size};
 ghost use Rattle.bsi_bits.specs.BitList.{word_count};
 ghost use Rattle.bsi_slices.specs.Spans.{KeepsRows};
+ghost use Rattle.bsi_orders.specs.Offsets.{number_of};
 ghost use Rattle.bsi_orders.specs.Orders.{compares_by};
 ghost use Rattle.bsi_orders.specs.Rows.{number_order};
-ghost use Rattle.bsi_shift.specs.Shifted.{shifted_entries, number_of};
 ghost use Rattle.bsi_orders.specs.WholeNumbers.{signed_order, signed_selects};
+ghost use Rattle.bsi_shift.specs.Shifted.{shifted_entries};
 
 use crate::{NoMemory, Shifted};
 use bsi_bits::Bits;

@@ -5,10 +5,11 @@ ghost use Rattle.std.specs.Option.{option_map};
 ghost use Rattle.bsi_digits.specs.Digits.{max_size};
 ghost use Rattle.bsi_digits.specs.Signed.{end_of_i64};
 ghost use Rattle.bsi_bits.specs.BitList.{max_len, sum_end};
+ghost use Rattle.bsi_orders.specs.Offsets.{number_of};
 ghost use Rattle.bsi_orders.specs.Orders.{values_at};
 ghost use Rattle.bsi_orders.specs.Ranks.{IsSignedRankOf};
-ghost use Rattle.bsi_shift.specs.Shifted.{number_of, shifted_entries};
 ghost use Rattle.bsi_orders.specs.WholeNumbers.{signed_sum, IsSignedLeastOf, IsSignedGreatestOf, IsSignedMedianOf};
+ghost use Rattle.bsi_shift.specs.Shifted.{shifted_entries};
 
 use crate::{NoMemory, Shifted};
 use bsi_bits::{Bits, MAX_LEN};

@@ -15,7 +15,7 @@ const MAX_LISTED: usize = 2048;
 /// less than the list.
 const MIN_WORDS_PER_RANK: u64 = 64;
 
-/// The places of the words that have a row, rising.
+/// The places, rising, of words among which are all that have a row.
 #[derive(Drop)]
 pub(crate) struct Listed {
     pub(crate) places: [u32; MAX_LISTED],

@@ -3,9 +3,10 @@ use Rattle.std.specs.Prelude.{nat_lt}
 use Rattle.std.specs.Option.{option_map}
 use Rattle.std.proofs.lemmas.Bool.Decides.{nat_tests}
 use Rattle.std.proofs.lemmas.List.{get_or_default}
+use Rattle.bsi_orders.specs.Offsets.{IsInRange}
 use Rattle.bsi_rows.specs.Rows.{column_of}
 use Rattle.bsi_schema.specs.Columns.{column_at}
-use Rattle.bsi_shift.specs.Shifted.{shifted_entries, shifted_size, IsInRange}
+use Rattle.bsi_shift.specs.Shifted.{shifted_entries, shifted_size}
 use Rattle.bsi_groups.specs.Groups.{entries_at, AreMore}
 use Rattle.bsi_groups.specs.Tallies.{entries_or_nulls, IsTally}
 use Rattle.bsi_groups.specs.declared.grouping.Group.{Group}

@@ -1,7 +1,8 @@
 use Rattle.std.proofs.Common.{◌≡◌, ◌++◌, ◌∷◌, [], All, ◌+◌, ◌*◌, ℕ, ℤ, Option, None, SFits, w64, pos, get_or, ap, sym, subst, ◌∙◌, rules, arith, to_z, of_z, to_z-of_z}
 use Rattle.std.specs.Prelude.{◌==◌}
 use Rattle.std.specs.Option.{option_map}
-use Rattle.bsi_shift.specs.Shifted.{shifted_entries, shifted_size, IsInRange, OffsetColumn}
+use Rattle.bsi_orders.specs.Offsets.{IsInRange}
+use Rattle.bsi_shift.specs.Shifted.{shifted_entries, shifted_size, OffsetColumn}
 use Rattle.bsi_groups.specs.Tallies.{entries_or_nulls, AreTallies, IsPlace, IsTally}
 use Rattle.bsi_groups.proofs.Tallied.{read_long, entry_placed, few_rows, found_bit, in_range, no_row, not_one, one_row, place_within}
 use Rattle.bsi_groups.proofs.TopsPlaces.{set_within}

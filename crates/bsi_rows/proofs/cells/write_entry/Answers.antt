@@ -13,7 +13,7 @@ returns-clause-written c =
     written_number c.args.limits.now c.args.numbers.now c.args.not_null.now c.args.c c.args.r (omega (arith, c.requires.within, c.requires.long, c.requires.place)) c.requires.clear
     c.distance.result (omega (arith, c.requires.within, c.requires.words)) c.requires.place c.args.entry (search rules)
 
-pub returns-clause-rows : goal.returns-clause-rows
-returns-clause-rows c = λ k s near apart.
+pub returns-clause-other_rows : goal.returns-clause-other_rows
+returns-clause-other_rows c = λ k s near apart.
     other_rows c.args.limits.now c.args.numbers.now c.args.not_null.now c.args.c c.args.r (omega (arith, c.requires.within, c.requires.long, c.requires.place)) c.requires.clear
     c.distance.result (omega (arith, c.requires.within, c.requires.words)) c.requires.place k s near apart

@@ -10,5 +10,5 @@ invariant-columns l = record {
   words : length l.not_null ≡ length l.initial.not_null;
   written : (k : ℕ) → k < l.c → IsWritten l.limits l.numbers l.not_null k l.r (entry_at l.entries k);
   later : (k : ℕ) → l.c ≤ k → get_or l.not_null k 0 ≡ get_or l.initial.not_null k 0;
-  rows : (k s : ℕ) → s < max_block_rows → s ≢ l.r → IsSameCell l.initial.numbers l.initial.not_null l.numbers l.not_null k s;
+  other_rows : (k s : ℕ) → s < max_block_rows → s ≢ l.r → IsSameCell l.initial.numbers l.initial.not_null l.numbers l.not_null k s;
 }

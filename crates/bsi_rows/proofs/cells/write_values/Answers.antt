@@ -1,6 +1,7 @@
 use Rattle.std.proofs.Common.{◌≡◌, ◌≢◌, ℕ, ℤ, ◌*◌, ◌+◌, ◌<◌, ◌+ℤ◌, pos, get_or, set, length, length-set, nat_eq, ap, of_z, rules, sym, to_z, to_z-of_z, w64, ◌∙◌, arith, below_more}
 use Rattle.std.proofs.lemmas.List.{get_or-set_other, get_or-set_same}
 use Rattle.std.proofs.lemmas.Nat.Bits.{shr_and_one}
+use Rattle.bsi_orders.specs.Offsets.{number_of}
 use Rattle.bsi_rows.specs.RowBlocks.{least_at, IsValueAt}
 use Rattle.bsi_rows.proofs.cells.write_values.Goals as goal
 
@@ -19,18 +20,18 @@ rows-preserved c =
     record {
       long = length-set old at c.stored.result ∙ c.rows.invariant.long;
       written = λ k below.
-          below_more (λ k. IsValueAt a.limits.now a.values.now a.present new a.c k) c.rows.r
+          below_more (λ k. IsValueAt a.limits.now a.values.now a.not_null new a.c k) c.rows.r
           (λ k h.
           let same = other (64 * a.c + k) (λ e. absurd (omega (arith, e, h))) in
           record {
-            there = λ bit. ap (λ n. least +ℤ pos n) same ∙ (c.rows.invariant.written k h).there bit;
+            number = λ bit. ap (number_of least) same ∙ (c.rows.invariant.written k h).number bit;
             null = λ bit. same ∙ (c.rows.invariant.written k h).null bit;
           })
           (record {
-            there = λ bit.
-                ap (λ n. least +ℤ pos n) last ∙ ap (λ (l : ℤ). l +ℤ pos c.stored.result) (sym least_is)
-                ∙ c.stored.ensures.there (ap (λ b. nat_eq b 1) (shr_and_one a.present c.rows.r ∙ bit)) ∙ search rules;
-            null = λ bit. last ∙ c.stored.ensures.null (ap (λ b. nat_eq b 1) (shr_and_one a.present c.rows.r ∙ bit));
+            number = λ bit.
+                ap (number_of least) last ∙ ap (λ (l : ℤ). l +ℤ pos c.stored.result) (sym least_is)
+                ∙ c.stored.ensures.number (ap (λ b. nat_eq b 1) (shr_and_one a.not_null c.rows.r ∙ bit)) ∙ search rules;
+            null = λ bit. last ∙ c.stored.ensures.null (ap (λ b. nat_eq b 1) (shr_and_one a.not_null c.rows.r ∙ bit));
           }) k below;
       others = λ k s apart low. other (64 * k + s) (λ e. apart (omega (arith, e, low, near))) ∙ c.rows.invariant.others k s apart low;
     }

@@ -1,6 +1,7 @@
 use Rattle.std.proofs.Common.{◌≡◌, ℕ, ◌<◌, List, All, Option, ℤ, get_or, length, sym, subst, arith, ◌∙◌}
 use Rattle.std.proofs.lemmas.List.Elements.{All-map, All-weaker}
-use Rattle.bsi_shift.specs.Shifted.{shifted_size, IsInRange, OffsetColumn}
+use Rattle.bsi_orders.specs.Offsets.{IsInRange}
+use Rattle.bsi_shift.specs.Shifted.{shifted_size, OffsetColumn}
 use Rattle.bsi_rows.specs.Rows.{column_of, entry_at, FedRow}
 use Rattle.bsi_table.specs.Kept.{kept_at, TakesRow}
 use Rattle.bsi_table.proofs.TableRows.{kept_read}

@@ -1,8 +1,10 @@
 use Rattle.std.proofs.Common.{◌≡◌, ◌<◌, ℕ, List, [], ◌∷◌, ◌++◌, drop, length, true, ap, sym, subst, arith, ◌∙◌}
+use Rattle.bsi_orders.specs.Offsets.{IsInRange}
 use Rattle.bsi_schema.specs.Columns.{entry_at, fits, Entries}
 use Rattle.bsi_schema.specs.declared.limits.Limits.{Limits}
 use Rattle.bsi_schema.proofs.Fitting.{fits-length, limits_long}
-use Rattle.bsi_rows.specs.RowBlocks.{least_at, placed_entry, placed_rows, with_block_row, IsBlock, IsFrom, IsSameCell, IsWritten}
+use Rattle.bsi_rows.specs.RowBlocks.{least_at, placed_entry, placed_rows, with_block_row, IsBlock, IsSameCell, IsWritten}
+use Rattle.bsi_rows.specs.Table.{end_of_u64}
 use Rattle.bsi_rows.proofs.BlockCells.{block_more, fitting_from, of_same, rows_more, same_before, written_back}
 use Rattle.bsi_rows.proofs.BlockRows.{length-placed_rows}
 use Rattle.bsi_rows.proofs.block.Block.push.Goals as goal
@@ -27,8 +29,8 @@ write_row-requires-clause-range c =
     let columns = i.schema.value.columns in
     let s = c.self.invariant.0 in
     let fit : fits columns c.args.row.now ≡ true = sym (c.take_each.ensures columns (c.deref.ensures.value ∙ s.limits_are)) ∙ c.if-not-take_each.false in
-    subst (λ (limits : List Limits). (k : ℕ) → k < length limits → IsFrom (least_at limits k) (entry_at c.values.result.now k)) (sym c.deref-2.ensures.value)
-    (subst (λ (row : Entries). (k : ℕ) → k < length i.limits.items → IsFrom (least_at i.limits.items k) (entry_at row k)) (sym c.values.ensures)
+    subst (λ (limits : List Limits). (k : ℕ) → k < length limits → IsInRange (least_at limits k) end_of_u64 (entry_at c.values.result.now k)) (sym c.deref-2.ensures.value)
+    (subst (λ (row : Entries). (k : ℕ) → k < length i.limits.items → IsInRange (least_at i.limits.items k) end_of_u64 (entry_at row k)) (sym c.values.ensures)
     (fitting_from columns i.limits.items s.limits_are s.columns_are c.args.row.now fit))
 
 pub push_reserved-requires : goal.push_reserved-requires
@@ -55,7 +57,7 @@ invariant_of-self c =
       of_same (IsBlock columns i.limits.items i.feeders) c.push_reserved.ensures.items numbers words
           (block_more columns i.limits.items i.feeders i.row_feeders.items i.numbers.items i.not_null.items c.write_row.new.numbers c.write_row.new.not_null s
           c.args.feeder c.len-at.result c.args.row.now (omega (arith, c.len-at.ensures)) room fed fit (w.long ∙ ap length c.deref_mut.ensures.value) (w.words ∙ ap length c.deref_mut-2.ensures.value)
-          (λ k r near apart. cells_before k r (w.rows k r near apart))
+          (λ k r near apart. cells_before k r (w.other_rows k r near apart))
           (λ k within. subst (λ (limits : List Limits). IsWritten limits c.write_row.new.numbers c.write_row.new.not_null k c.len-at.result (entry_at c.args.row.now k)) c.deref-2.ensures.value
           (subst (λ (row : Entries). IsWritten c.deref-2.result.now c.write_row.new.numbers c.write_row.new.not_null k c.len-at.result (entry_at row k)) c.values.ensures
           (w.written k (omega (arith, within, ap length c.deref-2.ensures.value, limits_long columns i.limits.items s.limits_are)))))),
@@ -81,7 +83,7 @@ returns-clause-added c = λ yes.
     (of_same (λ xs ns ws. placed_rows (length columns) xs (placed_entry i.limits.items ns ws) ≡ placed_rows (length columns) i.row_feeders.items (placed_entry i.limits.items i.numbers.items i.not_null.items) ++ (c.args.feeder, c.args.row.now) ∷ []) c.push_reserved.ensures.items numbers words
     (rows_more columns i.limits.items i.feeders i.row_feeders.items i.numbers.items i.not_null.items c.write_row.new.numbers c.write_row.new.not_null s
     c.args.feeder c.len-at.result c.args.row.now (omega (arith, c.len-at.ensures)) room fed fit (w.long ∙ ap length c.deref_mut.ensures.value) (w.words ∙ ap length c.deref_mut-2.ensures.value)
-    (λ k r near apart. cells_before k r (w.rows k r near apart))
+    (λ k r near apart. cells_before k r (w.other_rows k r near apart))
     (λ k within. subst (λ (limits : List Limits). IsWritten limits c.write_row.new.numbers c.write_row.new.not_null k c.len-at.result (entry_at c.args.row.now k)) c.deref-2.ensures.value
     (subst (λ (row : Entries). IsWritten c.deref-2.result.now c.write_row.new.numbers c.write_row.new.not_null k c.len-at.result (entry_at row k)) c.values.ensures
     (w.written k (omega (arith, within, ap length c.deref-2.ensures.value, limits_long columns i.limits.items s.limits_are)))))))

@@ -1,8 +1,10 @@
 use Rattle.std.proofs.Common.{◌≡◌, ◌<◌, ℕ, List, [], ◌∷◌, ◌++◌, drop, length, ap, sym, subst, arith, ◌∙◌}
+use Rattle.bsi_orders.specs.Offsets.{IsInRange}
 use Rattle.bsi_schema.specs.Columns.{entry_at, fits}
 use Rattle.bsi_schema.specs.declared.limits.Limits.{Limits}
 use Rattle.bsi_schema.proofs.Fitting.{fits-length, limits_long}
-use Rattle.bsi_rows.specs.RowBlocks.{least_at, placed_entry, placed_rows, with_block_row, IsBlock, IsFrom, IsSameCell, IsWritten}
+use Rattle.bsi_rows.specs.RowBlocks.{least_at, placed_entry, placed_rows, with_block_row, IsBlock, IsSameCell, IsWritten}
+use Rattle.bsi_rows.specs.Table.{end_of_u64}
 use Rattle.bsi_rows.proofs.BlockCells.{block_more, fitting_from, of_same, rows_more, same_before, written_back}
 use Rattle.bsi_rows.proofs.BlockRows.{length-placed_rows}
 use Rattle.bsi_rows.proofs.block.Block.push_fitting.Goals as goal
@@ -23,7 +25,7 @@ pub write_entries-requires-clause-range : goal.write_entries-requires-clause-ran
 write_entries-requires-clause-range c =
     let i = c.self.inside in
     let s = c.self.invariant.0 in
-    subst (λ (limits : List Limits). (k : ℕ) → k < length limits → IsFrom (least_at limits k) (entry_at c.args.entries.now k)) (sym c.deref.ensures.value)
+    subst (λ (limits : List Limits). (k : ℕ) → k < length limits → IsInRange (least_at limits k) end_of_u64 (entry_at c.args.entries.now k)) (sym c.deref.ensures.value)
     (fitting_from i.schema.value.columns i.limits.items s.limits_are s.columns_are c.args.entries.now (ap (λ b. fits b.schema.columns c.args.entries.now) c.self.view_is ∙ c.requires.fits))
 
 pub push_reserved-requires : goal.push_reserved-requires
@@ -50,7 +52,7 @@ invariant_of-self c =
       of_same (IsBlock columns i.limits.items i.feeders) c.push_reserved.ensures.items numbers words
           (block_more columns i.limits.items i.feeders i.row_feeders.items i.numbers.items i.not_null.items c.write_entries.new.numbers c.write_entries.new.not_null s
           c.args.feeder c.len-at.result c.args.entries.now (omega (arith, c.len-at.ensures)) room fed fit (w.long ∙ ap length c.deref_mut.ensures.value) (w.words ∙ ap length c.deref_mut-2.ensures.value)
-          (λ k r near apart. cells_before k r (w.rows k r near apart))
+          (λ k r near apart. cells_before k r (w.other_rows k r near apart))
           (λ k within. subst (λ (limits : List Limits). IsWritten limits c.write_entries.new.numbers c.write_entries.new.not_null k c.len-at.result (entry_at c.args.entries.now k)) c.deref.ensures.value
           (w.written k (omega (arith, within, ap length c.deref.ensures.value, limits_long columns i.limits.items s.limits_are))))),
       omega (arith, c.self.invariant.1, c.push_reserved.ensures.capacity),
@@ -75,7 +77,7 @@ returns c =
     (of_same (λ xs ns ws. placed_rows (length columns) xs (placed_entry i.limits.items ns ws) ≡ placed_rows (length columns) i.row_feeders.items (placed_entry i.limits.items i.numbers.items i.not_null.items) ++ (c.args.feeder, c.args.entries.now) ∷ []) c.push_reserved.ensures.items numbers words
     (rows_more columns i.limits.items i.feeders i.row_feeders.items i.numbers.items i.not_null.items c.write_entries.new.numbers c.write_entries.new.not_null s
     c.args.feeder c.len-at.result c.args.entries.now (omega (arith, c.len-at.ensures)) room fed fit (w.long ∙ ap length c.deref_mut.ensures.value) (w.words ∙ ap length c.deref_mut-2.ensures.value)
-    (λ k r near apart. cells_before k r (w.rows k r near apart))
+    (λ k r near apart. cells_before k r (w.other_rows k r near apart))
     (λ k within. subst (λ (limits : List Limits). IsWritten limits c.write_entries.new.numbers c.write_entries.new.not_null k c.len-at.result (entry_at c.args.entries.now k)) c.deref.ensures.value
     (w.written k (omega (arith, within, ap length c.deref.ensures.value, limits_long columns i.limits.items s.limits_are))))))
     ∙ ap (λ b. with_block_row b c.args.feeder c.args.entries.now) c.self.view_is

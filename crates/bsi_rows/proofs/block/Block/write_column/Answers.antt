@@ -2,9 +2,13 @@ use Rattle.std.proofs.Common.{◌≡◌, ◌+◌, ◌*◌, ◌<◌, ◌++◌, Li
 use Rattle.std.proofs.lemmas.List.Elements.{All-get_or}
 use Rattle.bsi_schema.specs.Columns.{column_at, fits, is_taken_by}
 use Rattle.bsi_schema.specs.declared.limits.Limits.{Limits}
-use Rattle.bsi_rows.specs.RowBlocks.{least_at, placed_entry, placed_rows, value_entries, value_entry, IsBlock, IsFrom, IsValueAt, RowBlock}
+use Rattle.bsi_orders.specs.Blocks.{value_entries, value_entry}
+use Rattle.bsi_orders.specs.Offsets.{IsInRange}
+use Rattle.bsi_orders.proofs.BlockEntries.{get_or-value_entries, length-value_entries}
+use Rattle.bsi_rows.specs.RowBlocks.{least_at, placed_entry, placed_rows, IsBlock, IsValueAt, RowBlock}
 use Rattle.bsi_rows.specs.Rows.{column_of, feeders_of}
-use Rattle.bsi_rows.proofs.BlockCells.{block_written, column_kept, column_written, get_or-value_entries, length-value_entries, taken_from, written_back}
+use Rattle.bsi_rows.specs.Table.{end_of_u64}
+use Rattle.bsi_rows.proofs.BlockCells.{block_written, column_kept, column_written, taken_from, written_back}
 use Rattle.bsi_rows.proofs.BlockRows.{feeders-placed_rows, length-placed_rows, All-placed_rows}
 use Rattle.bsi_rows.proofs.block.Block.write_column.Goals as goal
 
@@ -23,7 +27,7 @@ write_values-requires-clause-from c = λ r below.
     let taken : All (λ entry. is_taken_by (column_at columns c.args.c) entry ≡ true) (value_entries c.args.values.now c.args.not_null) =
     subst (λ (b : RowBlock). All (λ entry. is_taken_by (column_at b.schema.columns c.args.c) entry ≡ true) (value_entries c.args.values.now c.args.not_null)) (sym c.self.view_is) c.requires.taken in
     let entry = value_entry c.args.values.now c.args.not_null r in
-    subst (λ (limits : List Limits). IsFrom (least_at limits c.args.c) entry) (sym c.deref.ensures.value)
+    subst (λ (limits : List Limits). IsInRange (least_at limits c.args.c) end_of_u64 entry) (sym c.deref.ensures.value)
     (taken_from columns i.limits.items s.limits_are s.columns_are c.args.c entry within
     (ap (is_taken_by (column_at columns c.args.c)) (sym (get_or-value_entries c.args.values.now c.args.not_null r below))
     ∙ All-get_or (λ entry. is_taken_by (column_at columns c.args.c) entry ≡ true) (value_entries c.args.values.now c.args.not_null) r None (omega (arith, below, length-value_entries c.args.values.now c.args.not_null)) taken))

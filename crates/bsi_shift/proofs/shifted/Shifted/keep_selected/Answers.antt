@@ -4,10 +4,11 @@ use mir.Syntax.{w64, w128}
 use Rattle.std.proofs.lemmas.Int.{to_z-of_z}
 use Rattle.bsi_bits.specs.Packed.{bit_of}
 use Rattle.bsi_columns.specs.AnyRows.{any_entries}
+use Rattle.bsi_orders.specs.Offsets.{number_of}
 use Rattle.bsi_orders.specs.Orders.{compares_by}
 use Rattle.bsi_orders.specs.Rows.{number_order, number_or_zero}
-use Rattle.bsi_shift.specs.Shifted.{number_of, shifted_entries}
 use Rattle.bsi_orders.specs.WholeNumbers.{signed_order, signed_selects}
+use Rattle.bsi_shift.specs.Shifted.{shifted_entries}
 use Rattle.bsi_columns.proofs.EntryReads.{all_read}
 use Rattle.bsi_shift.proofs.Shifting.{entry_from, length-shifted_entries, selected_one}
 use Rattle.bsi_shift.proofs.shifted.Shifted.keep_selected.Goals as goal

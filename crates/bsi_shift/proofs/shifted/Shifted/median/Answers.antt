@@ -4,8 +4,8 @@ use Rattle.std.specs.Prelude.{◌<◌, ◌<ℤ◌, ◌^◌, pos, IfSome}
 use Rattle.std.proofs.lemmas.Int.{to_z-of_z}
 use mir.Syntax.{w64}
 use Rattle.bsi_columns.specs.AnyRows.{any_entries}
+use Rattle.bsi_orders.specs.Offsets.{number_of}
 use Rattle.bsi_orders.specs.Orders.{values_at}
-use Rattle.bsi_shift.specs.Shifted.{number_of}
 use Rattle.bsi_orders.specs.WholeNumbers.{IsSignedMedianOf}
 use Rattle.bsi_shift.proofs.Shifting.{length-shifted_entries, fits}
 use Rattle.bsi_shift.proofs.Totals.{answer_from, median_from, median_below}

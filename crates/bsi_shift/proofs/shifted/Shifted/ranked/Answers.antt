@@ -4,9 +4,9 @@ use Rattle.std.specs.Prelude.{◌<◌, ◌<ℤ◌, ◌^◌, pos}
 use Rattle.std.proofs.lemmas.Int.{to_z-of_z}
 use mir.Syntax.{w64}
 use Rattle.bsi_columns.specs.AnyRows.{any_entries}
+use Rattle.bsi_orders.specs.Offsets.{number_of}
 use Rattle.bsi_orders.specs.Orders.{values_at}
 use Rattle.bsi_orders.specs.Ranks.{IsSignedRankOf}
-use Rattle.bsi_shift.specs.Shifted.{number_of}
 use Rattle.bsi_shift.proofs.Shifting.{length-shifted_entries, fits}
 use Rattle.bsi_shift.proofs.Totals.{answer_from, past_from, ranked_from, ranked_below}
 use Rattle.bsi_shift.proofs.shifted.Shifted.ranked.Goals as goal
