@@ -12,7 +12,7 @@ use crate::fitting::first_misfit;
 use crate::refusal::Refusal;
 use bsi_table::{Block, Index, MAX_BLOCK_ROWS, NoMemory};
 
-/// Fills the block with so many rows of a feeder, from row `from` on, column by column. Each fits.
+/// Fills the block with 1 to 64 rows of a feeder, from row `from` on, a multiple of 64, column by column. Each fits.
 fn fill_block(feeder: u32, columns: &[GivenColumn], from: usize, count: usize, block: &mut Block)
     requires fed { feeder < block.old.feeders }
     requires even { are_columns (length block.old.schema.columns) columns.now ≡ true }
@@ -32,7 +32,7 @@ fn fill_block(feeder: u32, columns: &[GivenColumn], from: usize, count: usize, b
     }
 }
 
-/// Appends so many rows from row `from` on, or none. Each fits, and all are within the limit.
+/// Appends 1 to 64 rows from row `from` on, a multiple of 64, or none. Each fits, and all are within the limit.
 fn append_block(
     index: &mut Index,
     feeder: u32,

@@ -14,7 +14,7 @@ use bsi_schema::Limits;
 #[repr(C)]
 #[derive(Drop)]
 pub struct GivenColumn<'a> {
-    /// The numbers, each at least the offset of the column that they are for.
+    /// The numbers. That of an entry that is not there may be any.
     pub values: &'a [i64],
     /// The bitmap.
     pub valid: &'a [u8],
@@ -87,7 +87,8 @@ pub(crate) fn is_taken(column: &GivenColumn, r: usize, limits: Limits) -> bool
     limits.takes(Some(i128::from(number)))
 }
 
-/// Returns the word that tells which of so many entries, from entry `from` on, are there. It reads whole bytes.
+/// Returns the word that tells which of so many entries, from entry `from` on, are there. It reads whole bytes: `from` is
+/// a multiple of 64, and there are 1 to 64 entries.
 pub(crate) fn not_null_word(column: &GivenColumn, from: usize, count: usize) -> u64
     requires whole { has_rows (length column.now.values.now) column.now ≡ true }
     requires within { from + count ≤ length column.now.values.now }

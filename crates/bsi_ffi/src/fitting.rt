@@ -51,6 +51,7 @@ pub(crate) fn first_misfit(schema: &Schema, columns: &[GivenColumn], rows: usize
     ensures taken { AreTaken schema.now.columns columns.now result.row }
     ensures misfit { result.row < rows →
         fits schema.now.columns (row_of columns.now result.row) ≡ false }
+    ensures none { result.row ≡ rows → result.column ≡ 0 }
     ensures column { result.row < rows → IsFirstRefusing schema.now.columns
         (row_of columns.now result.row) result.column }
 {

@@ -1,40 +1,25 @@
 //! Blocks that tests fill column by column, and rows of blocks that they test against another schema.
 
-ghost use Rattle.std.specs.Prelude.{◌≡◌, ◌^◌, ◌<◌, ◌≤◌, Some, length, slice_get, true, false, IfOk};
+ghost use Rattle.std.specs.Prelude.{◌≡◌, ◌<◌, Some, length, slice_get, true, false, IfOk};
 ghost use Rattle.bsi_orders.specs.Blocks.{value_entries};
-ghost use Rattle.bsi_rows.specs.RowBlocks.{entries_of, max_block_rows, HasColumn};
+ghost use Rattle.bsi_rows.specs.RowBlocks.{entries_of, HasColumn};
 ghost use Rattle.bsi_rows.specs.Table.{AreFitting};
 
 use crate::NoMemory;
-use bsi_table::{Block, MAX_BLOCK_ROWS, Row, Schema};
+use bsi_table::{Block, Row, Schema};
 
-/// Returns whether a word has no bit past so many rows.
-fn is_clear_past(not_null: u64, rows: usize) -> bool
-    requires { rows ≤ max_block_rows }
-    ensures { result ≡ true → not_null < 2 ^ rows }
-{
-    rows == MAX_BLOCK_ROWS || not_null >> rows == 0
-}
-
-/// Writes the values of column `c` in all rows of a block, if the schema has the column and it takes each. Returns whether
-/// it does.
-pub fn write_values(
-    block: &mut Block,
-    schema: &Schema,
-    c: usize,
-    values: &[i64],
-    not_null: u64,
-) -> bool
-    requires { block.old.schema ≡ schema.now }
+/// Writes the values of column `c` in all rows of a block, if it has the column and that takes each. Returns whether it
+/// does.
+pub fn write_values(block: &mut Block, c: usize, values: &[i64], not_null: u64) -> bool
     ensures schema { block.new.schema ≡ block.old.schema }
     ensures written { result ≡ true →
         HasColumn block.old block.new c (value_entries values.now not_null) }
     ensures kept { result ≡ false → block.new ≡ block.old }
 {
-    if c >= schema.columns() as usize || values.len() != block.len() {
+    if c >= block.columns() || values.len() != block.len() {
         return false;
     }
-    if !is_clear_past(not_null, values.len()) || !block.takes_column(c, values, not_null) {
+    if !block.takes_column(c, values, not_null) {
         return false;
     }
     block.write_column(c, values, not_null);

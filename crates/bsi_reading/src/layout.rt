@@ -3,7 +3,7 @@
 //! The header is tested as it is defined, once a file: each column has one field, and each field is a column. The loops
 //! go over places: the clauses of a record's iterator tell of one step, and would take a longer proof than the loop.
 
-ghost use Rattle.std.specs.Prelude.{◌≡◌, ◌<◌, ◌≤◌, [], if◌then◌else◌, length, map, count_by, vec_capacity, Some, None, true, false, IfOk, IsTrue, OnOk};
+ghost use Rattle.std.specs.Prelude.{◌≡◌, ◌<◌, ◌≤◌, [], if◌then◌else◌, length, map, count_by, vec_capacity, Some, None, true, false, IfOk, IsOk, IsTrue, OnOk};
 ghost use Rattle.std.specs.List.{list_all};
 ghost use Rattle.std.specs.Str.{bytes_eq};
 ghost use Rattle.csv.specs.Records.{fields_of};
@@ -96,16 +96,18 @@ impl Layout {
         Block::new(alloc, &self.schema, feeders)
     }
 
-    /// Makes room in a list for the entries of a row.
+    /// Empties a list and makes room in it for the entries of a row. It takes no memory if there is room.
     pub(crate) fn make_room(&self, entries: &mut Vec<Option<i64>>) -> Result<(), NoMemory>
-        ensures { OnOk result (length self.now.schema.columns ≤ vec_capacity entries.new) }
+        ensures wide { OnOk result (length self.now.schema.columns ≤ vec_capacity entries.new) }
+        ensures succeeds { length self.now.schema.columns ≤ vec_capacity entries.old → IsOk result }
     {
         entries.clear();
         entries.reserve(self.places.len())
     }
 
     /// Reads a record into its entries, makes a row of these if the record is good, and returns whether it is. It
-    /// allocates no memory if the list and the row have room.
+    /// allocates no memory if the list and the row have room. The list is scratch: it may have any entries then. If there
+    /// is no row, or memory is refused, so may the row, and less room.
     pub fn read(
         &self,
         alloc: Global,

@@ -167,7 +167,7 @@ impl<R: Read + Drop> RowSource<R> {
 
     /// Makes `row` the row of the next good record, and returns whether there was one. It works as `next_row` does, but
     /// once a record was read, it allocates no memory for a row that has had as many entries before. If it returns no
-    /// row, `row` may have any entries.
+    /// row, `row` may have any entries, and less room.
     pub fn next_into(&mut self, row: &mut Row) -> Result<bool, SourceFault>
         ensures failed { (fault : SourceFault) → self.old.end ≡ Some (Err fault) →
             (result ≡ Err fault) × (self.new ≡ self.old) }

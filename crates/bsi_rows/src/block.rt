@@ -13,7 +13,9 @@ ghost use Rattle.bsi_rows.specs.RowBlocks.{emptied_block, entries_of, max_block_
 ghost use Rattle.bsi_rows.specs.Rows.{column_of, feeders_of};
 ghost use Rattle.bsi_rows.specs.Table.{AreFitting, AreFrom};
 
-use crate::cells::{read_row, takes_values, write_entries, write_nulls, write_row, write_values};
+use crate::cells::{
+    has_no_bit_past, read_row, takes_values, write_entries, write_nulls, write_row, write_values,
+};
 use crate::{NoMemory, Row, Schema};
 use bsi_schema::{Limits, have_same_limits, take_each};
 use std::alloc::Global;
@@ -47,7 +49,7 @@ pub struct BlockColumn<'a> {
     pub offset: i64,
     /// The numbers less the offset, in order of the rows.
     pub numbers: &'a [u64],
-    /// Which entries are numbers.
+    /// Which entries are numbers. No bit past the last entry is set.
     pub not_null: u64,
 }
 
@@ -115,6 +117,13 @@ impl Block {
         ensures { IsTrue result ↔ (self.now.rows ≡ []) }
     {
         self.len() == 0
+    }
+
+    /// Returns the number of columns.
+    pub fn columns(&self) -> usize
+        ensures { result ≡ length self.now.schema.columns }
+    {
+        self.limits.len()
     }
 
     /// Returns how many feeders there are, of which each row is from one.
@@ -185,20 +194,20 @@ impl Block {
         push_feeder(&mut self.row_feeders, feeder, rows);
     }
 
-    /// Returns whether column `c` takes each of these entries: value `r` where bit `r` of `not_null` is set, and a null
-    /// elsewhere.
+    /// Returns whether at most 64 entries may be written in column `c`: it takes each, and `not_null` has no bit past the
+    /// last.
     pub fn takes_column(&self, c: usize, values: &[i64], not_null: u64) -> bool
         requires within { c < length self.now.schema.columns }
         requires few { length values.now ≤ max_block_rows }
-        ensures { IsTrue result
-            ↔ All (λ entry. is_taken_by (column_at self.now.schema.columns c) entry ≡ true)
+        ensures { IsTrue result ↔ (not_null < 2 ^ length values.now)
+            × All (λ entry. is_taken_by (column_at self.now.schema.columns c) entry ≡ true)
             (value_entries values.now not_null) }
     {
-        takes_values(self.limits[c], values, not_null)
+        has_no_bit_past(not_null, values.len()) && takes_values(self.limits[c], values, not_null)
     }
 
     /// Writes the entries of column `c` in all rows at once: value `r` where bit `r` of `not_null` is set, and a null
-    /// elsewhere. The column takes each.
+    /// elsewhere. The column takes each, and no bit past the last entry is set.
     pub fn write_column(&mut self, c: usize, values: &[i64], not_null: u64)
         requires within { c < length self.old.schema.columns }
         requires long { length values.now ≡ length self.old.rows }

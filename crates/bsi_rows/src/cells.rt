@@ -160,6 +160,14 @@ fn value_at(values: &[i64], not_null: u64, r: usize) -> Option<i128>
     Some(i128::from(values[r]))
 }
 
+/// Returns whether a word has no bit past so many rows.
+pub(crate) fn has_no_bit_past(word: u64, rows: usize) -> bool
+    requires { rows ≤ max_block_rows }
+    ensures { IsTrue result ↔ (word < 2 ^ rows) }
+{
+    rows == MAX_BLOCK_ROWS || word >> rows == 0
+}
+
 /// Returns whether each entry of a column of values is a null or one of these numbers.
 pub(crate) fn takes_values(limits: Limits, values: &[i64], not_null: u64) -> bool
     requires { length values.now ≤ max_block_rows }
@@ -198,7 +206,7 @@ pub(crate) fn write_values(
     requires within { c < length limits.now }
     requires long { length numbers.old ≡ max_block_rows * length limits.now }
     requires few { length values.now ≤ max_block_rows }
-    requires from { (r : ℕ) → r < length values.now →
+    requires range { (r : ℕ) → r < length values.now →
         IsInRange (least_at limits.now c) end_of_u64 (value_entry values.now not_null r) }
     ensures long { length numbers.new ≡ length numbers.old }
     ensures written { (r : ℕ) → r < length values.now →
@@ -214,7 +222,7 @@ pub(crate) fn write_values(
     }
 }
 
-/// Writes a 0 in places `from` to `end` of each of so many columns.
+/// Writes a 0 in places `from` to `end` of each of so many columns. It keeps those before.
 pub(crate) fn write_nulls(columns: usize, from: usize, end: usize, numbers: &mut [u64])
     requires long { length numbers.old ≡ max_block_rows * columns }
     requires within { (from ≤ end) × (end ≤ max_block_rows) }

@@ -158,8 +158,8 @@ impl Shifted {
     }
 
     /// Appends a block of at most 64 entries into room that is already there. Bit `r` of the word `not_null` tells
-    /// whether entry `r` is a number, as `push_reserved` takes it: `offset` and number `r`, which is 0 for a null. Where
-    /// `offset` is the column's own, the numbers go in as they are.
+    /// whether entry `r` is a number, as `push_reserved` takes it: `offset` and number `r`, which is 0 for a null. No bit
+    /// past the last entry is set. Where `offset` is the column's own, the numbers go in as they are.
     pub fn push_block_reserved(&mut self, offset: i64, numbers: &[u64], not_null: u64)
         requires few { length numbers.now ≤ max_block }
         requires block { IsNumberBlock numbers.now not_null }

@@ -82,8 +82,8 @@ pub trait Column: Drop {
         ensures room { room_of self.old ≤ room_of self.new + 1 };
 
     /// Appends a block of at most 64 entries into room that is already there. Entry `r` is number `r`, which is below
-    /// the size, or a null if bit `r` of the word `not_null` is clear; the number of a null is 0. The provided body
-    /// appends them one by one.
+    /// the size, or a null if bit `r` of the word `not_null` is clear; the number of a null is 0, and no bit past the last
+    /// entry is set. The provided body appends them one by one.
     fn push_block_reserved(&mut self, numbers: &[u64], not_null: u64)
         requires few { length numbers.now ≤ max_block }
         requires block { IsNumberBlock numbers.now not_null }

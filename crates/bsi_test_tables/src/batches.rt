@@ -1,20 +1,13 @@
 //! Blocks of rows that an index appends, row by row or column by column, and indexes that take all rows of another one.
 //! Where memory is refused, the same call is made again.
 
-ghost use Rattle.std.specs.Prelude.{◌≡◌, IfOk};
-ghost use Rattle.bsi_rows.specs.RowBlocks.{no_block_rows};
-
 use crate::tables::{answer, index_of, lists};
 use bsi_columns::{NoMemory, Op};
 use bsi_fixtures::{DeclaredColumn, FORMS, QTY, TestForm, has_fitting_rows, row_of, write_values};
-use bsi_table::{
-    Answer, AppendError, Block, Index, IndexError, MAX_BLOCK_ROWS, Pred, Row, Schema, Total,
-};
+use bsi_table::{Answer, AppendError, Block, Index, IndexError, MAX_BLOCK_ROWS, Pred, Row, Total};
 use std::alloc::Global;
 
-fn block_of(index: &Index) -> Result<Block, NoMemory>
-    ensures { IfOk result (λ block. block ≡ no_block_rows index.now.schema index.now.feeders) }
-{
+fn block_of(index: &Index) -> Result<Block, NoMemory> {
     match index.new_block() {
         Err(_) => index.new_block(),
         made => made,
@@ -130,22 +123,19 @@ fn batches_behind_each_other(rt: HostRuntime) {
 
 // Fills a block with three rows column by column, of which the second has a null in the first column. Returns whether
 // the columns take them.
-fn fill_columns(block: &mut Block, schema: &Schema) -> bool
-    requires { block.old.schema ≡ schema.now }
-{
+fn fill_columns(block: &mut Block) -> bool {
     if block.feeders() == 0 {
         return false;
     }
     block.clear();
     block.push_nulls(0, 3);
-    write_values(block, schema, 0, &[1, 5, 3], 0b101)
-        && write_values(block, schema, 1, &[2, 4, 0], 0b111)
+    write_values(block, 0, &[1, 5, 3], 0b101) && write_values(block, 1, &[2, 4, 0], 0b111)
 }
 
 // A block of these rows, for an index.
 fn columns_of(index: &Index) -> Result<Option<Block>, NoMemory> {
     let mut block = block_of(index)?;
-    if !fill_columns(&mut block, index.schema()) {
+    if !fill_columns(&mut block) {
         return Ok(None);
     }
     Ok(Some(block))

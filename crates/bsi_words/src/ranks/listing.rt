@@ -22,7 +22,7 @@ pub(crate) struct Listed {
     pub(crate) count: usize,
 }
 
-/// Lists the words that have a row. Returns none where there are more than `MAX_LISTED`, where there are fewer words than
+/// Lists words among which are all that have a row. Returns none where there are more than `MAX_LISTED`, where there are fewer words than
 /// that, or where a rank tells that there are many rows for so many words.
 pub(crate) fn list_words(words: &[u64], rank: u64) -> Option<Listed>
     requires { length words.now ≤ max_words }

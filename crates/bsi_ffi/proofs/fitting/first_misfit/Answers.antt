@@ -25,6 +25,7 @@ record IsSoFar (declared : List NamedColumn) (columns : List GivenColumn) (rows 
   within : misfit.row ≤ rows
   taken : (k : ℕ) → k < n → (r : ℕ) → r < misfit.row → is_taken_by (column_at declared k) (entry_at (row_of columns r) k) ≡ true
   before : misfit.row < rows → misfit.column < n
+  none : misfit.row ≡ rows → misfit.column ≡ 0
   refused : misfit.row < rows → IsFirstRefusing declared (row_of columns misfit.row) misfit.column
 
 module _ (declared : List NamedColumn) (columns : List GivenColumn) (rows n : ℕ) (misfit : Misfit) (so : IsSoFar declared columns rows n misfit)
@@ -42,12 +43,14 @@ module _ (declared : List NamedColumn) (columns : List GivenColumn) (rows n : �
       within = so.within;
       taken = λ k below r at. each k below r (omega (arith, at, same));
       before = λ is_row. omega (arith, so.before is_row);
+      none = so.none;
       refused = so.refused;
     })
     | inr earlier ↦ subst (IsSoFar declared columns rows (n + 1)) (sym (replaced earlier)) (record {
       within = omega (arith, within, so.within);
       taken = each;
       before = λ is_row. omega arith;
+      none = λ all. absurd (omega (arith, all, earlier, so.within));
       refused = λ is_row. record { before = λ k below. so.taken k below row earlier; refuses = refused earlier };
     })
   ]
@@ -66,13 +69,14 @@ columns-preserved c =
       within = c.columns.invariant.within;
       taken = c.columns.invariant.taken;
       before = c.columns.invariant.before;
+      none = c.columns.invariant.none;
       refused = c.columns.invariant.refused;
     } in
     let more = one_more declared columns c.args.rows n c.columns.misfit so next.result next.ensures.within
     (λ r at. taken_at declared columns limits are n r _ _ true here within (next.ensures.taken r at))
     (λ earlier. taken_at declared columns limits are n next.result _ _ false here within (next.ensures.refused earlier))
     c.earlier-misfit.result c.earlier-misfit.ensures.kept c.earlier-misfit.ensures.replaced in
-    record { within = more.within; taken = more.taken; before = more.before; refused = more.refused }
+    record { within = more.within; taken = more.taken; before = more.before; none = more.none; refused = more.refused }
 
 pub returns-clause-taken : goal.returns-clause-taken
 returns-clause-taken c = λ r before.

@@ -10,5 +10,6 @@ invariant-columns l = record {
   within : l.misfit.row ≤ l.rows;
   taken : (k : ℕ) → k < l.c → (r : ℕ) → r < l.misfit.row → is_taken_by (column_at l.schema.columns k) (entry_at (row_of l.columns r) k) ≡ true;
   before : l.misfit.row < l.rows → l.misfit.column < l.c;
+  none : l.misfit.row ≡ l.rows → l.misfit.column ≡ 0;
   refused : l.misfit.row < l.rows → IsFirstRefusing l.schema.columns (row_of l.columns l.misfit.row) l.misfit.column;
 }

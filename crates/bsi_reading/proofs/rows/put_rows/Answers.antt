@@ -9,7 +9,7 @@ use Rattle.bsi_reading.proofs.rows.put_rows.Goals as goal
 pub records-init : goal.records-init
 records-init g c = record {
   put = put_none g.R.Read.remaining c.args.layout.now c.args.input.now (counts_of c.args.taken.now c.args.bad.now) c.args.feeder c.args.block.now c.requires.plain c.requires.counts;
-  wide = c.in_ok-make_room.ensures;
+  wide = c.in_ok-make_room.ensures.wide;
 }
 
 -- memory for a row is refused

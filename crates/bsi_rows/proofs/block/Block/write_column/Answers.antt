@@ -18,8 +18,8 @@ write_values-requires-clause-few c =
     let rows = length-placed_rows (length i.schema.value.columns) i.row_feeders.items (placed_entry i.limits.items i.numbers.items i.not_null.items) in
     omega (arith, c.requires.long, rows, ap (λ b. length b.rows) c.self.view_is, c.self.invariant.0.few)
 
-pub write_values-requires-clause-from : goal.write_values-requires-clause-from
-write_values-requires-clause-from c = λ r below.
+pub write_values-requires-clause-range : goal.write_values-requires-clause-range
+write_values-requires-clause-range c = λ r below.
     let i = c.self.inside in
     let columns = i.schema.value.columns in
     let s = c.self.invariant.0 in
