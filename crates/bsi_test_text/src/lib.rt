@@ -8,6 +8,8 @@ mod calls;
 #[cfg(test)]
 mod ends;
 #[cfg(test)]
+mod kinds;
+#[cfg(test)]
 mod parts;
 #[cfg(test)]
 mod row_files;

@@ -1,0 +1,14 @@
+pub mod Comparing
+pub mod Cutting
+pub mod Days
+pub mod Entering
+pub mod Kinded
+pub mod Lowering
+pub mod Places
+pub mod Scanning
+pub mod Scaling
+pub mod Raising
+pub mod Rising
+pub mod RoundTrip
+pub mod Scans
+pub mod Writing

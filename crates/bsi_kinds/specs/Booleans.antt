@@ -1,0 +1,18 @@
+-- Booleans: what the bytes of a field spell, and how they are written.
+use Rattle.std.specs.Prelude.{Bool, Option, Some, None, if◌then◌else◌, ℤ, pos, int_lt}
+use Rattle.std.specs.Str.{bytes_eq}
+use Rattle.bsi_kinds.specs.Decimals.{Field}
+use Rattle.bsi_kinds.specs.declared.boolean.BooleanForm.{BooleanForm}
+
+-- the number of a word: 1 for what is true, 0 for what is false
+abbrev pub boolean_number : BooleanForm → Field → Option ℤ
+boolean_number form text =
+    if bytes_eq text form.yes.items then Some (pos 1) else (if bytes_eq text form.no.items then Some (pos 0) else None)
+
+-- a number stands for what is true
+abbrev pub is_true : ℤ → Bool
+is_true n = int_lt (pos 0) n
+
+-- the word of a number
+abbrev pub boolean_text : BooleanForm → ℤ → Field
+boolean_text form n = if is_true n then form.yes.items else form.no.items

@@ -1,0 +1,83 @@
+-- What the numbers of a column of a kind stand for.
+use Rattle.std.specs.Prelude.{◌≡◌, ◌≢◌, ◌⊎◌, ℕ, ◌<◌, ◌≤◌, Bool, false, if◌then◌else◌, ◌++◌, length, Option, Some, option_map, ℤ, pos, negsuc, unsigned_abs, FitsSigned}
+use Rattle.std.specs.Int.{w64}
+use Rattle.jiff_core.specs.Calendar.{IsEpochDay}
+use Rattle.bsi_orders.specs.Orders.{compares_by}
+use Rattle.bsi_orders.specs.WholeNumbers.{signed_order}
+use Rattle.bsi_orders.specs.declared.op.Op.{Op}
+use Rattle.bsi_kinds.specs.Booleans.{boolean_number, boolean_text, is_true}
+use Rattle.bsi_kinds.specs.Dates.{date_number, WritesDate}
+use Rattle.bsi_kinds.specs.Decimals.{decimal_at, decimal_entry, decimal_of, decimal_order, Decimal as Fraction, Field}
+use Rattle.bsi_kinds.specs.Dictionaries.{text_at, text_order}
+use Rattle.bsi_kinds.specs.Texts.{decimal_text}
+use Rattle.bsi_kinds.specs.declared.comparison.Comparison.{Comparison}
+use Rattle.bsi_kinds.specs.declared.kind.Kind.{Kind}
+use Rattle.bsi_kinds.specs.declared.kind.Kind.TheVariants.{Boolean, Decimal, Date, Text}
+
+-- a value: a truth value, a fraction, a day or a text
+pub data Value : Type 0 where
+  truth : Bool → Value
+  fraction : Fraction → Value
+  day : ℤ → Value
+  text : Field → Value
+
+-- a kind that a column may have
+abbrev pub IsKind : Kind → Type 0
+IsKind (Decimal places) = places ≤ 18
+IsKind (Date form) = Unit {0}
+IsKind (Boolean form) = form.yes.items ≢ form.no.items
+IsKind (Text texts) = Unit {0}
+
+-- what a number stands for
+abbrev pub value_at : Kind → ℤ → Value
+value_at (Decimal places) n = fraction (decimal_at places n)
+value_at (Date form) n = day n
+value_at (Boolean form) n = truth (is_true n)
+value_at (Text texts) n = text (text_at texts (unsigned_abs n))
+
+-- the number stands for some value
+abbrev pub IsNumber : Kind → ℤ → Type 0
+IsNumber (Decimal places) n = FitsSigned w64 n
+IsNumber (Date form) n = IsEpochDay n
+IsNumber (Boolean form) n = (n ≡ pos 0) ⊎ (n ≡ pos 1)
+IsNumber (Text texts) (pos n) = n < length texts
+IsNumber (Text texts) (negsuc n) = ⊥
+
+-- the value that a text spells, whether a number stands for it or not
+abbrev pub value_of : Kind → ℕ → Field → Option Value
+value_of (Decimal places) point word = option_map fraction (decimal_of point word)
+value_of (Date form) point word = option_map day (date_number form word)
+value_of (Boolean form) point word = option_map (λ n. truth (is_true n)) (boolean_number form word)
+value_of (Text texts) point word = Some (text word)
+
+-- what is false comes before what is true
+abbrev pub truth_number : Bool → ℤ
+truth_number is = if is then pos 1 else pos 0
+
+-- values of one kind compare by its order
+abbrev pub compares : Op → Value → Value → Bool
+compares op (fraction a) (fraction b) = compares_by decimal_order op a b
+compares op (day a) (day b) = compares_by signed_order op a b
+compares op (truth a) (truth b) = compares_by signed_order op (truth_number a) (truth_number b)
+compares op (text a) (text b) = compares_by text_order op a b
+compares op a b = false
+
+-- the number that stands for the value of a text
+abbrev pub IsSpelled : Kind → ℕ → Field → ℤ → Type 0
+IsSpelled (Decimal places) point word n = decimal_entry point places word ≡ Some n
+IsSpelled (Date form) point word n = date_number form word ≡ Some n
+IsSpelled (Boolean form) point word n = boolean_number form word ≡ Some n
+IsSpelled (Text texts) point word (pos n) = (n < length texts) × (text_at texts n ≡ word)
+IsSpelled (Text texts) point word (negsuc n) = ⊥
+
+-- the comparison of each value of a column with a constant is that of the number
+abbrev pub ComparesValues : Kind → Op → Value → Comparison → Type 0
+ComparesValues kind op constant c =
+    (n : ℤ) → IsNumber kind n → compares op (value_at kind n) constant ≡ compares_by signed_order c.op n c.number
+
+-- the text of a number stands last
+abbrev pub Writes : Kind → ℤ → Field → Field → Type 0
+Writes (Decimal places) n old new = new ≡ old ++ decimal_text places n
+Writes (Date form) n old new = WritesDate n old new
+Writes (Boolean form) n old new = new ≡ old ++ boolean_text form n
+Writes (Text texts) n old new = new ≡ old ++ text_at texts (unsigned_abs n)

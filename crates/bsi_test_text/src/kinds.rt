@@ -1,0 +1,204 @@
+//! Worked texts of each kind. A refused allocation is tried again.
+
+use bsi_kinds::{
+    BooleanForm, DateForm, DateOrder, Dictionary, Kind, NoMemory, Op, compare_decimal, read_date,
+    read_decimal,
+};
+use std::alloc::Global;
+
+/// Texts, and the numbers that stand for them at two places.
+const DECIMALS: [(&str, Option<i64>); 27] = [
+    ("12.50", Some(1250)),
+    ("12.500", Some(1250)),
+    ("-.5", Some(-50)),
+    ("7.", Some(700)),
+    ("007", Some(700)),
+    ("12.505", None),
+    ("1.2.3", None),
+    ("", None),
+    (".", None),
+    ("-", None),
+    ("92233720368547758.07", Some(i64::MAX)),
+    ("-92233720368547758.08", Some(i64::MIN)),
+    ("92233720368547758.08", None),
+    ("99999999999999999999999999", None),
+    ("1e3", Some(100_000)),
+    ("1.25E+1", Some(1250)),
+    ("1250e-2", Some(1250)),
+    ("1e-02", Some(1)),
+    ("1e-03", None),
+    ("0e-9999", Some(0)),
+    ("-12500e-003", Some(-1250)),
+    ("1e17", None),
+    ("1e", None),
+    ("e3", None),
+    ("1e3.5", None),
+    ("1e+-3", None),
+    ("1e99999", None),
+];
+
+#[test]
+fn decimals_are_read(rt: HostRuntime) {
+    for (text, want) in DECIMALS {
+        assert!(rt; read_decimal(b'.', 2, text.as_bytes()) == want, "{text}");
+    }
+}
+
+const ISO: DateForm = DateForm {
+    order: DateOrder::YearFirst,
+    sign: b'-',
+};
+
+const DOTTED: DateForm = DateForm {
+    order: DateOrder::DayFirst,
+    sign: b'.',
+};
+
+const SLASHED: DateForm = DateForm {
+    order: DateOrder::MonthFirst,
+    sign: b'/',
+};
+
+/// Texts, and the days that they spell.
+const DATES: [(DateForm, &str, Option<i64>); 11] = [
+    (ISO, "1970-01-01", Some(0)),
+    (ISO, "2026-01-31", Some(20_484)),
+    (ISO, "2026-1-31", Some(20_484)),
+    (DOTTED, "31.01.2026", Some(20_484)),
+    (SLASHED, "01/31/2026", Some(20_484)),
+    (SLASHED, "31/01/2026", None),
+    (ISO, "2026-02-30", None),
+    (ISO, "2024-02-29", Some(19_782)),
+    (ISO, "1900-02-29", None),
+    (ISO, "26-01-31", None),
+    (ISO, "2026-01-31T", None),
+];
+
+#[test]
+fn dates_are_read(rt: HostRuntime) {
+    for (form, text, want) in DATES {
+        assert!(rt; read_date(form, text.as_bytes()) == want, "{text}");
+    }
+}
+
+/// Comparisons with a constant, and those of the numbers at two places that they come to.
+const CONSTANTS: [(Op, &str, Op, i128); 8] = [
+    (Op::Lt, "12.345", Op::Lt, 1235),
+    (Op::Le, "12.345", Op::Lt, 1235),
+    (Op::Gt, "12.345", Op::Ge, 1235),
+    (Op::Eq, "12.345", Op::Eq, 1 << 64),
+    (Op::Le, "12.34", Op::Le, 1234),
+    (Op::Lt, "-12.345", Op::Lt, -1234),
+    (Op::Gt, "12345e-3", Op::Ge, 1235),
+    (Op::Ge, "1e-400", Op::Ge, 1),
+];
+
+#[test]
+fn constants_are_brought_down(rt: HostRuntime) {
+    for (op, text, sign, number) in CONSTANTS {
+        let found = compare_decimal(op, b'.', 2, text.as_bytes());
+        assert!(rt;
+            found.is_some_and(|found| found.op == sign && found.number == number),
+            "{text}"
+        );
+    }
+}
+
+fn stations_once(alloc: Global) -> Result<Option<Dictionary>, NoMemory> {
+    let mut texts = Vec::new(alloc);
+    for text in ["Farm", "Harbour", "Hill"] {
+        texts.push(Vec::from_slice(alloc, text.as_bytes())?)?;
+    }
+    Ok(Dictionary::new(texts))
+}
+
+fn finds_stations(texts: &Dictionary) -> bool {
+    let below = texts.compare_text(Op::Le, b"Harbor");
+    texts.find(b"Harbour") == Some(1)
+        && texts.find(b"Harbor") == None
+        && below.op == Op::Lt
+        && below.number == 1
+}
+
+// Whether texts are found by their places, and constants that are none of them compared.
+fn stations_are_found(alloc: Global) -> bool {
+    let made = match stations_once(alloc) {
+        Err(_) => stations_once(alloc),
+        made => made,
+    };
+    match made {
+        Ok(Some(texts)) => finds_stations(&texts),
+        _ => false,
+    }
+}
+
+#[test]
+fn texts_are_found(rt: HostRuntime) {
+    assert!(rt; stations_are_found(rt.alloc()));
+}
+
+fn answers_once(alloc: Global) -> Result<BooleanForm, NoMemory> {
+    let no = Vec::from_slice(alloc, b"no")?;
+    let yes = Vec::from_slice(alloc, b"yes")?;
+    Ok(BooleanForm { no, yes })
+}
+
+fn reads_answers(form: BooleanForm) -> bool {
+    if form.yes.as_slice() == form.no.as_slice() {
+        return false;
+    }
+    let kind = Kind::Boolean(form);
+    kind.read(b'.', b"yes") == Some(1)
+        && kind.read(b'.', b"no") == Some(0)
+        && kind.read(b'.', b"Yes") == None
+}
+
+// Whether the two words of a boolean are read, and no other.
+fn answers_are_read(alloc: Global) -> bool {
+    let made = match answers_once(alloc) {
+        Err(_) => answers_once(alloc),
+        made => made,
+    };
+    match made {
+        Ok(form) => reads_answers(form),
+        Err(_) => false,
+    }
+}
+
+#[test]
+fn booleans_are_read(rt: HostRuntime) {
+    assert!(rt; answers_are_read(rt.alloc()));
+}
+
+/// Numbers, and their texts at two places.
+const WRITTEN: [(i64, &str); 4] = [
+    (1250, "12.50"),
+    (-5, "-0.05"),
+    (0, "0.00"),
+    (i64::MIN, "-92233720368547758.08"),
+];
+
+fn text_once(alloc: Global, number: i64) -> Result<Vec<u8>, NoMemory> {
+    let mut line = Vec::new(alloc);
+    Kind::Decimal(2).write(number, &mut line)?;
+    Ok(line)
+}
+
+// Whether a number is written so.
+fn is_written(alloc: Global, number: i64, wanted: &str) -> bool {
+    let line = match text_once(alloc, number) {
+        Err(_) => text_once(alloc, number),
+        line => line,
+    };
+    match line {
+        Ok(line) => line.as_slice() == wanted.as_bytes(),
+        Err(_) => false,
+    }
+}
+
+#[test]
+fn numbers_are_written(rt: HostRuntime) {
+    for (number, wanted) in WRITTEN {
+        assert!(rt; is_written(rt.alloc(), number, wanted), "{wanted}");
+    }
+}
