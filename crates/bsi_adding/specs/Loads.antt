@@ -1,6 +1,6 @@
 -- Rows that are put into a file.
 use Rattle.std.specs.Borrow.{Bor}
-use Rattle.std.specs.Prelude.{◌≡◌, ◌⊎◌, ◌+◌, ◌<◌, ◌≤◌, ◌++◌, ℕ, Bool, List, [], Option, Some, IfSome, codes, length, map}
+use Rattle.std.specs.Prelude.{◌≡◌, ◌≢◌, ◌⊎◌, ◌+◌, ◌<◌, ◌≤◌, ◌++◌, ℕ, Bool, List, [], Option, Some, IfSome, codes, length, map}
 use Rattle.std.specs.Io.KnownBytes.{Appends}
 use Rattle.std.specs.List.{concat}
 use Rattle.bsi_rows.specs.Table.{Table}
@@ -9,6 +9,7 @@ use Rattle.bsi_asks.specs.RowFiles.{FedCounts}
 use Rattle.bsi_asks.specs.Runs.{fed_lines, HasLoaded}
 use Rattle.bsi_reading.specs.SchemaTexts.{IsSchemaText}
 use Rattle.bsi_saved.specs.Saved.{kept_file, MayBeKept}
+use Rattle.bsi_saved.specs.declared.fault.OpenFault.TheVariants.{OtherVersion}
 use Rattle.bsi_store.specs.Asked.{IsKeptIn}
 use Rattle.bsi_store.specs.Faults.{IsFileFault}
 use Rattle.bsi_store.specs.declared.fault.FileFault.TheVariants.{InUse, TooManyFiles}
@@ -45,12 +46,21 @@ pub record HasSaved {S : Type 0} (rem put : S → Option (List ℕ)) (count : �
   pub feeders_are : table.feeders ≡ count
   pub saved : HasPut rem put count (codes "saved") table.schema table.limit [] table before after
 
+-- a file was opened, and this is the table that its first bytes keep, with these notes, and what is left of the file; no
+-- segment of another version stands behind them
+pub record IsReadOf {S : Type 0} (rem : S → Option (List ℕ)) (so_far : Bool) (t : Table) (notes : List ℕ) (left : Option (List ℕ)) : Type 0 where
+  pub kept : IsKeptIn rem so_far t
+  pub notes_are : kept.notes ≡ notes
+  pub left_is : kept.after ≡ left
+  pub ours : kept.fault ≢ Some OtherVersion
+
 -- a file was opened that keeps a table, and further rows of it, those of so many row files and within its limit, were put
--- into that file with the notes that stand there
+-- into that file with the notes that stand there; no segment of another version stood behind them
 pub record HasAdded {S : Type 0} (rem put : S → Option (List ℕ)) (so_far : Bool) (count : ℕ) (before after : Option (List ℕ))
     : Type 0 where
   pub kept : Table
   pub opened : IsKeptIn rem so_far kept
+  pub ours : opened.fault ≢ Some OtherVersion
   pub more : Table
   pub feeders_are : more.feeders ≡ kept.feeders
   pub within : length kept.rows + length more.rows ≤ kept.limit
@@ -69,10 +79,13 @@ IsTooMany rem so_far count fault =
     (path : Bor (List ℕ)) × (kept : Table) × IsKeptIn rem so_far kept × (kept.feeders < count)
     × (fault ≡ Unusable path (TooManyFiles kept.feeders))
 
+-- where this fault tells of a file's bytes, a file that was opened has them
+abbrev pub IsMet : {S : Type 0} → (S → Option (List ℕ)) → StoreFault → Type 0
+IsMet {S} rem fault = IsOfNoBytes fault ⊎ ((path : Bor (List ℕ)) × (file : S) × IsFileFault path (rem file) fault)
+
 -- by this fault no rows are added: where it tells of a file's bytes, they have it
 abbrev pub IsAddFault : {S : Type 0} → (S → Option (List ℕ)) → Bool → ℕ → StoreFault → Type 0
-IsAddFault {S} rem so_far count fault =
-    IsOfNoBytes fault ⊎ (((path : Bor (List ℕ)) × (file : S) × IsFileFault path (rem file) fault) ⊎ IsTooMany rem so_far count fault)
+IsAddFault rem so_far count fault = IsMet rem fault ⊎ IsTooMany rem so_far count fault
 
 -- a text, put after what a writer held, tells what happened
 abbrev pub Tells : (Option (List ℕ) → Option (List ℕ) → Type 0) → List ℕ → Type 0

@@ -5,17 +5,18 @@ ghost use Rattle.std.specs.Io.KnownBytes.{Appends};
 ghost use Rattle.bsi_asks.specs.RowFiles.{fed_counts};
 ghost use Rattle.bsi_asks.specs.Runs.{HasLoaded};
 ghost use Rattle.bsi_rows.specs.Table.{max_feeders, no_rows, with_rows};
+ghost use Rattle.bsi_saved.specs.Faults.{MayFollow};
 ghost use Rattle.bsi_saved.specs.Saved.{kept_file, max_notes, MayBeKept};
-ghost use Rattle.bsi_adding.specs.Loads.{HasAdded, IsAddFault, IsOfNoBytes};
+ghost use Rattle.bsi_adding.specs.Loads.{HasAdded, IsAddFault, IsMet, IsOfNoBytes, IsReadOf};
 ghost use Rattle.std.specs.List.{Contains};
-ghost use Rattle.bsi_store.specs.Faults.{Names};
+ghost use Rattle.bsi_store.specs.Faults.{IsFileFault, Names};
 ghost use Rattle.bsi_table.specs.Index.{table_of};
 
-use crate::opening::{open_each, open_to_add};
+use crate::opening::{lock_to_add, open_each, open_to_add};
 use crate::telling::text_of;
 use bsi_files::{FilesFault, Gate, Loaded, Stopping, load_files};
 use bsi_reading::write_bytes;
-use bsi_saved::{Opened, write_index};
+use bsi_saved::{OpenFault, Opened, may_follow, write_index};
 use bsi_store::{FileFault, LockFile, StoreFault, read_kept};
 use bsi_table::{Index, NoMemory};
 use std::alloc::Global;
@@ -56,17 +57,92 @@ pub fn add_rows<
         (Names (λ named. (named ≡ paths.now.kept) ⊎ Contains paths.now.rows.items named)) }
 {
     let mut file = open_to_add(rt, paths.kept)?;
+    let kept = read_to_add(rt.alloc(), paths.kept, &mut file, paths.so_far)?;
+    // Without a lock, so that slow row files stop no other command.
+    let _ = file.unlock();
     let rows = open_each(rt, &paths.rows)?;
-    let kept = read_kept(rt.alloc(), paths.kept, &mut file, paths.so_far)?;
     let more = load_more(rt, paths.kept, &kept.index, rows, gate)?;
     let text = text_of(rt.alloc(), "added", &more)?;
+    lock_to_add(rt, paths.kept, &file)?;
+    let kept = look_again(rt.alloc(), paths.kept, kept, &mut file, paths.so_far)?;
+    check_room(paths.kept, &kept.index, &more.table)?;
     put_segment(rt.alloc(), paths.kept, &kept, &more.table, &mut file)?;
     write_bytes(output, text.as_slice())?;
     Ok(())
 }
 
-/// Loads row files into an index that keeps its columns as another does, and has as many feeders. It refuses more rows
-/// than that one has room for, and more files than it has feeders.
+/// Reads the index that a file keeps, as `read_kept` does. It refuses segments of another version behind it, which are
+/// never cut off.
+fn read_to_add<'a, S: Read>(
+    alloc: Global,
+    path: &'a str,
+    file: &mut S,
+    so_far: bool,
+) -> Result<Opened, StoreFault<'a>>
+    ensures read { IfOk result (λ opened. IsReadOf S.remaining so_far (table_of opened.index)
+        opened.notes.items (S.remaining file.new)) }
+    ensures few { IfOk result (λ opened. length opened.notes.items ≤ max_notes) }
+    ensures fault { IfErr result (IsFileFault path.entry (S.remaining file.old)) }
+    ensures named { IfErr result (Names (λ named. named ≡ path.entry)) }
+{
+    let kept = read_kept(alloc, path, file, so_far)?;
+    match kept.fault {
+        Some(OpenFault::OtherVersion) => {
+            Err(StoreFault::Unusable(path, FileFault::OtherVersion))
+        }
+        _ => Ok(kept),
+    }
+}
+
+/// Returns what a file keeps once no other command can write it: what was read of it or, if it has grown since or is to
+/// be cut, what is read anew. It refuses a file that is shorter than what was read.
+fn look_again<'a, S: Read + OpenFile + LockFile>(
+    alloc: Global,
+    path: &'a str,
+    kept: Opened,
+    file: &mut S,
+    so_far: bool,
+) -> Result<Opened, StoreFault<'a>>
+    ensures read { IsReadOf S.remaining so_far (table_of kept.index) kept.notes.items (S.remaining file.old) →
+        IfOk result (λ opened. IsReadOf S.remaining so_far (table_of opened.index)
+        opened.notes.items (S.remaining file.new)) }
+    ensures few { length kept.notes.items ≤ max_notes →
+        IfOk result (λ opened. length opened.notes.items ≤ max_notes) }
+    ensures fault { IfErr result (IsMet S.remaining) }
+    ensures named { IfErr result (Names (λ named. named ≡ path.entry)) }
+{
+    let Ok(found) = file.metadata() else {
+        return Err(StoreFault::CannotWrite(path));
+    };
+    if found.len() < kept.bytes {
+        return Err(StoreFault::Unusable(path, FileFault::InUse));
+    }
+    if found.len() == kept.bytes && kept.fault.is_none() {
+        return Ok(kept);
+    }
+    if file.rewind().is_err() {
+        return Err(StoreFault::CannotWrite(path));
+    }
+    read_to_add(alloc, path, file, so_far)
+}
+
+/// Refuses rows for which a kept index has no room, or which are not kept as its own are.
+fn check_room<'a>(path: &'a str, kept: &Index, more: &Index) -> Result<(), StoreFault<'a>>
+    ensures follows { OnOk result (MayFollow (table_of kept.now) (table_of more.now)) }
+    ensures fault { IfErr result IsOfNoBytes }
+    ensures named { IfErr result (Names (λ named. named ≡ path.entry)) }
+{
+    if more.len() > kept.limit() - kept.len() {
+        return Err(StoreFault::Run(FilesFault::IndexFull));
+    }
+    if !may_follow(kept, more) {
+        return Err(StoreFault::Unusable(path, FileFault::InUse));
+    }
+    Ok(())
+}
+
+/// Loads row files into an index that keeps its columns as another does, and has as many feeders. It refuses more
+/// files than it has feeders.
 fn load_more<
     'a,
     R: AllocGlobal + Threads + Wait + Sync,
@@ -78,8 +154,6 @@ fn load_more<
     ensures schema { IfOk result (λ loaded. loaded.table.schema ≡ kept.now.schema) }
     ensures feeders { IfOk result (λ loaded. loaded.table.feeders ≡ kept.now.feeders) }
     ensures limit { IfOk result (λ loaded. loaded.table.limit ≡ kept.now.limit) }
-    ensures within { IfOk result (λ loaded.
-        length kept.now.rows + length loaded.table.rows ≤ kept.now.limit) }
     ensures rows { IfOk result (λ loaded. (texts : List (List ℕ)) →
         map S.remaining rows.items ≡ map Some texts →
         HasLoaded kept.now.schema kept.now.limit texts loaded.table.rows
@@ -94,9 +168,6 @@ fn load_more<
     }
     let schema = kept.schema().copy()?;
     let Loaded { table, fed } = load_files(rt, schema, kept.limit(), rows, gate)?;
-    if table.len() > kept.limit() - kept.len() {
-        return Err(StoreFault::Run(FilesFault::IndexFull));
-    }
     let table = spread(kept, &table)?;
     Ok(Loaded { table, fed })
 }

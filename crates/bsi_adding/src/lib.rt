@@ -4,6 +4,7 @@
 mod adding;
 mod new_file;
 mod opening;
+mod replaced;
 mod saving;
 mod telling;
 

@@ -1,4 +1,4 @@
-//! Row files that are opened, and a kept file for this command alone.
+//! Row files that are opened, and a kept file that rows are added to.
 
 ghost use Rattle.std.specs.Prelude.{◌≡◌, IfErr, IfOk, length};
 ghost use Rattle.std.specs.List.{Contains};
@@ -30,7 +30,7 @@ pub(crate) fn open_each<'a, R: AllocGlobal + Files<File = S>, S: Read + Drop>(
     Ok(files)
 }
 
-/// Opens the file of a path for reading and for further segments, and locks it for this command alone.
+/// Opens the file of a path for reading and for further segments, and locks it beside those who read it.
 pub(crate) fn open_to_add<'a, R: Files<File = S>, S: OpenFile + LockFile + Drop>(
     rt: &R,
     path: &'a str,
@@ -43,27 +43,57 @@ pub(crate) fn open_to_add<'a, R: Files<File = S>, S: OpenFile + LockFile + Drop>
     let Ok(file) = options.open(rt, path) else {
         return Err(StoreFault::CannotOpen(path));
     };
-    match claim(rt, &file, path) {
+    match lock_to_read(&file) {
         Ok(true) => Ok(file),
         Ok(false) => Err(StoreFault::Unusable(path, FileFault::InUse)),
         Err(_) => Err(StoreFault::CannotWrite(path)),
     }
 }
 
-/// Locks a file for this command alone. It returns false where another command has it, or has put another in its place
-/// since it was opened, and refuses what is no regular file.
-pub(crate) fn claim<R: Files<File = S>, S: OpenFile + LockFile>(
+/// Locks a file beside those who read it. It returns false where a command writes it, and refuses what is no regular file.
+fn lock_to_read<S: OpenFile + LockFile>(file: &S) -> io::Result<bool> {
+    if !file.metadata()?.is_file() {
+        return Err(io::Error::from(io::ErrorKind::InvalidInput));
+    }
+    file.lock_beside()
+}
+
+/// Locks the file of a path for this command alone. It refuses one that another command has, or in whose place another
+/// was put since it was opened.
+pub(crate) fn lock_to_add<'a, R: Files<File = S>, S: OpenFile + LockFile>(
     rt: &R,
+    path: &'a str,
     file: &S,
+) -> Result<(), StoreFault<'a>>
+    ensures fault { IfErr result IsOfNoBytes }
+    ensures named { IfErr result (Names (λ named. named ≡ path.entry)) }
+{
+    match claim(rt, path, file) {
+        Ok(true) => Ok(()),
+        Ok(false) => Err(StoreFault::Unusable(path, FileFault::InUse)),
+        Err(_) => Err(StoreFault::CannotWrite(path)),
+    }
+}
+
+/// Locks a file for this command alone. It returns false where another command has it, or has put another in its place.
+fn claim<R: Files<File = S>, S: OpenFile + LockFile>(
+    rt: &R,
     path: &str,
+    file: &S,
 ) -> io::Result<bool> {
     if !file.lock_alone()? {
         return Ok(false);
     }
+    stands_at(rt, path, file)
+}
+
+/// Returns whether a path still names a file that was opened by it.
+pub(crate) fn stands_at<R: Files<File = S>, S: OpenFile>(
+    rt: &R,
+    path: &str,
+    file: &S,
+) -> io::Result<bool> {
     let here = file.metadata()?;
-    if !here.is_file() {
-        return Err(io::Error::from(io::ErrorKind::InvalidInput));
-    }
     match fs::metadata(rt, path) {
         Ok(there) => Ok(here.ino() == there.ino() && here.dev() == there.dev()),
         Err(error) if error.kind() == io::ErrorKind::NotFound => Ok(false),

@@ -1,12 +1,13 @@
 //! Row files that become a kept index.
 
 ghost use Rattle.std.specs.Prelude.{◌≡◌, ◌<◌, ◌⊎◌, IfErr, IfOk, OnOk, false, length};
-ghost use Rattle.bsi_adding.specs.Loads.{HasSaved, Tells};
+ghost use Rattle.bsi_adding.specs.Loads.{HasSaved, IsMet, IsOfNoBytes, Tells};
 ghost use Rattle.std.specs.List.{Contains};
 ghost use Rattle.bsi_store.specs.Faults.{Names};
 
 use crate::new_file::NewFile;
 use crate::opening::open_each;
+use crate::replaced::Place;
 use crate::telling::text_of;
 use bsi_files::{FilesFault, Gate, Stopping, load_files};
 use bsi_reading::{read_schema, write_bytes};
@@ -28,12 +29,14 @@ pub struct SavePaths<'a> {
     pub to: &'a str,
     /// The row files.
     pub rows: Vec<&'a str>,
+    /// Whether a file is replaced that keeps no index.
+    pub force: bool,
     ghost some: { 0 < length rows.items },
 }
 
-/// Loads row files as a run over files does, and keeps their rows in the file of a path, in place of what was there. Row
-/// file k is feeder k. It writes the line of each file, and how many rows were saved. After a fault the file is as it
-/// was, unless the folder could not be stored or only these lines could not be written: then it is replaced.
+/// Loads row files as a run over files does, and keeps their rows in the file of a path, in place of the index that it
+/// kept. Row file k is feeder k. It writes the line of each file, and how many rows were saved. After a fault the file is
+/// as it was, unless the folder could not be stored or only these lines could not be written: then it is replaced.
 pub fn save_rows<
     'a,
     R: AllocGlobal + Files<File = S> + Threads + Wait + Sync,
@@ -44,13 +47,16 @@ pub fn save_rows<
     requires { G.STOPS ≡ false }
     ensures saved { OnOk result (HasSaved S.remaining S.contents (length paths.now.rows.items)
         (O.contents output.old) (O.contents output.new)) }
+    ensures fault { IfErr result (IsMet S.remaining) }
     ensures named { IfErr result (Names (λ named. (named ≡ paths.now.schema)
         ⊎ ((named ≡ paths.now.to) ⊎ Contains paths.now.rows.items named))) }
 {
     let schema = open_one(rt, paths.schema)?;
     let rows = open_each(rt, &paths.rows)?;
-    let mut new = NewFile::begin(rt, paths.to)?;
+    let place = Place::find(rt, paths.to, paths.force)?;
+    let mut new = NewFile::begin(rt, place)?;
     let text = save_or_remove(rt, schema, rows, &mut new, gate)?;
+    new.store_folder()?;
     write_bytes(output, text.as_slice())?;
     Ok(())
 }
@@ -72,7 +78,9 @@ fn save_or_remove<
     requires never { G.STOPS ≡ false }
     ensures saved { IfOk result (λ text.
         Tells (HasSaved S.remaining S.contents (length rows.items)) text.items) }
-    ensures named { IfErr result (Names (λ named. named ≡ new.old.path)) }
+    ensures fault { IfErr result IsOfNoBytes }
+    ensures named { IfErr result (Names (λ named. named ≡ new.old.place.path)) }
+    ensures path { new.new.place.path ≡ new.old.place.path }
 {
     match save_into(rt, schema, rows, new, gate) {
         Ok(text) => Ok(text),
@@ -100,7 +108,9 @@ fn save_into<
     requires never { G.STOPS ≡ false }
     ensures saved { IfOk result (λ text.
         Tells (HasSaved S.remaining S.contents (length rows.items)) text.items) }
-    ensures named { IfErr result (Names (λ named. named ≡ new.old.path)) }
+    ensures fault { IfErr result IsOfNoBytes }
+    ensures named { IfErr result (Names (λ named. named ≡ new.old.place.path)) }
+    ensures path { new.new.place.path ≡ new.old.place.path }
 {
     if rows.len() > MAX_FEEDERS as usize {
         return Err(StoreFault::Run(FilesFault::TooManyFiles));

@@ -1,5 +1,6 @@
 pub mod Asking
 mod Certain
+mod Entries
 mod Listed
 pub mod Mixing
 pub mod Ordered

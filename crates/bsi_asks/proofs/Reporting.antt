@@ -1,10 +1,11 @@
 -- Which records ask for a report.
-use Rattle.std.proofs.Common.{◌≡◌, ◌≢◌, ℕ, ◌+◌, ◌-◌, ◌<◌, ◌≤◌, false, List, [], ◌∷◌, ◌++◌, drop, get_or, length, take, arith, Option, Some, None, option_and_then, refl, ap, sym, subst, ◌∙◌, codes}
-use Rattle.std.proofs.lemmas.List.{append_assoc, get_or-drop, length-drop, take_more}
+use Rattle.std.proofs.Common.{◌≡◌, ◌≢◌, ℕ, zero, suc, Global, ◌+◌, ◌-◌, ◌*◌, ◌<◌, ◌≤◌, false, List, [], ◌∷◌, ◌++◌, drop, get_or, length, length-append, take, arith, Option, Some, None, option_and_then, refl, ap, ap₂, sym, subst, ◌∙◌, codes}
+use Rattle.std.proofs.lemmas.List.{append_assoc, drop-drop, get_or-drop, length-drop, take_more}
 use Rattle.std.proofs.lemmas.Option.{none-some, same_Some}
 use Rattle.std.proofs.lemmas.Slice.Eq.{bytes_eq-Decides}
 use Rattle.std.specs.Prelude.{MatchOption}
 use Rattle.std.specs.Str.{bytes_eq}
+use Rattle.std.specs.declared.vec.Vec.{Vec}
 use Rattle.csv.specs.Records.{field_at}
 use Rattle.bsi_groups.specs.Quantiles.{share_of, Share}
 use Rattle.bsi_groups.specs.declared.tops.End.{End}
@@ -18,9 +19,9 @@ use Rattle.bsi_rows.specs.declared.query.Query.{Query}
 use Rattle.bsi_rows.specs.declared.query.Total.{Total}
 use Rattle.bsi_rows.specs.declared.query.Total.TheVariants.{Median, Rank, Rows}
 use Rattle.bsi_schema.specs.Columns.{Declared, position_of}
-use Rattle.bsi_asks.specs.Reports.{end_word, spelled_share, IsReport, IsUnlisted}
+use Rattle.bsi_asks.specs.Reports.{end_word, max_group_columns, spelled_share, AreAllNamed, AreNamed, IsReport, IsUnlisted}
 use Rattle.bsi_asks.specs.declared.reports.Report.{Report}
-use Rattle.bsi_asks.specs.declared.reports.Report.TheVariants.{Groups, Pairs, Top, Distinct, Quantile}
+use Rattle.bsi_asks.specs.declared.reports.Report.TheVariants.{Groups, Top, Distinct, Quantile}
 
 -- what was read is so, and nothing is where nothing was read
 module _ {T : Type 0} (Is : T → Type 0) (o : Option T) (is : IsReadAs Is o) where
@@ -77,9 +78,14 @@ module _ (schema : Declared) (fields : List Field) (query : Query) (is : IsQuest
 
 -- ---- the word of a report
 
+-- columns begin with the word
+by_first : (schema : Declared) (fields question : List Field) (by : List ℕ) → 0 < length by → AreNamed schema fields by question → field_at fields 0 ≡ Some (codes "by")
+unfolding field_at
+by_first schema fields question [] some is = absurd (omega arith)
+by_first schema fields question (c ∷ by) some is = ap (λ fs. field_at fs 0) is.2
+
 abbrev report_word : Report → Field
 report_word (Groups query by) = codes "by"
-report_word (Pairs query first second) = codes "by"
 report_word (Top end c most pred) = end_word end
 report_word (Distinct c pred) = codes "distinct"
 report_word (Quantile share c pred) = codes "quantile"
@@ -87,8 +93,7 @@ report_word (Quantile share c pred) = codes "quantile"
 module _ (schema : Declared) (fields : List Field) where
   begins : (asked : Report) → IsReport schema fields asked → field_at fields 0 ≡ Some (report_word asked)
   unfolding field_at
-  begins (Groups query by) is = ap (λ fs. field_at fs 0) is.2
-  begins (Pairs query first second) is = ap (λ fs. field_at fs 0) is.3
+  begins (Groups query by) is = by_first schema fields is.0 by.items is.2 is.1
   begins (Top end c most pred) is = ap (λ fs. field_at fs 0) is.1
   begins (Distinct c pred) is = ap (λ fs. field_at fs 0) is.1
   begins (Quantile share c pred) is = ap (λ fs. field_at fs 0) is.4
@@ -102,7 +107,6 @@ module _ (schema : Declared) (fields : List Field) where
 
     pub other_word : word ≢ codes "by" → word ≢ codes "top" → word ≢ codes "bottom" → word ≢ codes "distinct" → word ≢ codes "quantile" → (asked : Report) → IsReport schema fields asked → ⊥
     other_word not_by not_top not_bottom not_distinct not_quantile (Groups query by) is = not_by (its_word (Groups query by) is)
-    other_word not_by not_top not_bottom not_distinct not_quantile (Pairs query first second) is = not_by (its_word (Pairs query first second) is)
     other_word not_by not_top not_bottom not_distinct not_quantile (Top Greatest c most pred) is = not_top (its_word (Top Greatest c most pred) is)
     other_word not_by not_top not_bottom not_distinct not_quantile (Top Least c most pred) is = not_bottom (its_word (Top Least c most pred) is)
     other_word not_by not_top not_bottom not_distinct not_quantile (Distinct c pred) is = not_distinct (its_word (Distinct c pred) is)
@@ -159,84 +163,149 @@ by_begins : (schema : Declared) (question : List Field) (query : Query) → get_
 by_begins schema [] query at is = is
 by_begins schema (word ∷ rest) query at is = by_asks schema rest query (subst (λ (w : Field). IsQuestion schema (w ∷ rest) query) at is)
 
-by_question : (schema : Declared) (fields : List Field) → Some (codes "by") ≡ field_at fields 0
-    → (query : Query) (by : ℕ) → Some by ≡ option_and_then (position_of schema.columns) (field_at fields 1)
-    → IsUnlisted schema (drop 2 fields) query → IsReport schema fields (Groups query by)
+-- a name behind the word
+named_at : {A : Type 0} (pos : Field → Option A) (fields : List Field) (at : ℕ) (c : A) → get_or fields at [] ≡ codes "by"
+    → Some c ≡ option_and_then pos (field_at fields (at + 1)) → (name : Field) × (drop at fields ≡ codes "by" ∷ name ∷ drop (at + 2) fields) × (pos name ≡ Some c)
 unfolding field_at
-by_question schema [] word query by at is = absurd (none-some (codes "by") (sym word))
-by_question schema (f ∷ []) word query by at is = absurd (none-some by (sym at))
-by_question schema (f ∷ name ∷ question) word query by at is =
-    (name, question, ap (λ w. w ∷ name ∷ question) (sym (same_Some (codes "by") f word)), sym at, is)
+named_at pos [] at c word there = absurd cc
+named_at pos (f ∷ []) zero c word there = absurd (none-some c (sym there))
+named_at pos (f ∷ name ∷ fields) zero c word there = (name, ap (λ w. w ∷ name ∷ fields) word, sym there)
+named_at pos (f ∷ fields) (suc at) c word there =
+    let one : suc at + 1 ≡ suc (at + 1) = omega arith in
+    let two : suc at + 2 ≡ suc (at + 2) = omega arith in
+    let found = named_at pos fields at c word (there ∙ ap (λ k. option_and_then pos (field_at (f ∷ fields) k)) one) in
+    (found.0, found.1 ∙ ap (λ k. codes "by" ∷ found.0 ∷ drop k (f ∷ fields)) (sym two), found.2)
 
-by_two : (schema : Declared) (fields : List Field) → Some (codes "by") ≡ field_at fields 0 → get_or fields 2 [] ≡ codes "by"
-    → (query : Query) (first second : ℕ) → Some first ≡ option_and_then (position_of schema.columns) (field_at fields 1)
-    → Some second ≡ option_and_then (position_of schema.columns) (field_at fields 3)
-    → IsUnlisted schema (drop 4 fields) query → IsReport schema fields (Pairs query first second)
+-- the field behind a word
+next_at : (fields : List Field) (at : ℕ) (name : Field) (rest : List Field) → drop at fields ≡ codes "by" ∷ name ∷ rest → field_at fields (at + 1) ≡ Some name
 unfolding field_at
-by_two schema [] word again query first second one two is = absurd (none-some (codes "by") (sym word))
-by_two schema (f ∷ []) word again query first second one two is = absurd (none-some first (sym one))
-by_two schema (f ∷ x ∷ []) word again query first second one two is = absurd (none-some second (sym two))
-by_two schema (f ∷ x ∷ g ∷ []) word again query first second one two is = absurd (none-some second (sym two))
-by_two schema (f ∷ x ∷ g ∷ y ∷ question) word again query first second one two is = (
-  x,
-  y,
-  question,
-  ap (λ w. w ∷ x ∷ g ∷ y ∷ question) (sym (same_Some (codes "by") f word)) ∙ ap (λ w. codes "by" ∷ x ∷ w ∷ y ∷ question) again,
-  sym one,
-  sym two,
-  is,
-)
+next_at [] zero name rest is = absurd cc
+next_at [] (suc at) name rest is = absurd cc
+next_at (f ∷ fields) zero name rest is = ap (λ fs. field_at fs 1) is
+next_at (f ∷ fields) (suc at) name rest is =
+    let one : suc at + 1 ≡ suc (at + 1) = omega arith in ap (field_at (f ∷ fields)) one ∙ next_at fields at name rest is
+
+first_behind : (n : ℕ) (fields : List Field) → get_or (drop n fields) 0 [] ≡ get_or fields n []
+first_behind n fields = let same : n + 0 ≡ n = omega arith in get_or-drop n fields 0 [] ∙ ap (λ k. get_or fields k []) same
+
+-- the columns with whose names fields begin
+module _ (schema : Declared) where
+  -- fields that begin with no such word are of no such column
+  other_first : (fields : List Field) (by : List ℕ) (others : List Field) → get_or fields 0 [] ≢ codes "by" → AreNamed schema fields by others
+      → (by ≡ []) × (fields ≡ others)
+  other_first fields [] others not is = (refl, is)
+  other_first fields (c ∷ by) others not is = absurd (not (ap (λ fs. get_or fs 0 []) is.2))
+
+  -- the others stand behind two fields for each column
+  others_behind : (fields : List Field) (by : List ℕ) (others : List Field) → AreNamed schema fields by others → others ≡ drop (2 * length by) fields
+  others_behind fields [] others is = sym is
+  others_behind fields (c ∷ by) others is =
+      let two : 2 * suc (length by) ≡ 2 + 2 * length by = omega arith in
+      others_behind is.1 by others is.4 ∙ ap (λ fs. drop (2 * length by) (drop 2 fs)) (sym is.2)
+      ∙ drop-drop (2 * length by) 2 fields ∙ ap (λ k. drop k fields) (sym two)
+
+  -- one more column
+  named_more : (fields : List Field) (by : List ℕ) (rest : List Field) (c : ℕ) (name : Field) (others : List Field) → AreNamed schema fields by rest
+      → rest ≡ codes "by" ∷ name ∷ others → position_of schema.columns name ≡ Some c → AreNamed schema fields (by ++ c ∷ []) others
+  named_more fields [] rest c name others here is at = (name, others, here ∙ is, at, refl)
+  named_more fields (d ∷ by) rest c name others here is at = (here.0, here.1, here.2, here.3, named_more here.1 by rest c name others here.4 is at)
+
+  -- of fields that begin with some columns, all others stand behind these
+  columns_on : (fields : List Field) (by : List ℕ) (rest : List Field) (all : List ℕ) (others : List Field) → AreNamed schema fields by rest
+      → AreNamed schema fields all others → get_or others 0 [] ≢ codes "by"
+      → (more : List ℕ) × (all ≡ by ++ more) × AreNamed schema rest more others
+  columns_on fields [] rest all others here is end = (all, refl, subst (λ (fs : List Field). AreNamed schema fs all others) here is)
+  columns_on fields (c ∷ by) rest [] others here is end = absurd (end (ap (λ fs. get_or fs 0 []) (sym is ∙ here.2)))
+  columns_on fields (c ∷ by) rest (d ∷ all) others here is end =
+      let same : codes "by" ∷ here.0 ∷ here.1 ≡ codes "by" ∷ is.0 ∷ is.1 = sym here.2 ∙ is.2 in
+      let name : here.0 ≡ is.0 = ap (λ fs. get_or fs 1 []) same in
+      let behind : here.1 ≡ is.1 = ap (drop 2) same in
+      let column : c ≡ d = same_Some c d (sym here.3 ∙ ap (position_of schema.columns) name ∙ is.3) in
+      let found = columns_on here.1 by rest all others here.4 (subst (λ (fs : List Field). AreNamed schema fs all others) (sym behind) is.4) end in
+      (found.0, ap₂ (λ x xs. x ∷ xs) (sym column) found.1, found.2)
+
+  module _ (fields : List Field) (by : List ℕ) (here : AreNamed schema fields by (drop (2 * length by) fields)) where
+    pub column_more : (c : ℕ) → get_or fields (2 * length by) [] ≡ codes "by" → Some c ≡ option_and_then (position_of schema.columns) (field_at fields (2 * length by + 1))
+        → AreNamed schema fields (by ++ c ∷ []) (drop (2 * length (by ++ c ∷ [])) fields)
+    column_more c word at =
+        let named = named_at (position_of schema.columns) fields (2 * length by) c word at in
+        let more = named_more fields by (drop (2 * length by) fields) c named.0 (drop (2 * length by + 2) fields) here named.1 named.2 in
+        subst (AreNamed schema fields (by ++ c ∷ [])) (others_behind fields (by ++ c ∷ []) (drop (2 * length by + 2) fields) more) more
+
+    pub no_column : get_or fields (2 * length by) [] ≡ codes "by" → None ≡ option_and_then (position_of schema.columns) (field_at fields (2 * length by + 1))
+        → (all : List ℕ) → AreAllNamed schema fields all → ⊥
+    no_column word none all is =
+        let found = columns_on fields by (drop (2 * length by) fields) all is.0 here is.1 is.2 in go found.0 found.2
+      where
+        first : get_or (drop (2 * length by) fields) 0 [] ≡ codes "by"
+        first = first_behind (2 * length by) fields ∙ word
+
+        go : (more : List ℕ) → AreNamed schema (drop (2 * length by) fields) more is.0 → ⊥
+        go [] end = is.2 (ap (λ fs. get_or fs 0 []) (sym end) ∙ first)
+        go (c ∷ more) next =
+            none-some c (none ∙ ap (option_and_then (position_of schema.columns)) (next_at fields (2 * length by) next.0 next.1 next.2) ∙ next.3)
+
+    -- the word stands behind so many columns, and so there are more
+    pub too_many : get_or fields (2 * length by) [] ≡ codes "by" → max_group_columns ≤ length by → (all : List ℕ) → AreAllNamed schema fields all → ⊥
+    too_many word many all is =
+        let found = columns_on fields by (drop (2 * length by) fields) all is.0 here is.1 is.2 in
+        go found.0 (omega (arith, is.3, ap length found.1, length-append by found.0)) found.2
+      where
+        first : get_or (drop (2 * length by) fields) 0 [] ≡ codes "by"
+        first = first_behind (2 * length by) fields ∙ word
+
+        go : (more : List ℕ) → length more ≤ 0 → AreNamed schema (drop (2 * length by) fields) more is.0 → ⊥
+        go [] none end = is.2 (ap (λ fs. get_or fs 0 []) (sym end) ∙ first)
+        go (c ∷ more) none next = absurd (omega (arith, none))
+
+    pub columns_read : get_or fields (2 * length by) [] ≢ codes "by" → length by ≤ max_group_columns → AreAllNamed schema fields by
+    columns_read end few = (drop (2 * length by) fields, here, (λ at. end (sym (first_behind (2 * length by) fields) ∙ at)), few)
+
+  -- no question begins with the word, and so the columns before it are all
+  all_named : (fields : List Field) (query : Query) (by : List ℕ) (question : List Field) → AreNamed schema fields by question
+      → length by ≤ max_group_columns → IsUnlisted schema question query → AreAllNamed schema fields by
+  all_named fields query by question named few asked = (question, named, (λ at. by_begins schema question query at asked.0), few)
+
+  same_question : (fields : List Field) (by : List ℕ) → AreAllNamed schema fields by → (all : List ℕ) (question : List Field) → AreNamed schema fields all question
+      → get_or question 0 [] ≢ codes "by" → question ≡ drop (2 * length by) fields
+  same_question fields by is all question named end =
+      let found = columns_on fields by is.0 all question is.1 named end in
+      sym (other_first is.0 found.0 question is.2 found.2).1 ∙ others_behind fields by is.0 is.1
+
+first_field : (fields : List Field) (word : Field) → Some word ≡ field_at fields 0 → get_or fields 0 [] ≡ word
+unfolding field_at
+first_field [] word there = absurd (none-some word (sym there))
+first_field (f ∷ fields) word there = sym (same_Some word f there)
 
 module _ (schema : Declared) (fields : List Field) (word : Some (codes "by") ≡ field_at fields 0) where
-  module _ (alone : get_or fields 2 [] ≢ codes "by") where
-    only_groups : ((query : Query) (by : ℕ) → IsReport schema fields (Groups query by) → ⊥) → (asked : Report) → IsReport schema fields asked → ⊥
-    only_groups none (Groups query by) is = none query by is
-    only_groups none (Pairs query first second) is = alone (ap (λ fs. get_or fs 2 []) is.3)
-    only_groups none (Top end c most pred) is = not_by end (its_word schema fields (codes "by") word (Top end c most pred) is)
-    only_groups none (Distinct c pred) is = cc (its_word schema fields (codes "by") word (Distinct c pred) is)
-    only_groups none (Quantile share c pred) is = cc (its_word schema fields (codes "by") word (Quantile share c pred) is)
+  only_groups : ((query : Query) (by : Vec ℕ Global) → IsReport schema fields (Groups query by) → ⊥) → (asked : Report) → IsReport schema fields asked → ⊥
+  only_groups none (Groups query by) is = none query by is
+  only_groups none (Top end c most pred) is = not_by end (its_word schema fields (codes "by") word (Top end c most pred) is)
+  only_groups none (Distinct c pred) is = cc (its_word schema fields (codes "by") word (Distinct c pred) is)
+  only_groups none (Quantile share c pred) is = cc (its_word schema fields (codes "by") word (Quantile share c pred) is)
 
-    pub no_column : None ≡ option_and_then (position_of schema.columns) (field_at fields 1) → (asked : Report) → IsReport schema fields asked → ⊥
-    unfolding field_at
-    no_column none =
-        only_groups (λ query by is. none-some by (none ∙ ap (λ fs. option_and_then (position_of schema.columns) (field_at fs 1)) is.2 ∙ is.3))
+  pub no_columns : (o : Option (Vec ℕ Global)) → IsReadAs (λ by. AreAllNamed schema fields by.items) o → o ≡ None → (asked : Report) → IsReport schema fields asked → ⊥
+  no_columns o is at = only_groups (λ query by told. none_is _ o is at by (all_named schema fields query by.items told.0 told.1 told.3 told.4))
 
-    pub no_groups : (o : Option Query) → IsReadAs (IsUnlisted schema (drop 2 fields)) o → o ≡ None → (asked : Report) → IsReport schema fields asked → ⊥
-    no_groups o is at =
-        only_groups (λ query by told. none_is _ o is at query
-        (subst (λ (question : List Field). IsUnlisted schema question query) (sym (ap (drop 2) told.2)) told.4))
+  module _ (by : Vec ℕ Global) (named : AreAllNamed schema fields by.items) (o : Option Query) (is : IsReadAs (IsUnlisted schema (drop (2 * length by.items) fields)) o) where
+    pub no_groups : o ≡ None → (asked : Report) → IsReport schema fields asked → ⊥
+    no_groups at =
+        only_groups (λ query all told. none_is _ o is at query
+        (subst (λ (question : List Field). IsUnlisted schema question query)
+        (same_question schema fields by.items named all.items told.0 told.1 (λ at. by_begins schema told.0 query at told.4.0)) told.4))
 
-  pub groups_read : (o : Option Query) → IsReadAs (IsUnlisted schema (drop 2 fields)) o → (query : Query) → o ≡ Some query
-      → (by : ℕ) → Some by ≡ option_and_then (position_of schema.columns) (field_at fields 1) → IsReport schema fields (Groups query by)
-  groups_read o is query at by there = by_question schema fields word query by there (is_so _ o is query at)
-
-  module _ (again : get_or fields 2 [] ≡ codes "by") where
-    only_pairs : ((query : Query) (first second : ℕ) → IsReport schema fields (Pairs query first second) → ⊥) → (asked : Report) → IsReport schema fields asked → ⊥
-    only_pairs none (Groups query by) is = by_begins schema is.1 query (sym (ap (λ fs. get_or fs 2 []) is.2) ∙ again) is.4.0
-    only_pairs none (Pairs query first second) is = none query first second is
-    only_pairs none (Top end c most pred) is = not_by end (its_word schema fields (codes "by") word (Top end c most pred) is)
-    only_pairs none (Distinct c pred) is = cc (its_word schema fields (codes "by") word (Distinct c pred) is)
-    only_pairs none (Quantile share c pred) is = cc (its_word schema fields (codes "by") word (Quantile share c pred) is)
-
-    pub no_first : None ≡ option_and_then (position_of schema.columns) (field_at fields 1) → (asked : Report) → IsReport schema fields asked → ⊥
-    unfolding field_at
-    no_first none =
-        only_pairs (λ query first second is. none-some first (none ∙ ap (λ fs. option_and_then (position_of schema.columns) (field_at fs 1)) is.3 ∙ is.4))
-
-    pub no_second : None ≡ option_and_then (position_of schema.columns) (field_at fields 3) → (asked : Report) → IsReport schema fields asked → ⊥
-    unfolding field_at
-    no_second none =
-        only_pairs (λ query first second is. none-some second (none ∙ ap (λ fs. option_and_then (position_of schema.columns) (field_at fs 3)) is.3 ∙ is.5))
-
-    pub no_pairs : (o : Option Query) → IsReadAs (IsUnlisted schema (drop 4 fields)) o → o ≡ None → (asked : Report) → IsReport schema fields asked → ⊥
-    no_pairs o is at =
-        only_pairs (λ query first second told. none_is _ o is at query
-        (subst (λ (question : List Field). IsUnlisted schema question query) (sym (ap (drop 4) told.3)) told.6))
-
-    pub pairs_read : (o : Option Query) → IsReadAs (IsUnlisted schema (drop 4 fields)) o → (query : Query) → o ≡ Some query
-        → (first second : ℕ) → Some first ≡ option_and_then (position_of schema.columns) (field_at fields 1)
-        → Some second ≡ option_and_then (position_of schema.columns) (field_at fields 3) → IsReport schema fields (Pairs query first second)
-    pairs_read o is query at first second one two = by_two schema fields word again query first second one two (is_so _ o is query at)
+    pub groups_read : (query : Query) → o ≡ Some query → IsReport schema fields (Groups query by)
+    groups_read query at = (
+      drop (2 * length by.items) fields,
+      subst (AreNamed schema fields by.items) (others_behind schema fields by.items named.0 named.1) named.1,
+      some by.items named,
+      named.3,
+      is_so _ o is query at,
+    )
+      where
+        some : (bs : List ℕ) → AreAllNamed schema fields bs → 0 < length bs
+        some [] is = absurd (is.2 (ap (λ fs. get_or fs 0 []) (sym is.1) ∙ first_field fields (codes "by") word))
+        some (b ∷ bs) is = omega arith
 
 -- ---- first rows, and different numbers
 
@@ -252,7 +321,6 @@ module _ (schema : Declared) (fields : List Field) (end : End) (word : Some (end
 
   pub no_top : o ≡ None → (asked : Report) → IsReport schema fields asked → ⊥
   no_top none (Groups query by) is = not_by end (sym (its_word schema fields (end_word end) word (Groups query by) is))
-  no_top none (Pairs query first second) is = not_by end (sym (its_word schema fields (end_word end) word (Pairs query first second) is))
   no_top none (Top other c most pred) is =
       none_is _ o ranks none (c, most, pred)
       (subst (λ (rest : List Field). IsQuestion schema (codes "rank" ∷ rest) (record { total = Rank c most; pred = pred })) (sym (ap (drop 1) is.1)) is.2)
@@ -271,7 +339,6 @@ module _ (schema : Declared) (fields : List Field) (word : Some (codes "distinct
 
   pub none_distinct : o ≡ None → (asked : Report) → IsReport schema fields asked → ⊥
   none_distinct none (Groups query by) is = cc (its_word schema fields (codes "distinct") word (Groups query by) is)
-  none_distinct none (Pairs query first second) is = cc (its_word schema fields (codes "distinct") word (Pairs query first second) is)
   none_distinct none (Top end c most pred) is = not_distinct end (its_word schema fields (codes "distinct") word (Top end c most pred) is)
   none_distinct none (Distinct c pred) is =
       none_is _ o medians none (c, pred)
@@ -299,7 +366,6 @@ module _ (schema : Declared) (fields : List Field) (word : Some (codes "quantile
   only_quantiles : ((share : Share) (c : ℕ) (pred : Pred) → IsReport schema fields (Quantile share c pred) → ⊥)
       → (asked : Report) → IsReport schema fields asked → ⊥
   only_quantiles none (Groups query by) is = cc (its_word schema fields (codes "quantile") word (Groups query by) is)
-  only_quantiles none (Pairs query first second) is = cc (its_word schema fields (codes "quantile") word (Pairs query first second) is)
   only_quantiles none (Top end c most pred) is = not_quantile end (its_word schema fields (codes "quantile") word (Top end c most pred) is)
   only_quantiles none (Distinct c pred) is = apart (sym (its_word schema fields (codes "quantile") word (Distinct c pred) is))
   only_quantiles none (Quantile share c pred) is = none share c pred is

@@ -1,5 +1,5 @@
 -- The records that ask for a report.
-use Rattle.std.specs.Prelude.{◌≡◌, ◌≢◌, List, ◌∷◌, Option, Some, option_and_then, codes}
+use Rattle.std.specs.Prelude.{◌≡◌, ◌≢◌, ◌<◌, ◌≤◌, ℕ, List, [], ◌∷◌, Option, Some, length, option_and_then, codes, get_or}
 use Rattle.bsi_groups.specs.Quantiles.{share_of, Share}
 use Rattle.bsi_groups.specs.declared.tops.End.{End}
 use Rattle.bsi_groups.specs.declared.tops.End.TheVariants.{Greatest, Least}
@@ -9,7 +9,7 @@ use Rattle.bsi_rows.specs.declared.query.Query.{Query}
 use Rattle.bsi_rows.specs.declared.query.Total.TheVariants.{Median, Rank, Rows}
 use Rattle.bsi_schema.specs.Columns.{Declared, position_of}
 use Rattle.bsi_asks.specs.declared.reports.Report.{Report}
-use Rattle.bsi_asks.specs.declared.reports.Report.TheVariants.{Groups, Pairs, Top, Distinct, Quantile}
+use Rattle.bsi_asks.specs.declared.reports.Report.TheVariants.{Groups, Top, Distinct, Quantile}
 
 -- the word for the rows at an end
 abbrev pub end_word : End → Field
@@ -25,16 +25,28 @@ spelled_share part whole =
 abbrev pub IsUnlisted : Declared → List Field → Query → Type 0
 IsUnlisted schema question query = IsQuestion schema question query × (query.total ≢ Rows)
 
+-- the fields are these columns, each by its name behind the word, and then these others
+abbrev pub AreNamed : Declared → List Field → List ℕ → List Field → Type 0
+AreNamed schema fields [] others = fields ≡ others
+AreNamed schema fields (c ∷ by) others =
+    (name : Field) × (rest : List Field) × (fields ≡ codes "by" ∷ name ∷ rest) × (position_of schema.columns name ≡ Some c)
+    × AreNamed schema rest by others
+
+-- the most columns of groups
+abbrev pub max_group_columns : ℕ
+max_group_columns = 64
+
+-- these columns, as many as there may be, and then another word
+abbrev pub AreAllNamed : Declared → List Field → List ℕ → Type 0
+AreAllNamed schema fields by =
+    (others : List Field) × AreNamed schema fields by others × (get_or others 0 [] ≢ codes "by") × (length by ≤ max_group_columns)
+
 -- the record asks for this report
 abbrev pub IsReport : Declared → List Field → Report → Type 0
--- a column by its name, and a question that is no list
+-- one column or more, and a question that is no list
 IsReport schema fields (Groups query by) =
-    (name : Field) × (question : List Field) × (fields ≡ codes "by" ∷ name ∷ question)
-    × (position_of schema.columns name ≡ Some by) × IsUnlisted schema question query
--- two columns, each behind the word, and such a question
-IsReport schema fields (Pairs query first second) =
-    (one : Field) × (two : Field) × (question : List Field) × (fields ≡ codes "by" ∷ one ∷ codes "by" ∷ two ∷ question)
-    × (position_of schema.columns one ≡ Some first) × (position_of schema.columns two ≡ Some second) × IsUnlisted schema question query
+    (question : List Field) × AreNamed schema fields by.items question × (0 < length by.items)
+    × (length by.items ≤ max_group_columns) × IsUnlisted schema question query
 -- the fields of a rank: in place of its number, how many rows
 IsReport schema fields (Top end c most pred) =
     (rest : List Field) × (fields ≡ end_word end ∷ rest)

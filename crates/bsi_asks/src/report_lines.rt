@@ -1,15 +1,14 @@
 //! The lines that answer reports.
 
-ghost use Rattle.std.specs.Prelude.{◌≡◌, ◌<◌, ◌++◌, OnOk, Ok, Err, count_by, length, nat_eq};
+ghost use Rattle.std.specs.Prelude.{◌≡◌, ◌<◌, ◌++◌, OnOk, Ok, Err, length};
 ghost use Rattle.std.specs.List.{flat_map};
 ghost use Rattle.bsi_records.specs.Lines.{ask_line};
-ghost use Rattle.bsi_asks.specs.ReportLines.{count_line, entry_text, group_text, groups_line, pair_text, pairs_line, row_text, top_line, value_line, value_text, AreWithin, IsReportLine};
+ghost use Rattle.bsi_rows.specs.Rows.{feeders_of};
+ghost use Rattle.bsi_asks.specs.ReportLines.{count_line, entries_text, entry_text, group_text, groups_line, row_text, top_line, value_line, value_text, AreWithin, IsReportLine};
 
 use crate::NoMemory;
 use crate::reports::Report;
-use bsi_groups::{
-    Group, GroupError, PairGroup, TopRow, distinct, group_by, group_by_two, quantile, top,
-};
+use bsi_groups::{Group, GroupError, Groups, TopRow, distinct, group_by, quantile, top};
 use bsi_records::{write_bad, write_reply};
 use bsi_rows::{AskError, Reply};
 use bsi_table::{Answer, Index};
@@ -31,18 +30,12 @@ pub(crate) fn tell_report(
 {
     line.clear();
     match report {
-        Report::Groups(query, by) => match group_by(alloc, table, query, *by, MAX_GROUPS) {
+        Report::Groups(query, by) => match group_by(alloc, table, query, by, MAX_GROUPS) {
             Ok(groups) => write_groups(&groups, line),
             Err(refused) => write_no_groups(refused, line),
         },
-        Report::Pairs(query, first, second) => {
-            match group_by_two(alloc, table, query, [*first, *second], MAX_GROUPS) {
-                Ok(pairs) => write_pairs(&pairs, line),
-                Err(refused) => write_no_groups(refused, line),
-            }
-        }
         Report::Top(end, c, most, pred) => match top(alloc, table, *c, *most as usize, *end, pred) {
-            Ok(rows) => write_top(&rows, table.row_feeders(), line),
+            Ok(rows) => write_top(&rows, table, line),
             Err(refused) => write_refused(refused, line),
         },
         Report::Distinct(c, pred) => write_count(distinct(alloc, table, *c, pred), line),
@@ -78,27 +71,18 @@ fn write_found(found: Result<Option<i64>, AskError>, line: &mut Vec<u8>) -> Resu
 }
 
 /// Appends the line of groups.
-fn write_groups(groups: &[Group], line: &mut Vec<u8>) -> Result<(), NoMemory>
-    ensures { OnOk result (line.new.items ≡ line.old.items ++ groups_line (Ok groups.now)) }
+fn write_groups(groups: &Groups, line: &mut Vec<u8>) -> Result<(), NoMemory>
+    ensures { OnOk result (line.new.items
+        ≡ line.old.items ++ groups_line (Ok groups.now.groups)) }
 {
     line.extend_from_slice(b"groups")?;
     write_each_group(groups, line)?;
     line.extend_from_slice(b"\n")
 }
 
-/// Appends the line of groups by two columns.
-fn write_pairs(pairs: &[PairGroup], line: &mut Vec<u8>) -> Result<(), NoMemory>
-    ensures { OnOk result (line.new.items ≡ line.old.items ++ pairs_line (Ok pairs.now)) }
-{
-    line.extend_from_slice(b"groups")?;
-    write_each_pair(pairs, line)?;
-    line.extend_from_slice(b"\n")
-}
-
 /// Appends the line that tells why there are no groups.
 fn write_no_groups(refused: GroupError, line: &mut Vec<u8>) -> Result<(), NoMemory>
-    ensures groups { OnOk result (line.new.items ≡ line.old.items ++ groups_line (Err refused)) }
-    ensures pairs { OnOk result (line.new.items ≡ line.old.items ++ pairs_line (Err refused)) }
+    ensures { OnOk result (line.new.items ≡ line.old.items ++ groups_line (Err refused)) }
 {
     match refused {
         GroupError::TooMany => line.extend_from_slice(b"more than 65536 groups\n"),
@@ -108,48 +92,38 @@ fn write_no_groups(refused: GroupError, line: &mut Vec<u8>) -> Result<(), NoMemo
 }
 
 /// Appends groups, each with a space before it.
-fn write_each_group(groups: &[Group], line: &mut Vec<u8>) -> Result<(), NoMemory>
+fn write_each_group(groups: &Groups, line: &mut Vec<u8>) -> Result<(), NoMemory>
     ensures { OnOk result (line.new.items
-        ≡ line.old.items ++ flat_map group_text groups.now) }
+        ≡ line.old.items ++ flat_map group_text groups.now.groups) }
 {
-    'groups: for group in groups {
-        write_group(group, line)?;
+    'groups: for k in 0..groups.len() {
+        write_group(groups.get(k), line)?;
     }
     Ok(())
 }
 
-/// Appends a space, the entry of a group, and its answer.
-fn write_group(group: &Group, line: &mut Vec<u8>) -> Result<(), NoMemory>
-    ensures { OnOk result (line.new.items ≡ line.old.items ++ group_text group.now) }
+/// Appends a space, the entries of a group, and its answer.
+fn write_group(group: Group<'_>, line: &mut Vec<u8>) -> Result<(), NoMemory>
+    ensures { OnOk result (line.new.items ≡ line.old.items
+        ++ group_text (record { entries = group.entry.entries.now; answer = group.entry.answer.now })) }
 {
     line.extend_from_slice(b" ")?;
-    write_entry(group.entry, line)?;
+    write_entries(group.entries, line)?;
     line.extend_from_slice(b"=")?;
-    write_value(&group.answer, line)
+    write_value(group.answer, line)
 }
 
-/// Appends groups by two columns, each with a space before it.
-fn write_each_pair(pairs: &[PairGroup], line: &mut Vec<u8>) -> Result<(), NoMemory>
-    ensures { OnOk result (line.new.items
-        ≡ line.old.items ++ flat_map pair_text pairs.now) }
+/// Appends the entries of a group, with a colon between two.
+fn write_entries(entries: &[Option<i64>], line: &mut Vec<u8>) -> Result<(), NoMemory>
+    ensures { OnOk result (line.new.items ≡ line.old.items ++ entries_text entries.now) }
 {
-    'pairs: for pair in pairs {
-        write_pair(pair, line)?;
+    'entries: for (at, entry) in entries.iter().enumerate() {
+        if at > 0 {
+            line.extend_from_slice(b":")?;
+        }
+        write_entry(*entry, line)?;
     }
     Ok(())
-}
-
-/// Appends a space, the two entries of a group, and its answer.
-fn write_pair(pair: &PairGroup, line: &mut Vec<u8>) -> Result<(), NoMemory>
-    ensures { OnOk result (line.new.items ≡ line.old.items ++ pair_text pair.now) }
-{
-    let [first, second] = pair.entries;
-    line.extend_from_slice(b" ")?;
-    write_entry(first, line)?;
-    line.extend_from_slice(b":")?;
-    write_entry(second, line)?;
-    line.extend_from_slice(b"=")?;
-    write_value(&pair.answer, line)
 }
 
 /// Appends the entry of a group.
@@ -182,51 +156,39 @@ fn write_number<I: Integer>(number: I, line: &mut Vec<u8>) -> Result<(), NoMemor
     line.extend_from_slice(Buffer::new().format(number).as_bytes())
 }
 
-/// Appends the line of first rows, of rows that came from these feeders.
-fn write_top(rows: &[TopRow], feeders: &[u8], line: &mut Vec<u8>) -> Result<(), NoMemory>
-    requires { AreWithin (length feeders.now) rows.now }
-    ensures { OnOk result (line.new.items ≡ line.old.items ++ top_line feeders.now (Ok rows.now)) }
+/// Appends the line of first rows of an index.
+fn write_top(rows: &[TopRow], table: &Index, line: &mut Vec<u8>) -> Result<(), NoMemory>
+    requires { AreWithin (length table.now.rows) rows.now }
+    ensures { OnOk result (line.new.items
+        ≡ line.old.items ++ top_line (feeders_of table.now.rows) (Ok rows.now)) }
 {
     line.extend_from_slice(b"top")?;
-    write_each_row(rows, feeders, line)?;
+    write_each_row(rows, table, line)?;
     line.extend_from_slice(b"\n")
 }
 
-/// Appends rows, each with a space before it.
-fn write_each_row(rows: &[TopRow], feeders: &[u8], line: &mut Vec<u8>) -> Result<(), NoMemory>
-    requires { AreWithin (length feeders.now) rows.now }
+/// Appends rows of an index, each with a space before it.
+fn write_each_row(rows: &[TopRow], table: &Index, line: &mut Vec<u8>) -> Result<(), NoMemory>
+    requires { AreWithin (length table.now.rows) rows.now }
     ensures { OnOk result (line.new.items
-        ≡ line.old.items ++ flat_map (row_text feeders.now) rows.now) }
+        ≡ line.old.items ++ flat_map (row_text (feeders_of table.now.rows)) rows.now) }
 {
     'rows: for row in rows {
-        write_row(row, feeders, line)?;
+        write_row(row, table, line)?;
     }
     Ok(())
 }
 
 /// Appends a space, the feeder of a row, its number among that feeder's rows, and its number in the column.
-fn write_row(row: &TopRow, feeders: &[u8], line: &mut Vec<u8>) -> Result<(), NoMemory>
-    requires { row.now.row < length feeders.now }
-    ensures { OnOk result (line.new.items ≡ line.old.items ++ row_text feeders.now row.now) }
+fn write_row(row: &TopRow, table: &Index, line: &mut Vec<u8>) -> Result<(), NoMemory>
+    requires { row.now.row < length table.now.rows }
+    ensures { OnOk result (line.new.items
+        ≡ line.old.items ++ row_text (feeders_of table.now.rows) row.now) }
 {
-    let at = row.row as usize;
-    let feeder = feeders[at];
-    let before = count_rows_of(feeder, &feeders[..at]);
     line.extend_from_slice(b" ")?;
-    write_number(feeder, line)?;
+    write_number(table.row_feeders()[row.row as usize], line)?;
     line.extend_from_slice(b":")?;
-    write_number(before, line)?;
+    write_number(table.row_number(row.row), line)?;
     line.extend_from_slice(b"=")?;
     write_number(row.number, line)
-}
-
-/// Counts the rows of a feeder.
-fn count_rows_of(feeder: u8, feeders: &[u8]) -> u64
-    ensures { result ≡ count_by (λ row_feeder. nat_eq row_feeder feeder) feeders.now }
-{
-    let mut count = 0;
-    'rows: for row_feeder in feeders {
-        count += u64::from(*row_feeder == feeder);
-    }
-    count
 }

@@ -6,7 +6,7 @@ ghost use Rattle.csv.specs.Records.{field_at, fields_of, partial_of};
 ghost use Rattle.bsi_records.specs.Questions.{IsQuestion};
 ghost use Rattle.bsi_records.specs.Reading.{IsReadAs};
 ghost use Rattle.bsi_schema.specs.Columns.{position_of};
-ghost use Rattle.bsi_asks.specs.Reports.{end_word, spelled_share, IsReport, IsUnlisted};
+ghost use Rattle.bsi_asks.specs.Reports.{end_word, spelled_share, AreAllNamed, IsReport, IsUnlisted};
 
 use crate::NoMemory;
 use bsi_groups::{End, Share};
@@ -15,13 +15,14 @@ use bsi_rows::{Pred, Query, Schema, Total};
 use csv::ByteRecord;
 use std::alloc::Global;
 
+/// The most columns of groups.
+const MAX_GROUP_COLUMNS: usize = 64;
+
 /// What a report asks of an index.
 #[derive(Debug, Drop)]
 pub enum Report {
-    /// The total of a query over the rows of each entry of a column.
-    Groups(Query, u32),
-    /// The total of a query over the rows of each pair of entries of two columns, of which the first one orders first.
-    Pairs(Query, u32, u32),
+    /// The total of a query over the rows that have the same entries in some columns, of which the first one orders first.
+    Groups(Query, Vec<u32>),
     /// The rows that come first by their numbers in a column, at most so many of those that a predicate selects.
     Top(End, u32, u64, Pred),
     /// How many different numbers a column has at the rows that a predicate selects.
@@ -30,8 +31,8 @@ pub enum Report {
     Quantile(Share, u32, Pred),
 }
 
-/// Reads a record as a report: `by` and a column, once or twice, and a question that is no list; `top` or `bottom` and the fields of a rank
-/// behind its word; `distinct` and those of a median; or `quantile` and those of a median, with a part and a whole behind
+/// Reads a record as a report: `by` and a column, once or up to 64 times, and a question that is no list; `top` or
+/// `bottom` and the fields of a rank behind its word; `distinct` and those of a median; or `quantile` and those of a median, with a part and a whole behind
 /// the name, where the whole is at least 1 and the part no more than it. `None` stands for a record that is none of these.
 pub fn read_report(
     alloc: Global,
@@ -44,9 +45,6 @@ pub fn read_report(
         return Ok(None);
     };
     if word == b"by".as_slice() {
-        if field(fields, 2) == b"by".as_slice() {
-            return read_pairs(alloc, schema, fields);
-        }
         return read_groups(alloc, schema, fields);
     }
     if word == b"top".as_slice() {
@@ -64,45 +62,48 @@ pub fn read_report(
     Ok(None)
 }
 
-/// Reads a record that begins with `by` and has no other one behind the name.
+/// Reads a record that begins with `by`.
 fn read_groups(
     alloc: Global,
     schema: &Schema,
     fields: &ByteRecord,
 ) -> Result<Option<Report>, NoMemory>
-    requires word { Some (codes "by") ≡ field_at (fields_of fields.now) 0 }
-    requires alone { get_or (fields_of fields.now) 2 [] ≢ codes "by" }
+    requires { Some (codes "by") ≡ field_at (fields_of fields.now) 0 }
     ensures { IfOk result (IsReadAs (IsReport schema.now (fields_of fields.now))) }
 {
-    let Some(by) = read_column(schema, fields, 1) else {
+    let Some(by) = read_columns(alloc, schema, fields)? else {
         return Ok(None);
     };
-    let Some(query) = read_unlisted(alloc, schema, fields, 2)? else {
+    let Some(query) = read_unlisted(alloc, schema, fields, 2 * by.len())? else {
         return Ok(None);
     };
     Ok(Some(Report::Groups(query, by)))
 }
 
-/// Reads a record that begins with `by` and has another one behind the name.
-fn read_pairs(
+/// Reads the columns with whose names a record begins, at most 64, each behind a field `by`, until another field stands
+/// in its place.
+fn read_columns(
     alloc: Global,
     schema: &Schema,
     fields: &ByteRecord,
-) -> Result<Option<Report>, NoMemory>
-    requires word { Some (codes "by") ≡ field_at (fields_of fields.now) 0 }
-    requires again { get_or (fields_of fields.now) 2 [] ≡ codes "by" }
-    ensures { IfOk result (IsReadAs (IsReport schema.now (fields_of fields.now))) }
+) -> Result<Option<Vec<u32>>, NoMemory>
+    ensures { IfOk result (IsReadAs (λ by. AreAllNamed schema.now (fields_of fields.now) by.items)) }
 {
-    let Some(first) = read_column(schema, fields, 1) else {
-        return Ok(None);
-    };
-    let Some(second) = read_column(schema, fields, 3) else {
-        return Ok(None);
-    };
-    let Some(query) = read_unlisted(alloc, schema, fields, 4)? else {
-        return Ok(None);
-    };
-    Ok(Some(Report::Pairs(query, first, second)))
+    let mut by = Vec::new(alloc);
+    'columns: for _ in 0..fields.len() {
+        let at = 2 * by.len();
+        if field(fields, at) != b"by".as_slice() {
+            return Ok(Some(by));
+        }
+        if by.len() == MAX_GROUP_COLUMNS {
+            return Ok(None);
+        }
+        let Some(c) = read_column(schema, fields, at + 1) else {
+            return Ok(None);
+        };
+        by.push(c)?;
+    }
+    Ok(Some(by))
 }
 
 /// Reads a record that begins with the word of the rows at this end.

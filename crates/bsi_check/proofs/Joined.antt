@@ -1,61 +1,54 @@
--- Lists that are made element by element, and the lines of row files.
-use Rattle.std.proofs.Common.{◌≡◌, suc, Bool, true, false, ◌&&◌, List, [], ◌∷◌, ◌++◌, length, map, refl, ap, sym, ◌∙◌, subst, arith}
+-- Row files that are checked one after another.
+use Rattle.std.proofs.Common.{◌≡◌, ℕ, suc, List, [], ◌∷◌, ◌++◌, length, Option, refl, ap, sym, ◌∙◌, subst}
 use Rattle.std.specs.List.{list_all}
-use Rattle.std.proofs.lemmas.List.{append-nil}
-use Rattle.std.proofs.lemmas.List.Folds.{list_all-append}
-use Rattle.bsi_check.specs.Reports.{AreMatched}
+use Rattle.std.proofs.lemmas.List.{append-nil, append_assoc}
+use Rattle.bsi_schema.specs.Columns.{Declared}
+use Rattle.bsi_check.specs.Checks.{is_clean}
+use Rattle.bsi_check.specs.Reasons.{TellsUnless}
+use Rattle.bsi_check.specs.Reports.{AreAdded, IsFileFound}
+use Rattle.bsi_check.specs.declared.found.FileFound.{FileFound}
+use Rattle.bsi_check.specs.declared.named.NamedFile.{NamedFile}
+use Rattle.bsi_check.proofs.Telling.{file_told, tells_both}
 
-push_assoc : {X : Type 0} (xs : List X) (x : X) (ys : List X) → (xs ++ x ∷ []) ++ ys ≡ xs ++ x ∷ ys
-push_assoc [] x ys = refl
-push_assoc (z ∷ xs) x ys = ap (λ zs. z ∷ zs) (push_assoc xs x ys)
-
-matched_push : {A B : Type 0} (Is : A → B → Type 0) (xs : List A) (ys : List B) (x : A) (y : B) → AreMatched Is xs ys → Is x y → AreMatched Is (xs ++ x ∷ []) (ys ++ y ∷ [])
-matched_push Is [] [] x y are is = (is, tt)
-matched_push Is [] (b ∷ ys) x y are is = absurd are
-matched_push Is (a ∷ xs) [] x y are is = absurd are
-matched_push Is (a ∷ xs) (b ∷ ys) x y are is = (are.0, matched_push Is xs ys x y are.1 is)
+added_push : {A B : Type 0} (Adds : A → B → List ℕ → List ℕ → Type 0) (xs : List A) (ys : List B) (x : A) (y : B) (a b c : List ℕ)
+    → AreAdded Adds xs ys a b → Adds x y b c → AreAdded Adds (xs ++ x ∷ []) (ys ++ y ∷ []) a c
+added_push Adds [] [] x y a b c are is = (c, subst (λ z. Adds x y z c) are is, refl)
+added_push Adds [] (q ∷ ys) x y a b c are is = absurd are
+added_push Adds (p ∷ xs) [] x y a b c are is = absurd are
+added_push Adds (p ∷ xs) (q ∷ ys) x y a b c are is = (are.0, are.1, added_push Adds xs ys x y are.0 b c are.2 is)
 
 -- the first elements were done, and these are left
-pub record HasMatched {A B : Type 0} (Is : A → B → Type 0) (all left : List A) (ys : List B) : Type 0 where
+pub record HasAdded {A B : Type 0} (Adds : A → B → List ℕ → List ℕ → Type 0) (all left : List A) (ys : List B) (before now : List ℕ) : Type 0 where
   pub done : List A
   pub parts : all ≡ done ++ left
-  pub matched : AreMatched Is done ys
+  pub added : AreAdded Adds done ys before now
 
-module _ {A B : Type 0} {Is : A → B → Type 0} {all left : List A} {ys : List B} where
-  pub matched_none : left ≡ all → ys ≡ [] → HasMatched Is all left ys
-  matched_none same none = record { done = []; parts = sym same; matched = subst (λ zs. AreMatched Is [] zs) (sym none) tt }
+module _ {A B : Type 0} {Adds : A → B → List ℕ → List ℕ → Type 0} {all left : List A} {ys : List B} where
+  pub added_none : (bytes : List ℕ) → left ≡ all → ys ≡ [] → HasAdded Adds all left ys bytes bytes
+  added_none bytes same none = record { done = []; parts = sym same; added = subst (λ zs. AreAdded Adds [] zs bytes bytes) (sym none) refl }
 
-  pub matched_more : (x : A) (rest : List A) (y : B) (more : List B) → HasMatched Is all left ys → left ≡ x ∷ rest → more ≡ ys ++ y ∷ [] → Is x y
-      → HasMatched Is all rest more
-  matched_more x rest y more has is pushed one = record {
+  pub added_more : (x : A) (rest : List A) (y : B) (more : List B) (a b c : List ℕ) → HasAdded Adds all left ys a b → left ≡ x ∷ rest → more ≡ ys ++ y ∷ [] → Adds x y b c
+      → HasAdded Adds all rest more a c
+  added_more x rest y more a b c has is pushed one = record {
     done = has.done ++ x ∷ [];
-    parts = has.parts ∙ (ap (λ xs. has.done ++ xs) is ∙ sym (push_assoc has.done x rest));
-    matched = subst (λ zs. AreMatched Is (has.done ++ x ∷ []) zs) (sym pushed) (matched_push Is has.done ys x y has.matched one);
+    parts = has.parts ∙ (ap (λ xs. has.done ++ xs) is ∙ sym (append_assoc has.done (x ∷ []) rest));
+    added = subst (λ zs. AreAdded Adds (has.done ++ x ∷ []) zs a c) (sym pushed) (added_push Adds has.done ys x y a b c has.added one);
   }
 
-  pub matched_all : HasMatched Is all left ys → left ≡ [] → AreMatched Is all ys
-  matched_all has none = subst (λ xs. AreMatched Is xs ys) (sym (has.parts ∙ (ap (λ xs. has.done ++ xs) none ∙ append-nil has.done))) has.matched
+  pub added_all : (a b : List ℕ) → HasAdded Adds all left ys a b → left ≡ [] → AreAdded Adds all ys a b
+  added_all a b has none = subst (λ xs. AreAdded Adds xs ys a b) (sym (has.parts ∙ (ap (λ xs. has.done ++ xs) none ∙ append-nil has.done))) has.added
 
-pub emptied : {X : Type 0} (xs : List X) → length xs ≡ 0 → xs ≡ []
-emptied [] none = refl
-emptied (x ∷ xs) none = absurd (omega arith)
+pub added_long : {A B : Type 0} (Adds : A → B → List ℕ → List ℕ → Type 0) (xs : List A) (ys : List B) (a b : List ℕ) → AreAdded Adds xs ys a b → length ys ≡ length xs
+added_long Adds [] [] a b are = refl
+added_long Adds [] (y ∷ ys) a b are = absurd are
+added_long Adds (x ∷ xs) [] a b are = absurd are
+added_long Adds (x ∷ xs) (y ∷ ys) a b are = ap (λ n. suc n) (added_long Adds xs ys are.0 b are.2)
 
--- of readers, to the texts that they give
-pub matched_map : {A B C : Type 0} (f : A → C) (Is : C → B → Type 0) (xs : List A) (ys : List B) → AreMatched (λ x y. Is (f x) y) xs ys → AreMatched Is (map f xs) ys
-matched_map f Is [] [] are = tt
-matched_map f Is [] (y ∷ ys) are = absurd are
-matched_map f Is (x ∷ xs) [] are = absurd are
-matched_map f Is (x ∷ xs) (y ∷ ys) are = (are.0, matched_map f Is xs ys are.1)
-
-pub matched_long : {A B : Type 0} (Is : A → B → Type 0) (xs : List A) (ys : List B) → AreMatched Is xs ys → length ys ≡ length xs
-matched_long Is [] [] are = refl
-matched_long Is [] (y ∷ ys) are = absurd are
-matched_long Is (x ∷ xs) [] are = absurd are
-matched_long Is (x ∷ xs) (y ∷ ys) are = ap (λ n. suc n) (matched_long Is xs ys are.1)
-
-pub list_all_push : {X : Type 0} (p : X → Bool) (xs : List X) (x : X) (more : List X) → more ≡ xs ++ x ∷ [] → list_all p more ≡ (list_all p xs && p x)
-list_all_push p xs x more is = ap (list_all p) is ∙ (list_all-append p xs (x ∷ []) ∙ ap (λ b. list_all p xs && b) (one (p x)))
-  where
-    one : (b : Bool) → (b && true) ≡ b
-    one true = refl
-    one false = refl
+-- reasons are told just where a row file is not good
+pub files_told : {S : Type 0} (rem : S → Option (List ℕ)) (schema : Declared) (rows : List (NamedFile S)) (files : List FileFound) (a b : List ℕ)
+    → AreAdded (IsFileFound rem schema) rows files a b → TellsUnless (list_all is_clean files) a b
+files_told rem schema [] [] a b are = are
+files_told rem schema [] (file ∷ files) a b are = absurd are
+files_told rem schema (named ∷ rows) [] a b are = absurd are
+files_told rem schema (named ∷ rows) (file ∷ files) a b are =
+    tells_both (is_clean file) (list_all is_clean files) a are.0 b (file_told named.path.now file a are.0 are.1.1) (files_told rem schema rows files are.0 b are.2)

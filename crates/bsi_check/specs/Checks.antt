@@ -1,5 +1,5 @@
--- What a check finds of the files of a run, and when it tells reasons.
-use Rattle.std.specs.Prelude.{◌≡◌, ⊤, ◌⊎◌, ℕ, ◌+◌, ◌<◌, ◌≤◌, Bool, true, false, nat_eq, List, [], ◌∷◌, length, Option, None, Some, IfSome}
+-- What a check finds of the row files and the asks of a run.
+use Rattle.std.specs.Prelude.{◌≡◌, ⊤, ◌⊎◌, ℕ, ◌+◌, ◌≤◌, Bool, true, false, nat_eq, List, [], ◌∷◌, length, Option}
 use Rattle.csv.specs.Reading.{strip_bom}
 use Rattle.csv.specs.declared.parser.State.{State}
 use Rattle.csv.specs.declared.reader.Reader.{Reader}
@@ -9,24 +9,14 @@ use Rattle.bsi_rows.specs.Rows.{Entries}
 use Rattle.bsi_rows.specs.declared.query.Query.{Query}
 use Rattle.bsi_schema.specs.Columns.{Declared}
 use Rattle.bsi_reading.specs.RowFiles.{is_header}
-use Rattle.bsi_reading.specs.SchemaTexts.{IsSchemaFault, IsSchemaText}
 use Rattle.bsi_reading.specs.Sources.{counts_of, max_records, HasNext, HasNoHeader, HasRead, HasTaken, IsOver, IsWholeFile, Layout}
 use Rattle.bsi_reading.specs.Texts.{AreAllRecords, AreFirstRecords, AreTooMany}
 use Rattle.bsi_reading.specs.declared.rows.SourceFault.TheVariants as source
-use Rattle.bsi_reading.specs.declared.schema_text.SchemaFault.{SchemaFault}
-use Rattle.bsi_records.specs.declared.setups.DeclaredTable.{DeclaredTable}
 use Rattle.bsi_check.specs.declared.found.AsksFound.{AsksFound}
 use Rattle.bsi_check.specs.declared.found.AsksFound.TheVariants as asks
 use Rattle.bsi_check.specs.declared.found.FileCounts.{FileCounts}
 use Rattle.bsi_check.specs.declared.found.FileFound.{FileFound}
 use Rattle.bsi_check.specs.declared.found.FileFound.TheVariants.{Counted, NoHeader, Unread}
-
--- ---- reasons
-
--- reasons were added to a text just where this is not so
-abbrev pub TellsUnless : Bool → List ℕ → List ℕ → Type 0
-TellsUnless true before after = after ≡ before
-TellsUnless false before after = length before < length after
 
 -- ---- a row file
 
@@ -67,26 +57,19 @@ pub record IsTooLongFile (schema : Declared) (text : List ℕ) : Type 0 where
   pub first : AreFirstRecords text (header ∷ records) state rest
   pub too_long : AreTooMany records state rest
 
--- what is found of a row file of this text; a fault that is of the reader or of memory says nothing of the text
+-- what is found of a row file of this text; a fault of the reader says nothing of the text
 abbrev pub IsFound : Declared → FileFound → List ℕ → Type 0
 IsFound schema (Counted counts) text = IsCounted schema counts text
 IsFound schema NoHeader text = HasNoHeader schema (strip_bom text)
 IsFound schema (Unread source.TooLong) text = IsTooLongFile schema text
-IsFound schema (Unread source.BadHeader) text = ⊥
-IsFound schema (Unread fault) text = ⊤
+IsFound schema (Unread source.Read) text = ⊤
+IsFound schema (Unread fault) text = ⊥
 
 -- all its records are good
 abbrev pub is_clean : FileFound → Bool
 is_clean (Counted counts) = nat_eq counts.bad 0
 is_clean NoHeader = false
 is_clean (Unread fault) = false
-
--- ---- the schema
-
--- what is found of a schema file of this text: what it declares, or why it declares no schema
-abbrev pub IsSchemaFound : Option DeclaredTable → List ℕ → Type 0
-IsSchemaFound (Some table) text = IsSchemaText text table.schema table.limit
-IsSchemaFound None text = (fault : SchemaFault) × IsSchemaFault text fault
 
 -- ---- the asks
 
@@ -125,17 +108,12 @@ pub record AreTooManyAsks (text : List ℕ) : Type 0 where
   pub first : AreFirstRecords text records state rest
   pub too_long : AreTooMany records state rest
 
--- what is found of the asks of this text; a fault that is of the reader or of memory says nothing of the text
+-- what is found of the asks of this text; a fault of the reader says nothing of the text
 abbrev pub IsAsksFound : Declared → AsksFound → List ℕ → Type 0
 IsAsksFound schema (asks.Counted bad) text = AreCountedAsks schema bad text
 IsAsksFound schema (asks.Unread source.TooLong) text = AreTooManyAsks text
-IsAsksFound schema (asks.Unread source.BadHeader) text = ⊥
-IsAsksFound schema (asks.Unread fault) text = ⊤
-
--- what is found of the asks, if they are given, of which the bytes may be unknown; where none are given, none is bad
-abbrev pub AreAsksFound : Declared → Option (Option (List ℕ)) → AsksFound → Type 0
-AreAsksFound schema None found = found ≡ asks.Counted 0
-AreAsksFound schema (Some text) found = IfSome text (IsAsksFound schema found)
+IsAsksFound schema (asks.Unread source.Read) text = ⊤
+IsAsksFound schema (asks.Unread fault) text = ⊥
 
 -- the asks were read to their end, and none is bad
 abbrev pub has_good_asks : AsksFound → Bool

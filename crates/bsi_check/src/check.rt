@@ -1,10 +1,9 @@
 //! The check of all files of a run.
 
-ghost use Rattle.std.specs.Prelude.{◌≡◌, ◌≤◌, ◌++◌, Err, length, map, nat_le, option_map, sum, IfOk, IfSome, OnOk};
-ghost use Rattle.std.specs.List.{list_all};
+ghost use Rattle.std.specs.Prelude.{◌≡◌, ◌≤◌, ◌++◌, Err, length, map, nat_le, sum, IfOk, OnOk};
 ghost use Rattle.bsi_rows.specs.Table.{max_feeders};
-ghost use Rattle.bsi_check.specs.Checks.{has_good_asks, is_clean, AreAsksFound, IsFound, TellsUnless};
-ghost use Rattle.bsi_check.specs.Reports.{fed_text, good_rows, line_of, text_of, AreMatched, HasBegunReport, HasReported, IsReport};
+ghost use Rattle.bsi_check.specs.Reasons.{TellsOneUnless};
+ghost use Rattle.bsi_check.specs.Reports.{fed_text, good_rows, line_of, AreAdded, AreAsksFound, HasBegunReport, HasReported, IsFileFound, IsReport};
 
 use crate::NoMemory;
 use crate::asks::check_asks;
@@ -41,14 +40,10 @@ pub fn check_files<'a, S: Read + Drop, W: Write>(
     rows: Vec<NamedFile<'a, S>>,
     output: &mut W,
 ) -> Result<bool, CheckFault>
-    ensures reported { IfOk result (HasReported (text_of S.remaining schema.entry)
-        (map (text_of S.remaining) rows.entry.items)
-        (option_map (text_of S.remaining) asks.entry)
+    ensures reported { IfOk result (HasReported S.remaining schema.entry rows.entry.items asks.entry
         (W.contents output.old) (W.contents output.new)) }
     ensures part { result ≡ Err CheckFault.Write →
-        HasBegunReport (text_of S.remaining schema.entry)
-        (map (text_of S.remaining) rows.entry.items)
-        (option_map (text_of S.remaining) asks.entry)
+        HasBegunReport S.remaining schema.entry rows.entry.items asks.entry
         (W.contents output.old) (W.contents output.new) }
     ensures quiet { result ≡ Err CheckFault.NoMemory →
         W.contents output.new ≡ W.contents output.old }
@@ -66,8 +61,7 @@ fn report_on<'a, S: Read + Drop>(
     asks: Option<NamedFile<'a, S>>,
     rows: Vec<NamedFile<'a, S>>,
 ) -> Result<Report, NoMemory>
-    ensures { IfOk result (λ report. IsReport (text_of S.remaining schema.entry)
-        (map (text_of S.remaining) rows.entry.items) (option_map (text_of S.remaining) asks.entry)
+    ensures { IfOk result (λ report. IsReport S.remaining schema.entry rows.entry.items asks.entry
         report.reasons.items report.fed.items) }
 {
     let mut reasons = Vec::new(alloc);
@@ -94,10 +88,8 @@ fn check_each<'a, S: Read + Drop>(
     rows: Vec<NamedFile<'a, S>>,
     reasons: &mut Vec<u8>,
 ) -> Result<Vec<FileFound>, NoMemory>
-    ensures found { IfOk result (λ files. AreMatched (λ named file.
-        IfSome (text_of S.remaining named) (IsFound schema.now file)) rows.entry.items files.items) }
-    ensures told { IfOk result (λ files.
-        TellsUnless (list_all is_clean files.items) reasons.old.items reasons.new.items) }
+    ensures { IfOk result (λ files. AreAdded (IsFileFound S.remaining schema.now)
+        rows.entry.items files.items reasons.old.items reasons.new.items) }
 {
     let mut files = Vec::with_capacity(alloc, rows.len())?;
     'files: for named in rows {
@@ -117,7 +109,7 @@ fn check_limit(
     reasons: &mut Vec<u8>,
 ) -> Result<(), NoMemory>
     requires few { length files.now ≤ max_feeders }
-    ensures { OnOk result (TellsUnless (nat_le (sum (map good_rows files.now)) limit)
+    ensures { OnOk result (TellsOneUnless (nat_le (sum (map good_rows files.now)) limit) path.now
         reasons.old.items reasons.new.items) }
 {
     let good = count_good(files);
@@ -147,10 +139,8 @@ fn check_given<'a, S: Read + Drop>(
     asks: Option<NamedFile<'a, S>>,
     reasons: &mut Vec<u8>,
 ) -> Result<AsksFound, NoMemory>
-    ensures found { IfOk result (λ found.
-        AreAsksFound schema.now (option_map (text_of S.remaining) asks.entry) found) }
-    ensures told { IfOk result (λ found.
-        TellsUnless (has_good_asks found) reasons.old.items reasons.new.items) }
+    ensures { IfOk result (λ found. AreAsksFound S.remaining schema.now asks.entry found
+        reasons.old.items reasons.new.items) }
 {
     match asks {
         Some(NamedFile { path, reader }) => check_asks(alloc, schema, path, reader, reasons),

@@ -1,13 +1,25 @@
 //! The lines of reasons.
-ghost use Rattle.std.specs.Prelude.{◌<◌, length, OnOk};
+ghost use Rattle.std.specs.Prelude.{◌∷◌, ◌++◌, [], codes, OnOk};
+ghost use Rattle.bsi_check.specs.Reasons.{HasTold, HasToldOne};
 
 use crate::NoMemory;
-use bsi_reasons::count_line_feeds;
+use bsi_reasons::{count_line_feeds, count_lone_returns};
 use csv::{ByteRecord, Position};
 use std::alloc::Global;
 
 /// The most reasons that are told of one file.
 pub(crate) const MAX_TOLD: u64 = 100;
+
+/// Adds the line of a reason: the path of its file, a colon, and what is wrong.
+fn tell_why(reasons: &mut Vec<u8>, path: &str, why: &str) -> Result<(), NoMemory>
+    ensures { OnOk result
+        (HasTold path.now (why.now ∷ []) reasons.old.items reasons.new.items) }
+{
+    reasons.extend_from_slice(path.as_bytes())?;
+    reasons.extend_from_slice(b":")?;
+    reasons.extend_from_slice(why.as_bytes())?;
+    reasons.extend_from_slice(b"\n")
+}
 
 /// Adds the line of a reason that is about a whole file.
 pub(crate) fn tell(
@@ -16,11 +28,11 @@ pub(crate) fn tell(
     path: &str,
     text: &str,
 ) -> Result<(), NoMemory>
-    ensures { OnOk result (length reasons.old.items < length reasons.new.items) }
+    ensures { OnOk result
+        (HasTold path.now ((codes " " ++ text.now) ∷ []) reasons.old.items reasons.new.items) }
 {
-    let line = format!(in alloc; "{path}: {text}")?;
-    reasons.extend_from_slice(line.as_bytes())?;
-    reasons.extend_from_slice(b"\n")
+    let why = format!(in alloc; " {text}")?;
+    tell_why(reasons, path, why.as_str())
 }
 
 /// Adds the line of a reason that is about a line of a file.
@@ -31,11 +43,10 @@ pub(crate) fn tell_at(
     at: u64,
     text: &str,
 ) -> Result<(), NoMemory>
-    ensures { OnOk result (length reasons.old.items < length reasons.new.items) }
+    ensures { OnOk result (HasToldOne path.now reasons.old.items reasons.new.items) }
 {
-    let line = format!(in alloc; "{path}:{at}: {text}")?;
-    reasons.extend_from_slice(line.as_bytes())?;
-    reasons.extend_from_slice(b"\n")
+    let why = format!(in alloc; "{at}: {text}")?;
+    tell_why(reasons, path, why.as_str())
 }
 
 /// Adds the line that says how many more bad records there are than are told.
@@ -45,40 +56,84 @@ pub(crate) fn tell_more(
     path: &str,
     bad: u64,
 ) -> Result<(), NoMemory>
-    ensures { OnOk result (length reasons.old.items < length reasons.new.items) }
+    ensures { OnOk result (HasToldOne path.now reasons.old.items reasons.new.items) }
 {
     let more = bad.saturating_sub(MAX_TOLD);
-    let text = format!(in alloc; "and {more} more bad records")?;
-    tell(alloc, reasons, path, text.as_str())
+    let why = format!(in alloc; " and {more} more bad records")?;
+    tell_why(reasons, path, why.as_str())
 }
 
-/// Where the lines of a file end, as its first record tells: a reader counts a line feed that follows a carriage return
-/// as a part of the next record.
+/// What ends the lines of a file.
+#[derive(Clone, Copy, PartialEq, Eq)]
+enum LineEnd {
+    /// It is not known before the first record.
+    Unknown,
+    /// A line feed.
+    Feed,
+    /// A carriage return; whether a line feed follows it is not known before the second record.
+    Return,
+    /// A carriage return and a line feed.
+    ReturnFeed,
+    /// A lone carriage return.
+    LoneReturn,
+}
+
+/// The lines at which the records of a file begin. A reader counts line feeds alone, one that follows a carriage return
+/// as a part of the next record; so the first two records tell what ends the lines. An empty line that a lone carriage
+/// return ends is not counted.
 #[derive(Clone, Copy)]
-pub(crate) struct LineEnds {
-    returns: bool,
+pub(crate) struct Lines {
+    end: LineEnd,
+    // The lone carriage returns before the record that was taken last, and those up to its end.
+    before: u64,
+    after: u64,
 }
 
-impl LineEnds {
-    /// Returns how the lines of a file end, by its first record and by where the reader stands after it.
-    pub(crate) fn of(first: &ByteRecord, after: Position) -> LineEnds {
-        let inside = count_line_feeds(first.as_slice());
-        let before = first.position().unwrap_or(after).line;
-        LineEnds {
-            returns: after.line <= before.saturating_add(inside),
+impl Lines {
+    /// Makes the lines of a file of which no record was taken.
+    pub(crate) fn new() -> Lines {
+        Lines {
+            end: LineEnd::Unknown,
+            before: 0,
+            after: 0,
         }
     }
 
-    /// Returns the line at which a record begins, from 1, by where the reader stands after it. It is one too low for a
-    /// last record that no line end follows, if empty lines stand before it.
-    pub(crate) fn line_of(self, record: &ByteRecord, after: Position) -> u64 {
+    /// Takes a record, by where the reader stands after it.
+    pub(crate) fn take(&mut self, record: &ByteRecord, after: Position) {
+        self.end = match self.end {
+            LineEnd::Unknown if has_feed_outside(record, after) => LineEnd::Feed,
+            LineEnd::Unknown => LineEnd::Return,
+            LineEnd::Return if has_feed_outside(record, after) => LineEnd::ReturnFeed,
+            LineEnd::Return => LineEnd::LoneReturn,
+            known => known,
+        };
+        if self.end == LineEnd::Feed || self.end == LineEnd::ReturnFeed {
+            self.before = 0;
+            return;
+        }
+        let inside = count_lone_returns(record.as_slice());
+        self.before = self.after;
+        self.after = self.after.saturating_add(inside).saturating_add(1);
+    }
+
+    /// Returns the line at which the record begins that was taken last, from 1, by where the reader stands after it. It
+    /// is one too low for a last record that no line end follows, if empty lines stand before it.
+    pub(crate) fn line_of(&self, record: &ByteRecord, after: Position) -> u64 {
         let inside = count_line_feeds(record.as_slice());
         let end = after.line.saturating_sub(inside);
-        if self.returns {
-            return end;
+        if self.end != LineEnd::Feed {
+            return end.saturating_add(self.before);
         }
         // The last record may have no line feed behind it.
         let before = record.position().unwrap_or(after).line;
         end.saturating_sub(1).max(before)
     }
+}
+
+/// Returns whether a reader met a line feed as it read a record that is no part of a field.
+fn has_feed_outside(record: &ByteRecord, after: Position) -> bool {
+    let inside = count_line_feeds(record.as_slice());
+    let before = record.position().unwrap_or(after).line;
+    after.line > before.saturating_add(inside)
 }

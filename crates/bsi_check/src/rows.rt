@@ -1,17 +1,18 @@
 //! The check of a row file.
 
-ghost use Rattle.std.specs.Prelude.{◌≡◌, ◌≢◌, ◌<◌, ◌≤◌, is_some, length, nat_eq, IfErr, IfOk, IfSome, OnOk};
+ghost use Rattle.std.specs.Prelude.{◌≡◌, ◌≢◌, ◌∷◌, [], is_some, IfErr, IfOk, IfSome, OnOk};
 ghost use Rattle.csv.specs.Reading.{reader_state, source_of};
 ghost use Rattle.csv.specs.Records.{fields_of};
 ghost use Rattle.csv.specs.declared.parser.State.TheVariants as st;
 ghost use Rattle.bsi_reading.specs.RowFiles.{good_row};
 ghost use Rattle.bsi_reading.specs.Sources.{IsPlain};
 ghost use Rattle.bsi_reading.specs.Texts.{FromText};
-ghost use Rattle.bsi_check.specs.Checks.{is_clean, HasCounted, HasTooMany, IsFound, IsTooLongFile, TellsUnless};
+ghost use Rattle.bsi_check.specs.Checks.{HasCounted, HasTooMany, IsFound, IsTooLongFile};
+ghost use Rattle.bsi_check.specs.Reasons.{fault_why, HasTold, HasToldOne, HasToldSome, TellsBad, TellsFile, TellsFirst};
 
 use crate::NoMemory;
 use crate::found::{FileCounts, FileFound};
-use crate::lines::{LineEnds, MAX_TOLD, tell, tell_at, tell_more};
+use crate::lines::{Lines, MAX_TOLD, tell, tell_at, tell_more};
 use bsi_reading::{Layout, MAX_RECORDS, SourceFault, is_good_header, plain_reader, read_next};
 use bsi_reasons::{why_bad_record, why_no_header};
 use bsi_rows::Row;
@@ -31,7 +32,7 @@ pub(crate) fn check_rows<I: Read + Drop>(
 ) -> Result<FileFound, NoMemory>
     ensures found { IfOk result (λ found. IfSome (I.remaining file) (IsFound schema.now found)) }
     ensures told { IfOk result (λ found.
-        TellsUnless (is_clean found) reasons.old.items reasons.new.items) }
+        TellsFile path.now found reasons.old.items reasons.new.items) }
 {
     let mut input = plain_reader(alloc, file);
     match check_input(alloc, schema, path, &mut input, reasons) {
@@ -53,9 +54,9 @@ fn check_input<I: Read + Drop>(
     ensures found { IfOk result (λ found. FromText (source_of I.remaining input.old)
         (IsFound schema.now found)) }
     ensures told { IfOk result (λ found.
-        TellsUnless (is_clean found) reasons.old.items reasons.new.items) }
+        TellsFile path.now found reasons.old.items reasons.new.items) }
     ensures kept { IfErr result (λ fault. fault ≢ SourceFault.NoMemory →
-        length reasons.old.items ≤ length reasons.new.items) }
+        HasToldSome path.now reasons.old.items reasons.new.items) }
     ensures later { IfErr result (λ fault. fault ≢ SourceFault.BadHeader) }
     ensures too_long { IfErr result (λ fault. fault ≡ SourceFault.TooLong →
         FromText (source_of I.remaining input.old) (IsTooLongFile schema.now)) }
@@ -65,14 +66,15 @@ fn check_input<I: Read + Drop>(
         tell(alloc, reasons, path, "is empty: it has no header")?;
         return Ok(FileFound::NoHeader);
     }
-    let ends = LineEnds::of(&header, input.position());
+    let mut lines = Lines::new();
+    lines.take(&header, input.position());
     if !is_good_header(schema, &header) {
-        let line = ends.line_of(&header, input.position());
+        let line = lines.line_of(&header, input.position());
         tell_header(alloc, schema, path, line, &header, reasons)?;
         return Ok(FileFound::NoHeader);
     }
     let layout = Layout::of_header(alloc, schema, header)?;
-    let counts = check_records(alloc, &layout, ends, path, input, reasons)?;
+    let counts = check_records(alloc, &layout, lines, path, input, reasons)?;
     Ok(FileFound::Counted(counts))
 }
 
@@ -85,9 +87,9 @@ fn tell_header(
     header: &ByteRecord,
     reasons: &mut Vec<u8>,
 ) -> Result<(), NoMemory>
-    ensures { OnOk result (length reasons.old.items < length reasons.new.items) }
+    ensures { OnOk result (HasToldOne path.now reasons.old.items reasons.new.items) }
 {
-    let why = why_no_header(alloc, schema, header)?;
+    let why = why_no_header(alloc, schema, header, line)?;
     tell_at(alloc, reasons, path, line, why.as_str())
 }
 
@@ -96,7 +98,7 @@ fn tell_header(
 fn check_records<I: Read + Drop>(
     alloc: Global,
     layout: &Layout,
-    ends: LineEnds,
+    lines: Lines,
     path: &str,
     input: &mut Reader<I>,
     reasons: &mut Vec<u8>,
@@ -104,14 +106,14 @@ fn check_records<I: Read + Drop>(
     requires plain { IsPlain input.old }
     ensures counted { IfOk result (HasCounted I.remaining layout.now input.old) }
     ensures told { IfOk result (λ counts.
-        TellsUnless (nat_eq counts.bad 0) reasons.old.items reasons.new.items) }
+        TellsBad path.now counts.bad reasons.old.items reasons.new.items) }
     ensures kept { IfErr result (λ fault. fault ≢ SourceFault.NoMemory →
-        length reasons.old.items ≤ length reasons.new.items) }
+        HasToldSome path.now reasons.old.items reasons.new.items) }
     ensures later { IfErr result (λ fault. fault ≢ SourceFault.BadHeader) }
     ensures too_long { IfErr result (λ fault. fault ≡ SourceFault.TooLong →
         HasTooMany I.remaining input.old) }
 {
-    let counts = count_records(alloc, layout, ends, path, input, reasons)?;
+    let counts = count_records(alloc, layout, lines, path, input, reasons)?;
     if counts.bad > MAX_TOLD {
         tell_more(alloc, reasons, path, counts.bad)?;
     }
@@ -122,7 +124,7 @@ fn check_records<I: Read + Drop>(
 fn count_records<I: Read + Drop>(
     alloc: Global,
     layout: &Layout,
-    ends: LineEnds,
+    mut lines: Lines,
     path: &str,
     input: &mut Reader<I>,
     reasons: &mut Vec<u8>,
@@ -130,9 +132,9 @@ fn count_records<I: Read + Drop>(
     requires plain { IsPlain input.old }
     ensures counted { IfOk result (HasCounted I.remaining layout.now input.old) }
     ensures told { IfOk result (λ counts.
-        TellsUnless (nat_eq counts.bad 0) reasons.old.items reasons.new.items) }
+        TellsFirst path.now counts.bad reasons.old.items reasons.new.items) }
     ensures kept { IfErr result (λ fault. fault ≢ SourceFault.NoMemory →
-        length reasons.old.items ≤ length reasons.new.items) }
+        HasToldSome path.now reasons.old.items reasons.new.items) }
     ensures later { IfErr result (λ fault. fault ≢ SourceFault.BadHeader) }
     ensures too_long { IfErr result (λ fault. fault ≡ SourceFault.TooLong →
         HasTooMany I.remaining input.old) }
@@ -145,6 +147,7 @@ fn count_records<I: Read + Drop>(
         if !read_next(input, &mut fields)? {
             return Ok(FileCounts { records, bad });
         }
+        lines.take(&fields, input.position());
         let good = is_good_record(alloc, layout, &fields, &mut entries, &mut row)?;
         records += 1;
         if good {
@@ -152,7 +155,7 @@ fn count_records<I: Read + Drop>(
         }
         bad += 1;
         if bad <= MAX_TOLD {
-            let line = ends.line_of(&fields, input.position());
+            let line = lines.line_of(&fields, input.position());
             tell_bad_record(alloc, layout, path, line, &fields, reasons)?;
         }
     }
@@ -185,7 +188,7 @@ fn tell_bad_record(
     fields: &ByteRecord,
     reasons: &mut Vec<u8>,
 ) -> Result<(), NoMemory>
-    ensures { OnOk result (length reasons.old.items < length reasons.new.items) }
+    ensures { OnOk result (HasToldOne path.now reasons.old.items reasons.new.items) }
 {
     let why = why_bad_record(alloc, layout, fields, line)?;
     tell_at(alloc, reasons, path, line, why.as_str())
@@ -199,7 +202,8 @@ pub(crate) fn tell_unread(
     reasons: &mut Vec<u8>,
 ) -> Result<FileFound, NoMemory>
     ensures found { IfOk result (λ found. found ≡ FileFound.Unread fault) }
-    ensures told { OnOk result (length reasons.old.items < length reasons.new.items) }
+    ensures told { OnOk result
+        (HasTold path.now (fault_why fault ∷ []) reasons.old.items reasons.new.items) }
     ensures fault { OnOk result (fault ≢ SourceFault.NoMemory) }
 {
     if fault == SourceFault::NoMemory {

@@ -1,11 +1,10 @@
 //! The check of a schema file.
 
-ghost use Rattle.std.specs.Prelude.{◌≡◌, ◌<◌, is_some, length, IfOk, IfSome, OnOk};
-ghost use Rattle.bsi_reading.specs.SchemaTexts.{IsSchemaText};
-ghost use Rattle.bsi_check.specs.Checks.{IsSchemaFound, TellsUnless};
+ghost use Rattle.std.specs.Prelude.{IfOk, OnOk};
+ghost use Rattle.bsi_check.specs.Reasons.{HasToldOne, IsSchemaFound};
 
 use crate::NoMemory;
-use crate::lines::{LineEnds, tell, tell_at};
+use crate::lines::{Lines, tell, tell_at};
 use crate::rows::tell_unread;
 use bsi_reading::{DeclaredTable, SchemaFault, SourceFault, plain_reader, read_next, read_schema};
 use bsi_reasons::why_bad_setup;
@@ -22,14 +21,15 @@ pub(crate) fn check_schema<S: Read + Drop>(
     mut file: S,
     reasons: &mut Vec<u8>,
 ) -> Result<Option<DeclaredTable>, NoMemory>
-    ensures declared { IfOk result (λ found. IfSome (S.remaining file) (IsSchemaFound found)) }
-    ensures told { IfOk result (λ found.
-        TellsUnless (is_some found) reasons.old.items reasons.new.items) }
+    ensures { IfOk result (λ found. IsSchemaFound path.now (S.remaining file) found
+        reasons.old.items reasons.new.items) }
 {
     let mut text = Vec::new(alloc);
     if let Err(error) = file.read_to_end(&mut text) {
-        let fault = fault_of(error.kind());
-        tell_unread(alloc, path, fault, reasons)?;
+        if error.kind() == ErrorKind::OutOfMemory {
+            return Err(NoMemory);
+        }
+        tell_unread(alloc, path, SourceFault::Read, reasons)?;
         return Ok(None);
     }
     match read_schema(alloc, text.as_slice()) {
@@ -49,15 +49,6 @@ pub(crate) fn check_schema<S: Read + Drop>(
     }
 }
 
-/// Returns the fault of a reader that failed.
-fn fault_of(kind: ErrorKind) -> SourceFault {
-    if kind == ErrorKind::OutOfMemory {
-        SourceFault::NoMemory
-    } else {
-        SourceFault::Read
-    }
-}
-
 /// Adds the reason of the bad record of this number, from 1.
 fn tell_bad_record(
     alloc: Global,
@@ -66,12 +57,12 @@ fn tell_bad_record(
     number: u64,
     reasons: &mut Vec<u8>,
 ) -> Result<(), NoMemory>
-    ensures { OnOk result (length reasons.old.items < length reasons.new.items) }
+    ensures { OnOk result (HasToldOne path.now reasons.old.items reasons.new.items) }
 {
     let mut fields = ByteRecord::new(alloc);
     let mut table = DeclaredTable::new(alloc);
     let line = read_up_to(alloc, text, number, &mut fields, &mut table)?;
-    let why = why_bad_setup(alloc, &mut table.schema, &fields)?;
+    let why = why_bad_setup(alloc, &mut table.schema, &fields, line)?;
     tell_at(alloc, reasons, path, line, why.as_str())
 }
 
@@ -86,7 +77,7 @@ fn read_up_to(
 ) -> Result<u64, NoMemory> {
     let mut input = plain_reader(alloc, text);
     let mut line = 0;
-    let mut ends = None;
+    let mut lines = Lines::new();
     'records: for before in 0..number {
         match read_next(&mut input, fields) {
             Ok(true) => {}
@@ -95,8 +86,8 @@ fn read_up_to(
             Err(_) => return Err(NoMemory),
         }
         let after = input.position();
-        let ends = *ends.get_or_insert(LineEnds::of(fields, after));
-        line = ends.line_of(fields, after);
+        lines.take(fields, after);
+        line = lines.line_of(fields, after);
         if before + 1 < number {
             let _ = read_setup(alloc, &mut table.schema, &mut table.limit, fields)?;
         }

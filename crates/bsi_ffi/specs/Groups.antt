@@ -1,10 +1,9 @@
 -- Groups of rows as C has them, and the call for them.
-use Rattle.std.specs.Prelude.{◌≡◌, ◌+◌, ◌*◌, ◌≤◌, ℕ, ℤ, List, Option, Some, None, Ok, Err, length, take, true, false}
+use Rattle.std.specs.Prelude.{◌≡◌, ◌+◌, ◌*◌, ◌≤◌, ◌∷◌, [], ℕ, ℤ, List, Option, Some, None, Ok, Err, length, slice_index_or, take, true, false}
 use Rattle.std.specs.Int.{cast_unsigned, w128}
 use Rattle.std.specs.List.{AllZip}
 use Rattle.bsi_bits.specs.Packed.{end_of_u64}
-use Rattle.bsi_groups.specs.Groups.{entries_at, selected_by, AreGroups, AreMore}
-use Rattle.bsi_groups.specs.declared.grouping.Group.{Group}
+use Rattle.bsi_groups.specs.Groups.{entries_at, selected_by, AreGroups, AreMore, Grouped}
 use Rattle.bsi_records.specs.Numbers.{Field}
 use Rattle.bsi_records.specs.Questions.{IsQuestion}
 use Rattle.bsi_rows.specs.Table.{Table}
@@ -34,9 +33,9 @@ abbrev pub IsFlatEntry : Option ℤ → FlatGroup → Type 0
 IsFlatEntry None group = group.present ≡ false
 IsFlatEntry (Some n) group = (group.present ≡ true) × (group.entry ≡ n)
 
--- a group is written so
-abbrev pub IsFlatGroup : Group → FlatGroup → Type 0
-IsFlatGroup group flat = IsFlatEntry group.entry flat × IsFlat group.answer flat.answer
+-- a group by one column is written so
+abbrev pub IsFlatGroup : Grouped → FlatGroup → Type 0
+IsFlatGroup group flat = IsFlatEntry (slice_index_or group.entries 0 None) flat × IsFlat group.answer flat.answer
 
 -- of a query that the fields ask, and of the place of the column of this name, this is so
 abbrev pub IsAskedBy : Table → List Field → Field → (Query → ℕ → Type 0) → Type 0
@@ -45,14 +44,14 @@ IsAskedBy table fields name Is =
 
 abbrev pub IsGrouped : Opened → List Field → Field → List FlatGroup → ℕ → Ending → Type 0
 IsGrouped opened fields name groups count (Ok done) =
-    (count ≤ length groups) × IsAskedBy opened.table fields name (λ query by. (made : List Group)
-    × AreGroups query.total (selected_by query opened.table.rows) by opened.table.rows made
+    (count ≤ length groups) × IsAskedBy opened.table fields name (λ query by. (made : List Grouped)
+    × AreGroups query.total (selected_by query opened.table.rows) (by ∷ []) opened.table.rows made
     × AllZip IsFlatGroup made (take count groups))
 IsGrouped opened fields name groups count (Err BadQuery) =
     (query : Query) → (by : ℕ) → IsQuestion opened.table.schema fields query
     → position_of opened.table.schema.columns name ≡ Some by → ⊥
 IsGrouped opened fields name groups count (Err NoRoom) = IsAskedBy opened.table fields name (λ query by.
-    AreMore (length groups) (entries_at (selected_by query opened.table.rows) by opened.table.rows))
+    AreMore (length groups) (entries_at (selected_by query opened.table.rows) (by ∷ []) opened.table.rows))
 IsGrouped opened fields name groups count (Err NoMemory) = Unit {0}
 IsGrouped opened fields name groups count (Err why) = ⊥
 

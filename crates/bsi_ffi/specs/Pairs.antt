@@ -1,9 +1,7 @@
 -- Groups of rows by two columns as C has them, and the call for them.
 use Rattle.std.specs.Prelude.{◌≡◌, ◌≤◌, ◌∷◌, [], ℕ, ℤ, List, Option, Some, None, Ok, Err, length, take, true, false}
 use Rattle.std.specs.List.{AllZip}
-use Rattle.bsi_groups.specs.Groups.{selected_by}
-use Rattle.bsi_groups.specs.Pairs.{all_entries_at, AreMorePairs, ArePairGroups}
-use Rattle.bsi_groups.specs.declared.pairs.PairGroup.{PairGroup}
+use Rattle.bsi_groups.specs.Groups.{entries_at, selected_by, AreGroups, AreMore, Grouped}
 use Rattle.bsi_records.specs.Numbers.{Field}
 use Rattle.bsi_records.specs.Questions.{IsQuestion}
 use Rattle.bsi_rows.specs.Table.{Table}
@@ -23,7 +21,7 @@ IsWrittenEntry None entry = entry.present ≡ false
 IsWrittenEntry (Some n) entry = (entry.present ≡ true) × (entry.number ≡ n)
 
 -- a group is written so
-abbrev pub IsFlatPair : PairGroup → FlatPair → Type 0
+abbrev pub IsFlatPair : Grouped → FlatPair → Type 0
 IsFlatPair group flat = AllZip IsWrittenEntry group.entries flat.entries × IsFlat group.answer flat.answer
 
 -- of a query that the fields ask, and of the places of the columns of these two names, this is so
@@ -35,8 +33,8 @@ IsAskedByTwo table fields first second Is =
 
 abbrev pub IsGroupedByTwo : Opened → List Field → Field → Field → List FlatPair → ℕ → Ending → Type 0
 IsGroupedByTwo opened fields first second pairs count (Ok done) =
-    (count ≤ length pairs) × IsAskedByTwo opened.table fields first second (λ query by. (made : List PairGroup)
-    × ArePairGroups query.total (selected_by query opened.table.rows) by opened.table.rows made
+    (count ≤ length pairs) × IsAskedByTwo opened.table fields first second (λ query by. (made : List Grouped)
+    × AreGroups query.total (selected_by query opened.table.rows) by opened.table.rows made
     × AllZip IsFlatPair made (take count pairs))
 IsGroupedByTwo opened fields first second pairs count (Err BadQuery) =
     (query : Query) → (one other : ℕ) → IsQuestion opened.table.schema fields query
@@ -44,7 +42,7 @@ IsGroupedByTwo opened fields first second pairs count (Err BadQuery) =
     → position_of opened.table.schema.columns second ≡ Some other → ⊥
 IsGroupedByTwo opened fields first second pairs count (Err NoRoom) =
     IsAskedByTwo opened.table fields first second (λ query by.
-    AreMorePairs (length pairs) (all_entries_at (selected_by query opened.table.rows) by opened.table.rows))
+    AreMore (length pairs) (entries_at (selected_by query opened.table.rows) by opened.table.rows))
 IsGroupedByTwo opened fields first second pairs count (Err NoMemory) = Unit {0}
 IsGroupedByTwo opened fields first second pairs count (Err why) = ⊥
 

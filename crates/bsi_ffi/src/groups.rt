@@ -2,12 +2,12 @@
 
 ghost use Rattle.std.specs.Prelude.{◌≡◌, ◌≤◌, drop, length, map, take, OnErr, OnOk};
 ghost use Rattle.std.specs.List.{AllZip};
-ghost use Rattle.bsi_ffi.specs.Groups.{IsFlat, IsFlatGroup, IsGrouped};
+ghost use Rattle.bsi_ffi.specs.Groups.{IsFlat, IsFlatEntry, IsFlatGroup, IsGrouped};
 
 use crate::answers::{FlatAnswer, Place, write};
 use crate::opened::Opened;
 use crate::refusal::Refusal;
-use bsi_groups::{Group, GroupError, group_by};
+use bsi_groups::{GroupError, Groups, group_by};
 use bsi_records::read_question;
 use bsi_table::Answer;
 use csv::ByteRecord;
@@ -59,7 +59,7 @@ pub(crate) fn reply_groups(
     let Some(by) = index.schema().find(name) else {
         return Err(Refusal::BadQuery);
     };
-    match group_by(alloc, index, &query, by, groups.len()) {
+    match group_by(alloc, index, &query, &[by], groups.len()) {
         Ok(made) => {
             write_groups(&made, groups);
             *count = made.len();
@@ -72,24 +72,28 @@ pub(crate) fn reply_groups(
     }
 }
 
-/// Writes groups, for which there is room.
-fn write_groups(made: &[Group], groups: &mut [FlatGroup])
-    requires { length made.now ≤ length groups.old }
-    ensures made { AllZip IsFlatGroup made.now (take (length made.now) groups.new) }
+/// Writes groups by one column, for which there is room.
+fn write_groups(made: &Groups, groups: &mut [FlatGroup])
+    requires column { made.now.columns ≡ 1 }
+    requires room { length made.now.groups ≤ length groups.old }
+    ensures made { AllZip IsFlatGroup made.now.groups (take (length made.now.groups) groups.new) }
     ensures long { length groups.new ≡ length groups.old }
-    ensures rest { drop (length made.now) groups.new ≡ drop (length made.now) groups.old }
+    ensures rest { drop (length made.now.groups) groups.new
+        ≡ drop (length made.now.groups) groups.old }
 {
-    'groups: for (at, group) in made.iter().enumerate() {
-        groups[at] = flat_of(group);
+    'groups: for at in 0..made.len() {
+        let group = made.get(at);
+        groups[at] = flat_of(group.entries[0], group.answer);
     }
 }
 
-/// Returns a group as C has it.
-fn flat_of(group: &Group) -> FlatGroup
-    ensures { IsFlatGroup group.now result }
+/// Returns a group of this entry as C has it.
+fn flat_of(entry: Option<i64>, answer: &Answer) -> FlatGroup
+    ensures entry { IsFlatEntry entry result }
+    ensures answer { IsFlat answer.now result.answer }
 {
-    let answer = flat_answer(&group.answer);
-    match group.entry {
+    let answer = flat_answer(answer);
+    match entry {
         Some(entry) => FlatGroup {
             present: true,
             entry,

@@ -2,14 +2,16 @@
 
 ghost use Rattle.std.specs.Prelude.{◌≡◌, ◌≤◌, drop, length, map, take, OnErr, OnOk};
 ghost use Rattle.std.specs.List.{AllZip};
+ghost use Rattle.bsi_ffi.specs.Groups.{IsFlat};
 ghost use Rattle.bsi_ffi.specs.Pairs.{IsFlatPair, IsGroupedByTwo, IsWrittenEntry};
 
 use crate::answers::FlatAnswer;
 use crate::groups::flat_answer;
 use crate::opened::Opened;
 use crate::refusal::Refusal;
-use bsi_groups::{GroupError, PairGroup, group_by_two};
+use bsi_groups::{GroupError, Groups, group_by};
 use bsi_records::read_question;
+use bsi_table::Answer;
 use csv::ByteRecord;
 use std::alloc::Global;
 
@@ -61,7 +63,7 @@ pub(crate) fn reply_pairs(
     let Some(other) = index.schema().find(second) else {
         return Err(Refusal::BadQuery);
     };
-    match group_by_two(alloc, index, &query, [one, other], pairs.len()) {
+    match group_by(alloc, index, &query, &[one, other], pairs.len()) {
         Ok(made) => {
             write_pairs(&made, pairs);
             *count = made.len();
@@ -74,25 +76,29 @@ pub(crate) fn reply_pairs(
     }
 }
 
-/// Writes groups, for which there is room.
-fn write_pairs(made: &[PairGroup], pairs: &mut [FlatPair])
-    requires { length made.now ≤ length pairs.old }
-    ensures made { AllZip IsFlatPair made.now (take (length made.now) pairs.new) }
+/// Writes groups by two columns, for which there is room.
+fn write_pairs(made: &Groups, pairs: &mut [FlatPair])
+    requires columns { made.now.columns ≡ 2 }
+    requires room { length made.now.groups ≤ length pairs.old }
+    ensures made { AllZip IsFlatPair made.now.groups (take (length made.now.groups) pairs.new) }
     ensures long { length pairs.new ≡ length pairs.old }
-    ensures rest { drop (length made.now) pairs.new ≡ drop (length made.now) pairs.old }
+    ensures rest { drop (length made.now.groups) pairs.new
+        ≡ drop (length made.now.groups) pairs.old }
 {
-    'pairs: for (at, group) in made.iter().enumerate() {
-        pairs[at] = flat_pair(group);
+    'pairs: for at in 0..made.len() {
+        let group = made.get(at);
+        pairs[at] = flat_pair([group.entries[0], group.entries[1]], group.answer);
     }
 }
 
-/// Returns a group as C has it.
-fn flat_pair(group: &PairGroup) -> FlatPair
-    ensures { IsFlatPair group.now result }
+/// Returns a group of these entries as C has it.
+fn flat_pair(entries: [Option<i64>; 2], answer: &Answer) -> FlatPair
+    ensures entries { AllZip IsWrittenEntry entries result.entries }
+    ensures answer { IsFlat answer.now result.answer }
 {
     FlatPair {
-        entries: flat_entries(group.entries),
-        answer: flat_answer(&group.answer),
+        entries: flat_entries(entries),
+        answer: flat_answer(answer),
     }
 }
 

@@ -10,11 +10,11 @@ use Rattle.bsi_orders.specs.Orders.{IsLeastBy}
 use Rattle.bsi_orders.specs.WholeNumbers.{signed_order}
 use Rattle.bsi_groups.specs.Entries.{comes_before, IsFirst}
 
-abbrev numbers : List (Option ℤ) → List ℤ
+abbrev pub numbers : List (Option ℤ) → List ℤ
 numbers entries = filter_map (λ e. e) entries
 
 -- a number among them stands there as an entry
-number_there : (entries : List (Option ℤ)) (n : ℤ) → Contains (numbers entries) n → Contains entries (Some n)
+pub number_there : (entries : List (Option ℤ)) (n : ℤ) → Contains (numbers entries) n → Contains entries (Some n)
 number_there [] n there = absurd (omega (arith, there.1))
 number_there (None ∷ entries) n there = Contains-append_right (None ∷ []) entries (Some n) (number_there entries n there)
 number_there (Some x ∷ entries) n there = elim (Contains-append_cases (x ∷ []) (numbers entries) n there) [
@@ -54,7 +54,7 @@ first_null entries none some =
     }
 
 -- a found set has as many entries as rows
-pub entries_counted : (found : List Bool) (entries : List (Option ℤ)) → length entries ≡ length found
+pub entries_counted : {X : Type 0} (found : List Bool) (entries : List X) → length entries ≡ length found
     → length (items_where_true found entries) ≡ count_by (λ b. b) found
 entries_counted [] [] same = refl
 entries_counted [] (e ∷ entries) same = absurd (omega arith)

@@ -19,9 +19,9 @@ use Rattle.bsi_rows.specs.declared.query.Total.TheVariants.{Count, Sum, Least, G
 use Rattle.bsi_table.specs.Totals.{IsTotalAt}
 use Rattle.bsi_shift.specs.Shifted.{shifted_entries, shifted_size, OffsetColumn}
 use Rattle.bsi_groups.specs.Entries.{comes_before, is_entry, rows_having}
-use Rattle.bsi_groups.specs.Groups.{entries_at, keys_of, rows_with, AreGroups, AreMore, Rise}
+use Rattle.bsi_groups.specs.ColumnGroups.{column_entries_at, column_keys_of, rows_with_entry, AreColumnGroups, AreMoreEntries, EntriesRise}
 use Rattle.bsi_groups.specs.Tallies.{column_read, entries_or_nulls, entry_of, AreTallies, IsTally, IsTotalOf}
-use Rattle.bsi_groups.specs.declared.grouping.Group.{Group}
+use Rattle.bsi_groups.specs.declared.column.ColumnGroup.{ColumnGroup}
 use Rattle.bsi_groups.specs.declared.tally.Tally.{Tally}
 use Rattle.bsi_groups.proofs.FirstEntries.{entries_counted}
 use Rattle.bsi_groups.proofs.Order.{entry_is, is_itself}
@@ -68,25 +68,25 @@ module _ (offset : ℤ) (size : ℕ) where
 -- ---- the rows of a tally
 
 module _ (found : List Bool) (by : ℕ) (rows : List FedRow) (same : length (column_of rows by) ≡ length found) where
-  with_counted : (e : Option ℤ) → length (filter (is_entry e) (entries_at found by rows)) ≡ count_by (λ b. b) (rows_with found by rows e)
+  with_counted : (e : Option ℤ) → length (filter (is_entry e) (column_entries_at found by rows)) ≡ count_by (λ b. b) (rows_with_entry found by rows e)
   with_counted e =
       let once = length-map (column_of rows by) (is_entry e) in
       let long = length-zip2 ◌&&◌ (map (is_entry e) (column_of rows by)) found (once ∙ same) ∙ once in
-      ap length (sym (entries_passing (is_entry e) (column_of rows by) found)) ∙ entries_counted (rows_with found by rows e) (column_of rows by) (sym long)
+      ap length (sym (entries_passing (is_entry e) (column_of rows by) found)) ∙ entries_counted (rows_with_entry found by rows e) (column_of rows by) (sym long)
 
   -- an entry that a row has
-  had_by : (e : Option ℤ) → 0 < count_by (λ b. b) (rows_with found by rows e) → Contains (entries_at found by rows) e
+  had_by : (e : Option ℤ) → 0 < count_by (λ b. b) (rows_with_entry found by rows e) → Contains (column_entries_at found by rows) e
   had_by e some =
-      let among = filter (is_entry e) (entries_at found by rows) in
+      let among = filter (is_entry e) (column_entries_at found by rows) in
       let one : 0 < length among = omega (arith, some, with_counted e) in
-      let is = entry_is e (get_or among 0 None) (All-get_or (λ x. is_entry e x ≡ true) among 0 None one (filter_passes (is_entry e) (entries_at found by rows))) in
-      subst (Contains (entries_at found by rows)) is
-      (All-get_or (Contains (entries_at found by rows)) among 0 None one (All-filter (is_entry e) (Contains (entries_at found by rows)) (entries_at found by rows) (All-contains_itself (entries_at found by rows))))
+      let is = entry_is e (get_or among 0 None) (All-get_or (λ x. is_entry e x ≡ true) among 0 None one (filter_passes (is_entry e) (column_entries_at found by rows))) in
+      subst (Contains (column_entries_at found by rows)) is
+      (All-get_or (Contains (column_entries_at found by rows)) among 0 None one (All-filter (is_entry e) (Contains (column_entries_at found by rows)) (column_entries_at found by rows) (All-contains_itself (column_entries_at found by rows))))
 
-  counted_by : (e : Option ℤ) → Contains (entries_at found by rows) e → 0 < count_by (λ b. b) (rows_with found by rows e)
+  counted_by : (e : Option ℤ) → Contains (column_entries_at found by rows) e → 0 < count_by (λ b. b) (rows_with_entry found by rows e)
   counted_by e there =
-      let among = filter (is_entry e) (entries_at found by rows) in
-      let here = All-contains (λ x. is_entry e x ≡ true → Contains among x) (entries_at found by rows) e (unfiltered (Contains among) (is_entry e) (entries_at found by rows) (All-contains_itself among)) there (is_itself e) in
+      let among = filter (is_entry e) (column_entries_at found by rows) in
+      let here = All-contains (λ x. is_entry e x ≡ true → Contains among x) (column_entries_at found by rows) e (unfiltered (Contains among) (is_entry e) (column_entries_at found by rows) (All-contains_itself among)) there (is_itself e) in
       omega (arith, here.1, with_counted e)
 
 -- the entries that are read for a total
@@ -120,21 +120,21 @@ abbrev pub IsAt : ℤ → ℕ → ℕ → Option ℤ → Type 0
 IsAt offset size k e = (j : ℕ) × (j < k) × (e ≡ entry_of offset size j)
 
 -- the groups of the first k tallies that have rows
-pub record AreTallied (total : Total) (found : List Bool) (by : ℕ) (rows : List FedRow) (offset : ℤ) (size : ℕ) (tallies : List Tally) (k : ℕ) (groups : List Group) : Type 0 where
-  pub places : All (IsAt offset size k) (keys_of groups)
-  pub rise : Rise (keys_of groups)
-  pub had : All (Contains (entries_at found by rows)) (keys_of groups)
-  pub all : (j : ℕ) (d : Tally) → j < k → 0 < (get_or tallies j d).rows → Contains (keys_of groups) (entry_of offset size j)
-  pub answers : All (λ group. IsTotalAt total (rows_with found by rows group.entry) rows group.answer) groups
+pub record AreTallied (total : Total) (found : List Bool) (by : ℕ) (rows : List FedRow) (offset : ℤ) (size : ℕ) (tallies : List Tally) (k : ℕ) (groups : List ColumnGroup) : Type 0 where
+  pub places : All (IsAt offset size k) (column_keys_of groups)
+  pub rise : EntriesRise (column_keys_of groups)
+  pub had : All (Contains (column_entries_at found by rows)) (column_keys_of groups)
+  pub all : (j : ℕ) (d : Tally) → j < k → 0 < (get_or tallies j d).rows → Contains (column_keys_of groups) (entry_of offset size j)
+  pub answers : All (λ group. IsTotalAt total (rows_with_entry found by rows group.entry) rows group.answer) groups
 
 module _ (total : Total) (found : List Bool) (by : ℕ) (rows : List FedRow) (offset : ℤ) (size : ℕ) (tallies : List Tally) where
   pub none_tallied : AreTallied total found by rows offset size tallies 0 []
   none_tallied = record {
     places = All-nil (IsAt offset size 0);
     rise = λ i j d before within. absurd (omega arith);
-    had = All-nil (Contains (entries_at found by rows));
+    had = All-nil (Contains (column_entries_at found by rows));
     all = λ j d before some. absurd (omega arith);
-    answers = All-nil (λ group. IsTotalAt total (rows_with found by rows group.entry) rows group.answer);
+    answers = All-nil (λ group. IsTotalAt total (rows_with_entry found by rows group.entry) rows group.answer);
   }
 
   module _ (same : length found ≡ length rows) (keys : OffsetColumn) (offset_is : keys.offset ≡ offset) (size_is : shifted_size keys ≡ size) (keys_are : shifted_entries keys ≡ column_of rows by) (entries : List (Option ℤ)) (entries_are : entries ≡ total_entries total rows found)
@@ -143,97 +143,97 @@ module _ (total : Total) (found : List Bool) (by : ℕ) (rows : List FedRow) (of
     long = length-map rows _ ∙ sym same
 
     -- a tally is that of the rows that have its entry
-    tally_of : (k : ℕ) (d : Tally) → k < length tallies → IsTally (items_where_true (rows_with found by rows (entry_of offset size k)) (total_entries total rows found)) (get_or tallies k d)
+    tally_of : (k : ℕ) (d : Tally) → k < length tallies → IsTally (items_where_true (rows_with_entry found by rows (entry_of offset size k)) (total_entries total rows found)) (get_or tallies k d)
     tally_of k d within =
-        subst (λ e. IsTally (items_where_true (rows_with found by rows e) (total_entries total rows found)) (get_or tallies k d)) (ap₂ (λ o s. entry_of o s k) offset_is size_is)
+        subst (λ e. IsTally (items_where_true (rows_with_entry found by rows e) (total_entries total rows found)) (get_or tallies k d)) (ap₂ (λ o s. entry_of o s k) offset_is size_is)
         (subst (λ xs. IsTally (items_where_true (rows_having xs found (entry_of keys.offset (shifted_size keys) k)) (total_entries total rows found)) (get_or tallies k d)) keys_are
         (subst (λ es. IsTally (items_where_true (rows_having (shifted_entries keys) found (entry_of keys.offset (shifted_size keys) k)) es) (get_or tallies k d)) entries_are
         (subst (λ es. IsTally es (get_or tallies k d)) (whole keys entries found (ap length keys_are ∙ long) (ap length entries_are ∙ entries_long total rows found same) (length found) k (omega arith)) (are.each k d within))))
 
-    with_long : (e : Option ℤ) → length (rows_with found by rows e) ≡ length rows
+    with_long : (e : Option ℤ) → length (rows_with_entry found by rows e) ≡ length rows
     with_long e = let once = length-map (column_of rows by) (is_entry e) in length-zip2 ◌&&◌ (map (is_entry e) (column_of rows by)) found (once ∙ long) ∙ once ∙ long ∙ same
 
-    read_long : (e : Option ℤ) → length (total_entries total rows found) ≡ length (rows_with found by rows e)
+    read_long : (e : Option ℤ) → length (total_entries total rows found) ≡ length (rows_with_entry found by rows e)
     read_long e = entries_long total rows found same ∙ same ∙ sym (with_long e)
 
-    rows_of : (k : ℕ) (d : Tally) → k < length tallies → (get_or tallies k d).rows ≡ count_by (λ b. b) (rows_with found by rows (entry_of offset size k))
+    rows_of : (k : ℕ) (d : Tally) → k < length tallies → (get_or tallies k d).rows ≡ count_by (λ b. b) (rows_with_entry found by rows (entry_of offset size k))
     rows_of k d within =
         (tally_of k d within).rows
-        ∙ entries_counted (rows_with found by rows (entry_of offset size k)) (total_entries total rows found) (read_long (entry_of offset size k))
+        ∙ entries_counted (rows_with_entry found by rows (entry_of offset size k)) (total_entries total rows found) (read_long (entry_of offset size k))
 
-    module _ (k : ℕ) (groups : List Group) (so_far : AreTallied total found by rows offset size tallies k groups) where
+    module _ (k : ℕ) (groups : List ColumnGroup) (so_far : AreTallied total found by rows offset size tallies k groups) where
       -- a tally of no row
       pub no_group : (d : Tally) → k < length tallies → (get_or tallies k d).rows ≡ 0 → AreTallied total found by rows offset size tallies (k + 1) groups
       no_group d within none = record {
-        places = All-weaker (IsAt offset size k) (IsAt offset size (k + 1)) (λ e at. (at.0, omega (arith, at.1), at.2)) (keys_of groups) so_far.places;
+        places = All-weaker (IsAt offset size k) (IsAt offset size (k + 1)) (λ e at. (at.0, omega (arith, at.1), at.2)) (column_keys_of groups) so_far.places;
         rise = so_far.rise;
         had = so_far.had;
         all = λ j d' before some. elim (cases_lt j k) [
           | inl below ↦ so_far.all j d' below some
-          | inr past ↦ let here : j ≡ k = omega (arith, past, before) in absurd (omega (arith, none, rows_of k d within, rows_of j d' (omega (arith, here, within)), some, ap (λ j. count_by (λ b. b) (rows_with found by rows (entry_of offset size j))) here))
+          | inr past ↦ let here : j ≡ k = omega (arith, past, before) in absurd (omega (arith, none, rows_of k d within, rows_of j d' (omega (arith, here, within)), some, ap (λ j. count_by (λ b. b) (rows_with_entry found by rows (entry_of offset size j))) here))
         ];
         answers = so_far.answers;
       }
 
       module _ (d : Tally) (within : k < length tallies) (some : 0 < (get_or tallies k d).rows) where
-        keys_rise : Rise (keys_of groups ++ entry_of offset size k ∷ [])
-        keys_rise = all_pairs_push (λ earlier later. IsTrue (comes_before earlier later)) (keys_of groups) (entry_of offset size k) so_far.rise (λ i d far. before (get_or (keys_of groups) i d) (so_far.places i d far))
+        keys_rise : EntriesRise (column_keys_of groups ++ entry_of offset size k ∷ [])
+        keys_rise = all_pairs_push (λ earlier later. IsTrue (comes_before earlier later)) (column_keys_of groups) (entry_of offset size k) so_far.rise (λ i d far. before (get_or (column_keys_of groups) i d) (so_far.places i d far))
           where
             before : (e : Option ℤ) → IsAt offset size k e → comes_before e (entry_of offset size k) ≡ true
             before e at = ap (λ e. comes_before e (entry_of offset size k)) at.2 ∙ places_rise offset size at.0 k at.1 (omega (arith, within, are.long, size_is))
 
-        keys_had : All (Contains (entries_at found by rows)) (keys_of groups ++ entry_of offset size k ∷ [])
-        keys_had = All-push (Contains (entries_at found by rows)) (keys_of groups) (entry_of offset size k) so_far.had (had_by found by rows long (entry_of offset size k) (omega (arith, some, rows_of k d within)))
+        keys_had : All (Contains (column_entries_at found by rows)) (column_keys_of groups ++ entry_of offset size k ∷ [])
+        keys_had = All-push (Contains (column_entries_at found by rows)) (column_keys_of groups) (entry_of offset size k) so_far.had (had_by found by rows long (entry_of offset size k) (omega (arith, some, rows_of k d within)))
 
         -- one group more is too many
-        pub too_many : AreMore (length groups) (entries_at found by rows)
+        pub too_many : AreMoreEntries (length groups) (column_entries_at found by rows)
         too_many = record {
-          some = keys_of groups ++ entry_of offset size k ∷ [];
+          some = column_keys_of groups ++ entry_of offset size k ∷ [];
           rise = keys_rise;
           had = keys_had;
-          many = omega (arith, length-append (keys_of groups) (entry_of offset size k ∷ []), length-map groups (λ (group : Group). group.entry));
+          many = omega (arith, length-append (column_keys_of groups) (entry_of offset size k ∷ []), length-map groups (λ (group : ColumnGroup). group.entry));
         }
 
         pub one_group : (e : Option ℤ) (answer : Answer) → entry_of offset size k ≡ e → ((es : List (Option ℤ)) → IsTally es (get_or tallies k d) → IsTotalOf total es answer)
             → AreTallied total found by rows offset size tallies (k + 1) (groups ++ (record { entry = e; answer = answer }) ∷ [])
         one_group e answer is total_is = record {
           places = subst (All (IsAt offset size (k + 1))) (sym keys_more)
-              (All-push (IsAt offset size (k + 1)) (keys_of groups) (entry_of offset size k) (All-weaker (IsAt offset size k) (IsAt offset size (k + 1)) (λ e at. (at.0, omega (arith, at.1), at.2)) (keys_of groups) so_far.places) (k, omega arith, refl));
-          rise = subst Rise (sym keys_more) keys_rise;
-          had = subst (All (Contains (entries_at found by rows))) (sym keys_more) keys_had;
+              (All-push (IsAt offset size (k + 1)) (column_keys_of groups) (entry_of offset size k) (All-weaker (IsAt offset size k) (IsAt offset size (k + 1)) (λ e at. (at.0, omega (arith, at.1), at.2)) (column_keys_of groups) so_far.places) (k, omega arith, refl));
+          rise = subst EntriesRise (sym keys_more) keys_rise;
+          had = subst (All (Contains (column_entries_at found by rows))) (sym keys_more) keys_had;
           all = λ j d' before some'. subst (λ keys. Contains keys (entry_of offset size j)) (sym keys_more) (elim (cases_lt j k) [
-            | inl below ↦ Contains-append_left (keys_of groups) (entry_of offset size k ∷ []) (entry_of offset size j) (so_far.all j d' below some')
-            | inr past ↦ let here : k ≡ j = omega (arith, past, before) in subst (λ j. Contains (keys_of groups ++ entry_of offset size k ∷ []) (entry_of offset size j)) here (Contains-push (keys_of groups) (entry_of offset size k))
+            | inl below ↦ Contains-append_left (column_keys_of groups) (entry_of offset size k ∷ []) (entry_of offset size j) (so_far.all j d' below some')
+            | inr past ↦ let here : k ≡ j = omega (arith, past, before) in subst (λ j. Contains (column_keys_of groups ++ entry_of offset size k ∷ []) (entry_of offset size j)) here (Contains-push (column_keys_of groups) (entry_of offset size k))
           ]);
-          answers = All-push (λ group. IsTotalAt total (rows_with found by rows group.entry) rows group.answer) groups group so_far.answers
-              (subst (λ e. IsTotalAt total (rows_with found by rows e) rows answer) is
-              (total_at total rows found (rows_with found by rows (entry_of offset size k)) answer (read_long (entry_of offset size k)) (total_is _ (tally_of k d within))));
+          answers = All-push (λ group. IsTotalAt total (rows_with_entry found by rows group.entry) rows group.answer) groups group so_far.answers
+              (subst (λ e. IsTotalAt total (rows_with_entry found by rows e) rows answer) is
+              (total_at total rows found (rows_with_entry found by rows (entry_of offset size k)) answer (read_long (entry_of offset size k)) (total_is _ (tally_of k d within))));
         }
           where
-            group : Group
+            group : ColumnGroup
             group = record { entry = e; answer = answer }
 
-            keys_more : keys_of (groups ++ group ∷ []) ≡ keys_of groups ++ entry_of offset size k ∷ []
-            keys_more = map-append (λ group. group.entry) groups (group ∷ []) ∙ ap (λ e. keys_of groups ++ e ∷ []) (sym is)
+            keys_more : column_keys_of (groups ++ group ∷ []) ≡ column_keys_of groups ++ entry_of offset size k ∷ []
+            keys_more = map-append (λ group. group.entry) groups (group ∷ []) ∙ ap (λ e. column_keys_of groups ++ e ∷ []) (sym is)
 
     -- all groups
-    pub all_groups : (groups : List Group) → AreTallied total found by rows offset size tallies (length tallies) groups → All (IsInRange offset size) (column_of rows by)
-        → AreGroups total found by rows groups
+    pub all_groups : (groups : List ColumnGroup) → AreTallied total found by rows offset size tallies (length tallies) groups → All (IsInRange offset size) (column_of rows by)
+        → AreColumnGroups total found by rows groups
     all_groups groups so_far in_range = record {
       rise = so_far.rise;
       had = so_far.had;
-      all = All-weaker (λ e. Contains (entries_at found by rows) e × IsInRange offset size e) (Contains (keys_of groups)) taken (entries_at found by rows)
-          (λ i d within. (All-contains_itself (entries_at found by rows) i d within, all_found (IsInRange offset size) found (column_of rows by) in_range i d within));
+      all = All-weaker (λ e. Contains (column_entries_at found by rows) e × IsInRange offset size e) (Contains (column_keys_of groups)) taken (column_entries_at found by rows)
+          (λ i d within. (All-contains_itself (column_entries_at found by rows) i d within, all_found (IsInRange offset size) found (column_of rows by) in_range i d within));
       answers = so_far.answers;
     }
       where
-        taken : (e : Option ℤ) → Contains (entries_at found by rows) e × IsInRange offset size e → Contains (keys_of groups) e
+        taken : (e : Option ℤ) → Contains (column_entries_at found by rows) e × IsInRange offset size e → Contains (column_keys_of groups) e
         taken e is =
             let place = place_for offset size e is.1 in
             let near : place.0 < length tallies = omega (arith, place.1, are.long, size_is) in
-            let counted = subst (λ e. 0 < count_by (λ b. b) (rows_with found by rows e)) (sym place.2) (counted_by found by rows long e is.0) in
+            let counted = subst (λ e. 0 < count_by (λ b. b) (rows_with_entry found by rows e)) (sym place.2) (counted_by found by rows long e is.0) in
             let d = get_or tallies 0 empty in
-            subst (Contains (keys_of groups)) place.2 (so_far.all place.0 d near (omega (arith, counted, rows_of place.0 d near)))
+            subst (Contains (column_keys_of groups)) place.2 (so_far.all place.0 d near (omega (arith, counted, rows_of place.0 d near)))
           where
             empty : Tally
             empty = record { rows = 0; sum = pos 0; least = None; greatest = None }

@@ -1,6 +1,6 @@
+pub mod ColumnGroups
 pub mod Entries
 pub mod Groups
-pub mod Pairs
 pub mod Quantiles
 pub mod Replies
 pub mod Tallies

@@ -1,11 +1,13 @@
 //! How many different numbers a column has.
 
-ghost use Rattle.std.specs.Prelude.{◌≡◌, ◌++◌, ◌<◌, ◌^◌, length, IfOk, OnOk};
+ghost use Rattle.std.specs.Prelude.{◌≡◌, ◌++◌, ◌<◌, ◌^◌, All, Contains, int_lt, length, nat_lt, IfOk, IsTrue, OnOk};
+ghost use Rattle.std.specs.List.{items_where_true, AllPairs};
 ghost use Rattle.std.specs.Ordering.{int_eq};
 ghost use Rattle.std.specs.Set.{distinct_count};
 ghost use Rattle.bsi_bits.specs.BitList.{max_block};
 ghost use Rattle.bsi_orders.specs.Orders.{values_at};
 ghost use Rattle.bsi_shift.specs.Shifted.{shifted_entries};
+ghost use Rattle.bsi_groups.specs.ColumnGroups.{AreMoreEntries};
 ghost use Rattle.bsi_groups.specs.Replies.{block_numbers, selected_numbers, IsReplyOn};
 
 use crate::selecting::select_for;
@@ -52,10 +54,38 @@ fn count_sorted(alloc: Global, column: &Shifted, found: &Bits) -> Result<u64, No
         ≡ distinct_count int_eq (values_at found.now.bits (shifted_entries column.now))) }
     ensures few { IfOk result (λ count. count < 2 ^ 63) }
 {
+    Ok(different_numbers(alloc, column, found)?.len() as u64)
+}
+
+/// Returns whether a column has more than so many different numbers at the rows of a found set. It copies and sorts the numbers.
+pub(crate) fn has_more_numbers(
+    alloc: Global,
+    column: &Shifted,
+    found: &Bits,
+    most: usize,
+) -> Result<bool, NoMemory>
+    requires { length (shifted_entries column.now) ≡ length found.now.bits }
+    ensures count { IfOk result (λ more. more ≡ nat_lt most
+        (distinct_count int_eq (values_at found.now.bits (shifted_entries column.now)))) }
+    ensures more { IfOk result (λ more. IsTrue more → AreMoreEntries most
+        (items_where_true found.now.bits (shifted_entries column.now))) }
+{
+    Ok(different_numbers(alloc, column, found)?.len() > most)
+}
+
+/// Returns the different numbers of a column at the rows of a found set, in their order.
+fn different_numbers(alloc: Global, column: &Shifted, found: &Bits) -> Result<Vec<i64>, NoMemory>
+    requires { length (shifted_entries column.now) ≡ length found.now.bits }
+    ensures count { IfOk result (λ numbers. length numbers.items
+        ≡ distinct_count int_eq (values_at found.now.bits (shifted_entries column.now))) }
+    ensures rise { IfOk result (λ numbers. AllPairs (λ x y. IsTrue (int_lt x y)) numbers.items) }
+    ensures had { IfOk result (λ numbers. All (Contains (values_at found.now.bits
+        (shifted_entries column.now))) numbers.items) }
+{
     let mut numbers = numbers_at(alloc, column, found)?;
     numbers.sort_unstable();
     numbers.dedup();
-    Ok(numbers.len() as u64)
+    Ok(numbers)
 }
 
 /// Returns the numbers of a column at the rows of a found set, in order of the rows.

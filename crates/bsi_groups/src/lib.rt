@@ -1,9 +1,10 @@
 //! What reports ask of the rows that a query selects: groups (O'Neil and Quass 1997), ranks, quantiles, different numbers, and the first rows.
 #![tactic(auto)]
 
+mod column;
 mod differing;
 mod grouping;
-mod pairs;
+mod groups;
 mod quantiles;
 mod ranking;
 mod selecting;
@@ -13,8 +14,8 @@ mod tallying;
 mod tops;
 
 pub use differing::distinct;
-pub use grouping::{Group, GroupError, group_by};
-pub use pairs::{PairGroup, group_by_two};
+pub use grouping::{GroupError, group_by};
+pub use groups::{Group, Groups};
 pub use quantiles::{Share, quantile};
 pub use ranking::ranks;
 pub use tops::{End, TopRow, top};

@@ -9,10 +9,11 @@ ghost use Rattle.bsi_table.specs.Totals.{NeedsNoMemory};
 ghost use Rattle.bsi_orders.specs.Blocks.{value_entry};
 ghost use Rattle.bsi_orders.specs.Offsets.{number_of, IsInRange};
 ghost use Rattle.bsi_shift.specs.Shifted.{shifted_entries, shifted_size};
-ghost use Rattle.bsi_groups.specs.Groups.{AreGroups, IsRefusedOver};
+ghost use Rattle.bsi_groups.specs.ColumnGroups.{AreColumnGroups, IsRefusedColumn};
 ghost use Rattle.bsi_groups.specs.Tallies.{column_read, entries_or_nulls, AreTallies, IsPlace};
 
-use crate::grouping::{Group, GroupError};
+use crate::column::ColumnGroup;
+use crate::grouping::GroupError;
 use crate::tally::Tally;
 use bsi_bits::{Bits, MAX_BLOCK, MAX_LEN};
 use bsi_shift::Shifted;
@@ -37,15 +38,15 @@ pub(crate) fn tallied_groups(
     by: u32,
     found: &Bits,
     most: usize,
-) -> Result<Vec<Group>, GroupError>
+) -> Result<Vec<ColumnGroup>, GroupError>
     requires by { by < length index.now.schema.columns }
     requires there { missing_of (length index.now.schema.columns) (columns_of_total total) ≡ None }
     requires cheap { NeedsNoMemory total }
     requires same { length found.now.bits ≡ length index.now.rows }
     ensures groups { IfOk result (λ groups.
-        AreGroups total found.now.bits by index.now.rows groups.items) }
+        AreColumnGroups total found.now.bits by index.now.rows groups.items) }
     ensures few { IfOk result (λ groups. length groups.items ≤ most) }
-    ensures refused { IfErr result (IsRefusedOver found.now.bits by index.now.rows most) }
+    ensures refused { IfErr result (IsRefusedColumn found.now.bits by index.now.rows most) }
 {
     let keys = index.column(by);
     let (offset, size) = (index.schema().offset(by), keys.size());
@@ -58,7 +59,7 @@ pub(crate) fn tallied_groups(
                 return Err(GroupError::TooMany);
             }
             groups.reserve(1)?;
-            groups.push_reserved(Group {
+            groups.push_reserved(ColumnGroup {
                 entry: entry_at(offset, size, k),
                 answer: tallies[k].answer(total),
             });

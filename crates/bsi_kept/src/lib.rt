@@ -19,7 +19,7 @@ pub use bytes::{put_bytes, take_bytes};
 pub use fault::{SegmentFault, WriteFault};
 pub use laws::{one_other_word_is_told, schema_is_read, segment_is_read};
 pub use packed::{put_bits, take_bits};
-pub use reading::read_segment;
+pub use reading::{may_begin, read_segment};
 pub use schemas::{put_schema, take_schema};
 pub use sums::checksum;
 pub use texts::{put_text, take_text};

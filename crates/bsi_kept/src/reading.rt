@@ -1,8 +1,8 @@
 //! Kept words that come from a reader.
 
-ghost use Rattle.std.specs.Prelude.{◌≡◌, ◌≢◌, ◌+◌, ◌*◌, ◌^◌, ◌<◌, ◌≤◌, ◌∷◌, [], length, take, IfErr, IfNone, IfOk, IfSome, OnOk};
+ghost use Rattle.std.specs.Prelude.{◌≡◌, ◌≢◌, ◌+◌, ◌*◌, ◌^◌, ◌<◌, ◌≤◌, ◌∷◌, [], true, false, length, take, IfErr, IfNone, IfOk, IfSome, OnOk};
 ghost use Rattle.std.specs.Io.KnownBytes.{Consumes, IsAtEnd};
-ghost use Rattle.bsi_kept.specs.Segments.{bytes_of, checksum_of, segment, segment_rest, magic, AreWords, HasOnly, IsFirstFault, MeetsFault, MeetsRestFault, StopsBefore, StopsInFirst, TakesWords};
+ghost use Rattle.bsi_kept.specs.Segments.{bytes_of, checksum_of, segment, segment_rest, magic, AreWords, HasOnly, IsFirstFault, IsShortFault, MayBegin, MeetsFault, MeetsRestFault, StopsBefore, StopsInFirst, TakesWords};
 
 use crate::fault::SegmentFault;
 use crate::sums::checksum;
@@ -76,9 +76,21 @@ fn read_first<R: Read>(reader: &mut R) -> Result<Option<u64>, SegmentFault>
         return Ok(None);
     }
     if taken < 8 {
-        return Err(SegmentFault::CutShort);
+        return Err(short_fault(&bytes[..taken]));
     }
     Ok(Some(word_of(&bytes)))
+}
+
+/// Returns the fault of fewer bytes than a word has.
+fn short_fault(bytes: &[u8]) -> SegmentFault
+    requires { length bytes.now < 8 }
+    ensures { IsShortFault bytes.now result }
+{
+    if bytes == &MAGIC.to_le_bytes()[..bytes.len()] {
+        SegmentFault::CutShort
+    } else {
+        SegmentFault::NotOurs
+    }
 }
 
 /// Reads a word.
@@ -89,10 +101,14 @@ fn read_word<R: Read>(reader: &mut R) -> Result<u64, SegmentFault>
     ensures fault { IfErr result
         (StopsBefore (R.remaining reader.old) (R.remaining reader.new) 1) }
 {
-    match read_first(reader)? {
-        Some(word) => Ok(word),
-        None => Err(SegmentFault::CutShort),
+    let mut bytes = [0; 8];
+    let Ok(taken) = fill(reader, &mut bytes) else {
+        return Err(SegmentFault::Unread);
+    };
+    if taken < 8 {
+        return Err(SegmentFault::CutShort);
     }
+    Ok(word_of(&bytes))
 }
 
 /// Returns the fault of a first word that is another one than ours.
@@ -104,6 +120,23 @@ fn first_fault(first: u64) -> SegmentFault
         SegmentFault::OtherVersion
     } else {
         SegmentFault::NotOurs
+    }
+}
+
+/// Returns whether a reader has no bytes, or begins as a segment of some version does. It reads a word at most, and fails
+/// only where the reader does.
+pub fn may_begin<R: Read>(reader: &mut R) -> Result<bool, SegmentFault>
+    ensures yes { IfOk result (λ begins. begins ≡ true →
+        MayBegin (R.remaining reader.old) (R.remaining reader.new)) }
+    ensures no { IfOk result (λ begins. begins ≡ false →
+        MeetsFault (R.remaining reader.old) (R.remaining reader.new) SegmentFault.NotOurs) }
+    ensures fault { IfErr result (λ fault. fault ≡ SegmentFault.Unread) }
+{
+    match read_first(reader) {
+        Ok(Some(first)) => Ok(first % (1 << 56) == MAGIC % (1 << 56)),
+        Ok(None) | Err(SegmentFault::CutShort) => Ok(true),
+        Err(SegmentFault::NotOurs) => Ok(false),
+        Err(_) => Err(SegmentFault::Unread),
     }
 }
 

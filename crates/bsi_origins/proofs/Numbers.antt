@@ -1,13 +1,13 @@
 -- The counts of rows by feeder, and the numbers of rows among their feeders', one row further.
-use Rattle.std.proofs.Common.{◌≡◌, ◌≢◌, ℕ, ◌+◌, ◌<◌, ◌≤◌, All, zero, suc, replicate, Bool, true, false, cond, List, [], ◌∷◌, ◌++◌, length, filter, take, set, get_or, refl, sym, ap, subst, zero-add, ◌∙◌, arith, add-one, get_or-set_same, get_or-set_other, inl, inr}
+use Rattle.std.proofs.Common.{◌≡◌, ◌≢◌, ℕ, ◌+◌, ◌-◌, ◌<◌, ◌≤◌, All, zero, suc, replicate, Bool, true, false, cond, List, [], ◌∷◌, ◌++◌, length, drop, filter, take, set, get_or, refl, sym, ap, ap₂, subst, zero-add, ◌∙◌, arith, add-one, get_or-set_same, get_or-set_other, inl, inr}
 use Rattle.std.specs.Prelude.{count_by, nat_eq, slice_index_or}
 use Rattle.std.specs.List.{range_with_len}
 use Rattle.std.proofs.lemmas.Bool.{cases_Bool}
 use Rattle.std.proofs.lemmas.Bool.Decides.{nat_tests}
-use Rattle.std.proofs.lemmas.List.{get_or-append_right, get_or-replicate, length-append, length-replicate, length-take-le, map-append, take-append-le, take_more}
+use Rattle.std.proofs.lemmas.List.{drop-take, get_or-append_right, get_or-replicate, length-append, length-replicate, length-take-le, map-append, take-append-le, take-take, take_more}
 use Rattle.std.proofs.lemmas.List.Elements.{All-filter, All-from_get_or, All-get_or, filter-append}
 use Rattle.std.proofs.lemmas.List.FromFn.{get_or-range_with_len, length-range_with_len}
-use Rattle.std.proofs.lemmas.List.Sums.{count_by-le-length, count_by_more_yes, count_by_more_no}
+use Rattle.std.proofs.lemmas.List.Sums.{count_by-le-length, count_by_more_yes, count_by_more_no, sum_by-take-drop}
 use Rattle.bsi_bits.specs.BitList.{set_places}
 use Rattle.bsi_rows.specs.Numbering.{numbered_at, number_within, count_before}
 use Rattle.bsi_origins.specs.Origins.{AreCountsBefore}
@@ -175,3 +175,13 @@ module _ (bits : List Bool) (feeders : List ℕ) (r : ℕ) where
       append-none : (xs : List ℕ) → xs ++ [] ≡ xs
       append-none [] = refl
       append-none (x ∷ xs) = ap (λ ys. x ∷ ys) (append-none xs)
+
+-- the rows behind the first so many count on
+pub count_before-on : (rows : List ℕ) (s r f : ℕ) → s ≤ r → r ≤ length rows
+    → count_before rows s f + count_by (λ feeder. nat_eq feeder f) (take (r - s) (drop s rows)) ≡ count_before rows r f
+count_before-on rows s r f before within =
+    let end : s + (r - s) ≡ r = omega arith in
+    let first : take s (take r rows) ≡ take s rows = take-take s r rows before in
+    let behind : drop s (take r rows) ≡ take (r - s) (drop s rows) = ap (λ n. drop s (take n rows)) (sym end) ∙ drop-take s (r - s) rows in
+    ap₂ (λ xs ys. count_by (λ feeder. nat_eq feeder f) xs + count_by (λ feeder. nat_eq feeder f) ys) (sym first) (sym behind)
+    ∙ sum_by-take-drop (λ feeder. cond (nat_eq feeder f) 1 0) (take r rows) s

@@ -5,8 +5,9 @@
 //! tallies cost 4 bytes for each feeder and 512 rows. A row that stands alone is numbered by one tally and the feeders
 //! of up to 512 rows, its own among them.
 
-ghost use Rattle.std.specs.Prelude.{◌≡◌, ◌≢◌, ◌↔◌, ◌+◌, ◌-◌, ◌*◌, ◌%◌, ◌<◌, ◌≤◌, ◌^◌, ◌++◌, ◌∷◌, [], All, IfNone, IfOk, IfSome, IsOk, IsTrue, OnErr, OnOk, length, min, replicate, slice_index, take, vec_len, vec_capacity};
+ghost use Rattle.std.specs.Prelude.{◌≡◌, ◌≢◌, ◌↔◌, ◌+◌, ◌-◌, ◌*◌, ◌%◌, ◌<◌, ◌≤◌, ◌^◌, ◌++◌, ◌∷◌, [], All, IfNone, IfOk, IfSome, IsOk, IsTrue, OnErr, OnOk, count_by, length, min, nat_eq, replicate, slice_index, take, vec_len, vec_capacity};
 ghost use Rattle.bsi_bits.specs.BitList.{max_len};
+ghost use Rattle.bsi_rows.specs.Numbering.{number_within};
 ghost use Rattle.bsi_rows.specs.Table.{max_feeders};
 ghost use Rattle.bsi_origins.specs.Origins.{stretch_rows, tally_len, AreCountsBefore, HasOtherFeeder};
 
@@ -125,6 +126,22 @@ impl Origins {
         ensures few { self.now.feeders ≤ max_feeders }
     {
         self.row_feeders[r as usize]
+    }
+
+    /// Returns the number of row `r` among the rows of its feeder, from 0: how many of the rows before it came from there. It
+    /// reads one tally and the feeders of at most 512 rows.
+    pub fn number(&self, r: u64) -> u64
+        requires { r < length self.now.rows }
+        ensures { result ≡ number_within self.now.rows r }
+    {
+        if self.feeders == 1 {
+            return r;
+        }
+        let feeder = self.row_feeders[r as usize];
+        let stretch = r / STRETCH_ROWS;
+        let tally = self.tallies[self.feeders as usize * stretch as usize + feeder as usize];
+        let start = stretch * STRETCH_ROWS;
+        u64::from(tally) + count_rows_of(feeder, &self.row_feeders[start as usize..r as usize])
     }
 
     /// Makes room for `more` further rows. Whatever the result, the rows stay and there is no less room than before. It
@@ -279,6 +296,18 @@ fn run_len(row_feeders: &[u8]) -> usize
     let first = row_feeders[0];
     let end = row_feeders.iter().position(|feeder| *feeder != first);
     end.unwrap_or(row_feeders.len())
+}
+
+/// Counts the rows of a feeder.
+fn count_rows_of(feeder: u8, row_feeders: &[u8]) -> u64
+    ensures count { result ≡ count_by (λ row_feeder. nat_eq row_feeder feeder) row_feeders.now }
+    ensures few { result ≤ length row_feeders.now }
+{
+    let mut count = 0;
+    'rows: for row_feeder in row_feeders {
+        count += u64::from(*row_feeder == feeder);
+    }
+    count
 }
 
 /// Returns how many counts a tally has.

@@ -2,24 +2,26 @@
 
 use crate::NoMemory;
 use crate::closest::unknown_column;
-use crate::shown::shown;
+use crate::shown::{add_line_ends, shown};
 use bsi_reading::count_named;
 use bsi_records::field;
 use bsi_schema::Schema;
 use csv::ByteRecord;
 use std::alloc::Global;
 
-/// Returns why a record is no header: what it names and what it is to name, and then each column that it does not name
-/// once, and each field that is no column.
+/// Returns why a record that begins at a line is no header: what it names and what it is to name, and then each column
+/// that it does not name once, each field that is no column, and how many line ends a field takes in.
 pub fn why_no_header(
     alloc: Global,
     schema: &Schema,
     header: &ByteRecord,
+    line: u64,
 ) -> Result<String, NoMemory> {
     let mut text = header_text(alloc, schema, header)?;
     add_columns(schema, header, &mut text)?;
     add_fields(alloc, schema, header, &mut text)?;
     add_hint(header, &mut text)?;
+    add_line_ends(header, line, &mut text)?;
     Ok(text)
 }
 

@@ -13,4 +13,4 @@ pub use bsi_records::NoMemory;
 pub use headers::why_no_header;
 pub use records::why_bad_record;
 pub use setups::why_bad_setup;
-pub use shown::count_line_feeds;
+pub use shown::{count_line_feeds, count_lone_returns};

@@ -1,7 +1,7 @@
 //! Why a record of a schema declares nothing.
 
 use crate::NoMemory;
-use crate::shown::{shown, shown_record};
+use crate::shown::{add_line_ends, shown, shown_record};
 use bsi_records::{field, read_number, read_signed};
 use bsi_schema::{ColumnSpec, Schema, SchemaError};
 use csv::ByteRecord;
@@ -11,16 +11,19 @@ use std::alloc::Global;
 const NAMES: &str =
     "1 to 32 of a to z, 0 to 9 and _, first a letter, and not all, null, and, or, not";
 
-/// Returns why a record declares nothing after those that have made this schema, behind what is shown of the record. It
-/// may add a column to the schema.
+/// Returns why a record that begins at a line declares nothing after those that have made this schema, behind what is
+/// shown of the record, and then how many line ends a field takes in. It may add a column to the schema.
 pub fn why_bad_setup(
     alloc: Global,
     schema: &mut Schema,
     fields: &ByteRecord,
+    line: u64,
 ) -> Result<String, NoMemory> {
     let record = shown_record(alloc, fields)?;
     let why = why_no_setup(alloc, schema, fields)?;
-    format!(in alloc; "{record}: {why}")
+    let mut text = format!(in alloc; "{record}: {why}")?;
+    add_line_ends(fields, line, &mut text)?;
+    Ok(text)
 }
 
 /// Returns why a record declares nothing.

@@ -139,7 +139,7 @@ fn read_next<R: Read>(alloc: Global, reader: &mut R, whole: &mut Whole) -> Resul
 }
 
 /// Returns whether the rows of an index may be added to those of another.
-fn may_follow(first: &Index, more: &Index) -> bool
+pub fn may_follow(first: &Index, more: &Index) -> bool
     ensures yes { result ≡ true → MayFollow (table_of first.now) (table_of more.now) }
     ensures no { result ≡ false → MayFollow (table_of first.now) (table_of more.now) → ⊥ }
 {

@@ -1,7 +1,26 @@
--- What holds of a command that met no fault.
-use Rattle.std.proofs.Common.{Result, Ok, Err}
-use Rattle.std.specs.Prelude.{IsOk, OnOk}
+-- What holds of a command that met no fault, and of one that did.
+use Rattle.std.proofs.Common.{◌≡◌, ℕ, List, Result, Ok, Err, inl, inr, subst}
+use Rattle.std.specs.Borrow.{Bor}
+use Rattle.std.specs.Prelude.{◌⊎◌, IfErr, IsOk, OnOk}
+use Rattle.bsi_store.specs.Faults.{Names}
+use Rattle.bsi_store.specs.declared.fault.StoreFault.{StoreFault}
+use Rattle.bsi_store.specs.declared.fault.StoreFault.TheVariants.{CannotOpen, CannotWrite, Unusable, Run}
 
 pub on_ok_is : {T E P : Type 0} (r : Result T E) → OnOk r P → IsOk r → P
 on_ok_is (Ok x) holds ok = holds
 on_ok_is (Err e) holds ok = cc ok
+
+-- what is left by a fault of a run, or of the flush behind it
+pub left_of : {T E D : Type 0} (L : E → Type 0) {w : E} (r : Result T E) (fault : E) → IfErr r L → OnOk r D → ((r ≡ Err fault) ⊎ (IsOk r × (fault ≡ w)))
+    → L fault ⊎ ((fault ≡ w) × D)
+left_of L (Ok x) fault failed done (inl is) = cc is
+left_of L (Ok x) fault failed done (inr is) = inr (is.1, done)
+left_of L (Err e) fault failed done (inl is) = let same : e ≡ fault = cc is in inl (subst L same failed)
+left_of L (Err e) fault failed done (inr is) = cc is.0
+
+-- a fault names one of more paths
+pub names_more : {P Q : Bor (List ℕ) → Type 0} (fault : StoreFault) → ((path : Bor (List ℕ)) → P path → Q path) → Names P fault → Names Q fault
+names_more (CannotOpen path) follows is = follows path is
+names_more (CannotWrite path) follows is = follows path is
+names_more (Unusable path why) follows is = follows path is
+names_more (Run fault) follows is = tt

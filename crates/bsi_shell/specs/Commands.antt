@@ -1,5 +1,5 @@
 -- What the words after the program's name ask for.
-use Rattle.std.specs.Prelude.{⊤, ℕ, List, Option, Some, None, String, codes, if◌then◌else◌, option_map, slice_get, string_bytes}
+use Rattle.std.specs.Prelude.{ℕ, List, Option, Some, None, String, codes, if◌then◌else◌, option_map, slice_get, string_bytes}
 use Rattle.std.specs.Str.{bytes_eq}
 use Rattle.std.specs.declared.alloc.Global.{Global}
 use Rattle.bsi_shell.specs.declared.request.Subcommand.{Subcommand}
@@ -20,11 +20,3 @@ named_by (Some word) =
 -- the command that the first word names
 abbrev pub subcommand_of : List (String Global) → Subcommand
 subcommand_of words = named_by (option_map string_bytes (slice_get words 0))
-
--- it keeps an index in a file, or reads one there
-abbrev pub IsOfKept : Subcommand → Type 0
-IsOfKept Save = ⊤
-IsOfKept Add = ⊤
-IsOfKept Ask = ⊤
-IsOfKept Show = ⊤
-IsOfKept command = ⊥

@@ -22,7 +22,7 @@ IsTold (Err fault) before after line = IsCut before after line
 -- the usage line of a command; those of `script` and `files` are one
 abbrev pub usage_of : Subcommand → List ℕ
 usage_of Check = codes "usage: bsi check --schema FILE [--asks FILE] CSV..\n"
-usage_of Save = codes "usage: bsi save --schema FILE --to FILE CSV..\n"
+usage_of Save = codes "usage: bsi save [--force] --schema FILE --to FILE CSV..\n"
 usage_of Add = codes "usage: bsi add [--so-far] FILE CSV..\n"
 usage_of Ask = codes "usage: bsi ask [--so-far] FILE [--asks FILE]\n"
 usage_of Show = codes "usage: bsi show FILE\n"

@@ -1,12 +1,19 @@
 -- What the commands over a kept index leave in the output, and what they tell of a fault.
 use Rattle.std.specs.Io.KnownBytes.{Keeps}
-use Rattle.std.specs.Prelude.{◌⊎◌, ℕ, Bool, List, Option, Result}
-use Rattle.bsi_adding.specs.Loads.{HasAdded, HasSaved}
+use Rattle.std.specs.Borrow.{Bor}
+use Rattle.std.specs.List.{Contains}
+use Rattle.std.specs.Prelude.{◌≡◌, ◌⊎◌, ℕ, Bool, List, Option, IfSome, IsOk, Result, Err, length}
+use Rattle.bsi_adding.specs.Loads.{HasAdded, HasSaved, IsAddFault, IsMet}
+use Rattle.bsi_adding.specs.declared.adding.AddPaths.{AddPaths}
+use Rattle.bsi_adding.specs.declared.saving.SavePaths.{SavePaths}
+use Rattle.bsi_asks.specs.declared.faults.FilesFault.TheVariants.{NoMemory, Write}
 use Rattle.bsi_reading.specs.declared.writing.WriteFault.{WriteFault}
 use Rattle.bsi_shell.specs.FaultLines.{IsTold}
-use Rattle.bsi_store.specs.Asked.{HasAsked}
-use Rattle.bsi_store.specs.Faults.{store_fault_line}
+use Rattle.bsi_store.specs.Asked.{HasAsked, HasShown, LeavesAnswers}
+use Rattle.bsi_store.specs.Faults.{store_fault_line, IsOfFile, Names}
+use Rattle.bsi_store.specs.declared.asking.AskPaths.{AskPaths}
 use Rattle.bsi_store.specs.declared.fault.StoreFault.{StoreFault}
+use Rattle.bsi_store.specs.declared.fault.StoreFault.TheVariants.{Run}
 
 -- this is so of what an output held before and after, and then the output was flushed
 pub record IsFlushed (Is : Option (List ℕ) → Option (List ℕ) → Type 0) (before after : Option (List ℕ)) : Type 0 where
@@ -28,6 +35,60 @@ HasSavedRows rem put before after = (files : ℕ) × HasSaved rem put files befo
 abbrev pub HasAddedEither : {S : Type 0} → (S → Option (List ℕ)) → (S → Option (List ℕ)) → Option (List ℕ) → Option (List ℕ) → Type 0
 HasAddedEither rem put before after = (so_far : Bool) × (files : ℕ) × HasAdded rem put so_far files before after
 
--- the line of a fault was told
-abbrev pub HasToldStore : Result (Unit {0}) WriteFault → Option (List ℕ) → Option (List ℕ) → Type 0
-HasToldStore told said now = (fault : StoreFault) × IsTold told said now (store_fault_line fault)
+-- a run ended by this fault, or by none and then the output could not be flushed; and the line of it was told
+pub record HasEnded (run : Result (Unit {0}) StoreFault) (told : Result (Unit {0}) WriteFault) (said now : Option (List ℕ)) : Type 0 where
+  pub fault : StoreFault
+  pub is : (run ≡ Err fault) ⊎ (IsOk run × (fault ≡ Run Write))
+  pub line : IsTold told said now (store_fault_line fault)
+
+-- a command met a fault, which leaves this, or met none and its output could not be flushed; and the line of it was told
+pub record HasToldStore (Leaves : StoreFault → Option (List ℕ) → Option (List ℕ) → Type 0) (Done : Option (List ℕ) → Option (List ℕ) → Type 0)
+    (before after : Option (List ℕ)) (told : Result (Unit {0}) WriteFault) (said now : Option (List ℕ)) : Type 0 where
+  pub fault : StoreFault
+  pub middle : Option (List ℕ)
+  pub left : Leaves fault before middle ⊎ ((fault ≡ Run Write) × Done before middle)
+  pub kept : Keeps middle after
+  pub line : IsTold told said now (store_fault_line fault)
+
+-- or memory was refused before it began
+abbrev pub OrNoMemory : Type 0 → Option (List ℕ) → Option (List ℕ) → Result (Unit {0}) WriteFault → Option (List ℕ) → Option (List ℕ) → Type 0
+OrNoMemory HasTold before after told said now = HasTold ⊎ ((after ≡ before) × IsTold told said now (store_fault_line (Run NoMemory)))
+
+-- what a fault of `bsi save` tells: it is of one of these paths, and of a file's bytes only if a file that was opened has them
+pub record LeavesSave {S : Type 0} (rem : S → Option (List ℕ)) (paths : SavePaths) (fault : StoreFault) (before after : Option (List ℕ)) : Type 0 where
+  pub named : Names (λ named. (named ≡ paths.schema) ⊎ ((named ≡ paths.to) ⊎ Contains paths.rows.items named)) fault
+  pub met : IsMet rem fault
+
+-- of `bsi add`
+pub record LeavesAdd {S : Type 0} (rem : S → Option (List ℕ)) (paths : AddPaths) (fault : StoreFault) (before after : Option (List ℕ)) : Type 0 where
+  pub named : Names (λ named. (named ≡ paths.kept) ⊎ Contains paths.rows.items named) fault
+  pub met : IsAddFault rem paths.so_far (length paths.rows.items) fault
+
+-- of `bsi ask`, and which first lines are out, for the questions of a file that was opened or for those of the input
+pub record LeavesAsk {S : Type 0} (rem : S → Option (List ℕ)) (input : Option (List ℕ)) (paths : AskPaths) (fault : StoreFault) (before after : Option (List ℕ)) : Type 0 where
+  pub named : Names (λ named. (named ≡ paths.kept) ⊎ IfSome paths.asks (λ asks. named ≡ asks)) fault
+  pub met : IsOfFile rem fault
+  pub part : (after ≡ before) ⊎ (((asked : S) × LeavesAnswers rem paths.so_far (rem asked) before after fault)
+      ⊎ LeavesAnswers rem paths.so_far input before after fault)
+
+-- of `bsi show`
+pub record LeavesShow {S : Type 0} (rem : S → Option (List ℕ)) (path : Bor (List ℕ)) (fault : StoreFault) (before after : Option (List ℕ)) : Type 0 where
+  pub named : Names (λ named. named ≡ path) fault
+  pub met : IsOfFile rem fault
+
+-- each command failed so, for some paths
+abbrev pub HasFailedSave : {S : Type 0} → (S → Option (List ℕ)) → (S → Option (List ℕ)) → Option (List ℕ) → Option (List ℕ) → Result (Unit {0}) WriteFault → Option (List ℕ) → Option (List ℕ) → Type 0
+HasFailedSave rem put before after told said now =
+    OrNoMemory ((paths : SavePaths) × HasToldStore (LeavesSave rem paths) (HasSavedRows rem put) before after told said now) before after told said now
+
+abbrev pub HasFailedAdd : {S : Type 0} → (S → Option (List ℕ)) → (S → Option (List ℕ)) → Option (List ℕ) → Option (List ℕ) → Result (Unit {0}) WriteFault → Option (List ℕ) → Option (List ℕ) → Type 0
+HasFailedAdd rem put before after told said now =
+    OrNoMemory ((paths : AddPaths) × HasToldStore (LeavesAdd rem paths) (HasAddedEither rem put) before after told said now) before after told said now
+
+abbrev pub HasFailedAsk : {S : Type 0} → (S → Option (List ℕ)) → Option (List ℕ) → Option (List ℕ) → Option (List ℕ) → Result (Unit {0}) WriteFault → Option (List ℕ) → Option (List ℕ) → Type 0
+HasFailedAsk rem input before after told said now =
+    OrNoMemory ((paths : AskPaths) × HasToldStore (LeavesAsk rem input paths) (HasAskedEither rem input) before after told said now) before after told said now
+
+abbrev pub HasFailedShow : {S : Type 0} → (S → Option (List ℕ)) → Option (List ℕ) → Option (List ℕ) → Result (Unit {0}) WriteFault → Option (List ℕ) → Option (List ℕ) → Type 0
+HasFailedShow rem before after told said now =
+    OrNoMemory ((path : Bor (List ℕ)) × HasToldStore (LeavesShow rem path) (HasShown rem) before after told said now) before after told said now

@@ -1,8 +1,10 @@
 //! The commands over a kept index.
-ghost use Rattle.std.specs.Prelude.{◌≡◌, ◌≤◌, IsOk, OnOk, false};
+ghost use Rattle.std.specs.Prelude.{◌≡◌, ◌≤◌, IfErr, IsOk, OnOk, false};
 ghost use Rattle.std.specs.Io.KnownBytes.{Keeps};
-ghost use Rattle.bsi_shell.specs.Kept.{HasAddedEither, HasAskedEither, HasSavedRows, HasToldStore, IsFlushed};
+ghost use Rattle.bsi_shell.specs.Kept.{HasAddedEither, HasAskedEither, HasEnded, HasSavedRows, HasToldStore, IsFlushed, LeavesAdd, LeavesAsk, LeavesSave, LeavesShow};
+ghost use Rattle.bsi_shell.specs.FaultLines.{IsTold};
 ghost use Rattle.bsi_store.specs.Asked.{HasShown};
+ghost use Rattle.bsi_store.specs.Faults.{store_fault_line};
 
 use crate::telling::tell_store_fault;
 use crate::words::CommandEnd;
@@ -30,7 +32,8 @@ pub(crate) fn answer_save<
     ensures saved { result.status ≡ 0 →
         IsFlushed (HasSavedRows S.remaining S.contents) (O.contents output.old) (O.contents output.new) }
     ensures told { result.status ≡ 1 →
-        HasToldStore result.told (F.contents faults.old) (F.contents faults.new) }
+        HasToldStore (LeavesSave S.remaining paths.now) (HasSavedRows S.remaining S.contents)
+        (O.contents output.old) (O.contents output.new) result.told (F.contents faults.old) (F.contents faults.new) }
     ensures quiet { result.status ≡ 0 → F.contents faults.new ≡ F.contents faults.old }
 {
     let run = save_rows(rt, paths, output, gate);
@@ -51,7 +54,8 @@ pub(crate) fn answer_add<
     ensures added { result.status ≡ 0 →
         IsFlushed (HasAddedEither S.remaining S.contents) (O.contents output.old) (O.contents output.new) }
     ensures told { result.status ≡ 1 →
-        HasToldStore result.told (F.contents faults.old) (F.contents faults.new) }
+        HasToldStore (LeavesAdd S.remaining paths.now) (HasAddedEither S.remaining S.contents)
+        (O.contents output.old) (O.contents output.new) result.told (F.contents faults.old) (F.contents faults.new) }
     ensures quiet { result.status ≡ 0 → F.contents faults.new ≡ F.contents faults.old }
 {
     let run = add_rows(rt, paths, output, gate);
@@ -71,7 +75,8 @@ pub(crate) fn answer_ask<
     ensures asked { result.status ≡ 0 →
         IsFlushed (HasAskedEither S.remaining (I.remaining input)) (O.contents output.old) (O.contents output.new) }
     ensures told { result.status ≡ 1 →
-        HasToldStore result.told (F.contents faults.old) (F.contents faults.new) }
+        HasToldStore (LeavesAsk S.remaining (I.remaining input) paths.now) (HasAskedEither S.remaining (I.remaining input))
+        (O.contents output.old) (O.contents output.new) result.told (F.contents faults.old) (F.contents faults.new) }
     ensures quiet { result.status ≡ 0 → F.contents faults.new ≡ F.contents faults.old }
 {
     let run = ask_either(rt, paths, input, output);
@@ -90,7 +95,8 @@ pub(crate) fn answer_show<
     ensures shown { result.status ≡ 0 →
         IsFlushed (HasShown S.remaining) (O.contents output.old) (O.contents output.new) }
     ensures told { result.status ≡ 1 →
-        HasToldStore result.told (F.contents faults.old) (F.contents faults.new) }
+        HasToldStore (LeavesShow S.remaining path.entry) (HasShown S.remaining)
+        (O.contents output.old) (O.contents output.new) result.told (F.contents faults.old) (F.contents faults.new) }
     ensures quiet { result.status ≡ 0 → F.contents faults.new ≡ F.contents faults.old }
 {
     let run = show_index(rt, path, output);
@@ -105,7 +111,9 @@ fn ask_either<
     I: Read + Drop,
     O: Write,
 >(rt: &R, paths: &AskPaths<'a>, input: I, output: &mut O) -> Result<(), StoreFault<'a>>
-    ensures { OnOk result (HasAskedEither S.remaining (I.remaining input)
+    ensures asked { OnOk result (HasAskedEither S.remaining (I.remaining input)
+        (O.contents output.old) (O.contents output.new)) }
+    ensures fault { IfErr result (λ fault. LeavesAsk S.remaining (I.remaining input) paths.now fault
         (O.contents output.old) (O.contents output.new)) }
 {
     match paths.asks {
@@ -124,12 +132,21 @@ fn end_by<O: Write, F: Write>(
     ensures ok { result.status ≡ 0 → IsOk run.entry }
     ensures kept { Keeps (O.contents output.old) (O.contents output.new) }
     ensures told { result.status ≡ 1 →
-        HasToldStore result.told (F.contents faults.old) (F.contents faults.new) }
+        HasEnded run.entry result.told (F.contents faults.old) (F.contents faults.new) }
     ensures quiet { result.status ≡ 0 → F.contents faults.new ≡ F.contents faults.old }
 {
-    let flushed = output.flush().map_err(|_| StoreFault::from(WriteFault));
-    match run.and(flushed) {
+    let flushed = output.flush();
+    match run {
+        Err(fault) => fail(fault, faults),
+        Ok(()) if flushed.is_err() => fail(StoreFault::from(WriteFault), faults),
         Ok(()) => CommandEnd::by(0, Ok(())),
-        Err(fault) => CommandEnd::by(1, tell_store_fault(fault, faults)),
     }
+}
+
+/// Ends a command by a fault, and tells it.
+fn fail<F: Write>(fault: StoreFault<'_>, faults: &mut F) -> CommandEnd
+    ensures status { result.status ≡ 1 }
+    ensures line { IsTold result.told (F.contents faults.old) (F.contents faults.new) (store_fault_line fault.entry) }
+{
+    CommandEnd::by(1, tell_store_fault(fault, faults))
 }

@@ -47,6 +47,8 @@ enum Argument {
     Kept,
     /// Whether a file that is not whole is taken as far as it goes.
     SoFar,
+    /// Whether a file that keeps no index is replaced.
+    Force,
     /// The row files, one or more.
     Rows,
 }
@@ -59,7 +61,15 @@ const COMMANDS: [(&str, &[Argument]); 7] = [
         "check",
         &[Argument::Schema, Argument::AsksIfGiven, Argument::Rows],
     ),
-    ("save", &[Argument::Schema, Argument::To, Argument::Rows]),
+    (
+        "save",
+        &[
+            Argument::Force,
+            Argument::Schema,
+            Argument::To,
+            Argument::Rows,
+        ],
+    ),
     ("add", &[Argument::SoFar, Argument::Kept, Argument::Rows]),
     (
         "ask",
@@ -78,6 +88,7 @@ impl Argument {
             Argument::To => option(alloc, "to").required(true),
             Argument::Kept => Arg::new(alloc, "kept").required(true),
             Argument::SoFar => option(alloc, "so-far").action(ArgAction::SetTrue),
+            Argument::Force => option(alloc, "force").action(ArgAction::SetTrue),
             Argument::Rows => Arg::new(alloc, "rows")
                 .required(true)
                 .num_args(1..)
@@ -240,7 +251,13 @@ fn read_save_paths<'a>(alloc: Global, given: &ArgMatches<'a>) -> Result<Request<
         return Ok(Request::Wrong);
     }
     let rows = rows.to_vec(alloc)?;
-    Ok(Request::Save(SavePaths { schema, to, rows }))
+    let force = given.get_flag("force");
+    Ok(Request::Save(SavePaths {
+        schema,
+        to,
+        rows,
+        force,
+    }))
 }
 
 /// Takes the paths from the matches of the command `add`.

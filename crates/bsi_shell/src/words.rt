@@ -1,10 +1,10 @@
 //! The command line: the words after the program's name, and the status that they end with.
 ghost use Rattle.std.specs.Prelude.{◌≡◌, ◌≤◌, IfErr, OnErr, OnOk, false};
 ghost use Rattle.bsi_shell.specs.Checks.{HasChecked, HasToldCheck};
-ghost use Rattle.bsi_shell.specs.Commands.{subcommand_of, IsOfKept};
+ghost use Rattle.bsi_shell.specs.Commands.{subcommand_of};
 ghost use Rattle.bsi_shell.specs.FaultLines.{usage_of, IsTold};
 ghost use Rattle.bsi_shell.specs.FileRuns.{HasRunOver, HasToldFault};
-ghost use Rattle.bsi_shell.specs.Kept.{HasAddedEither, HasAskedEither, HasSavedRows, HasToldStore, IsFlushed};
+ghost use Rattle.bsi_shell.specs.Kept.{HasAddedEither, HasAskedEither, HasFailedAdd, HasFailedAsk, HasFailedSave, HasFailedShow, HasSavedRows, IsFlushed};
 ghost use Rattle.bsi_store.specs.Asked.{HasShown};
 ghost use Rattle.bsi_shell.specs.ScriptRuns.{HasToldScript, LeavesScript};
 ghost use Rattle.bsi_reading.specs.Texts.{IfKnown, IsAnswered, IsBegun};
@@ -85,8 +85,8 @@ pub fn run_words<
         HasToldCheck S.remaining (O.contents output.old) (O.contents output.new) result.told
         (F.contents faults.old) (F.contents faults.new) }
 
-    // Where it is a command over a kept index, it has done this after status 0, and after status 1 `faults` has the line
-    // of a fault, as above.
+    // Where it is a command over a kept index, it has done this after status 0. After status 1 `faults` has the line of a
+    // fault, as above: which fault of which path, and for questions which first part of the lines is out.
     ensures saved { result.status ≡ 0 → subcommand_of words.items ≡ Subcommand.Save →
         IsFlushed (HasSavedRows S.remaining S.contents) (O.contents output.old) (O.contents output.new) }
     ensures added { result.status ≡ 0 → subcommand_of words.items ≡ Subcommand.Add →
@@ -96,8 +96,18 @@ pub fn run_words<
         (O.contents output.old) (O.contents output.new) }
     ensures shown { result.status ≡ 0 → subcommand_of words.items ≡ Subcommand.Show →
         IsFlushed (HasShown S.remaining) (O.contents output.old) (O.contents output.new) }
-    ensures unkept { result.status ≡ 1 → IsOfKept (subcommand_of words.items) →
-        HasToldStore result.told (F.contents faults.old) (F.contents faults.new) }
+    ensures unsaved { result.status ≡ 1 → subcommand_of words.items ≡ Subcommand.Save →
+        HasFailedSave S.remaining S.contents (O.contents output.old) (O.contents output.new)
+        result.told (F.contents faults.old) (F.contents faults.new) }
+    ensures unadded { result.status ≡ 1 → subcommand_of words.items ≡ Subcommand.Add →
+        HasFailedAdd S.remaining S.contents (O.contents output.old) (O.contents output.new)
+        result.told (F.contents faults.old) (F.contents faults.new) }
+    ensures unasked { result.status ≡ 1 → subcommand_of words.items ≡ Subcommand.Ask →
+        HasFailedAsk S.remaining (I.remaining input) (O.contents output.old) (O.contents output.new)
+        result.told (F.contents faults.old) (F.contents faults.new) }
+    ensures unshown { result.status ≡ 1 → subcommand_of words.items ≡ Subcommand.Show →
+        HasFailedShow S.remaining (O.contents output.old) (O.contents output.new)
+        result.told (F.contents faults.old) (F.contents faults.new) }
 
     // In each case: a run with no fault says nothing. After status 2 nothing was written, and `faults` has the usage
     // line, as above.

@@ -2,9 +2,10 @@
 
 use std::fs::{File, TryLockError};
 use std::io;
+use std::io::Seek;
 
-/// A file that can be locked. A lock ends where the file is dropped, or the program ends.
-pub trait LockFile {
+/// A file that can be locked, and read anew. A lock ends where the file is dropped, or the program ends.
+pub trait LockFile: Seek {
     /// Locks the file for one writer. It returns false where another command has a lock.
     fn lock_alone(&self) -> io::Result<bool>;
 
@@ -13,6 +14,9 @@ pub trait LockFile {
 
     /// Locks the file beside readers, and waits while a writer has it.
     fn wait_beside(&self) -> io::Result<()>;
+
+    /// Ends the lock.
+    fn unlock(&self) -> io::Result<()>;
 }
 
 impl LockFile for File {
@@ -26,6 +30,10 @@ impl LockFile for File {
 
     fn wait_beside(&self) -> io::Result<()> {
         self.lock_shared()
+    }
+
+    fn unlock(&self) -> io::Result<()> {
+        File::unlock(self)
     }
 }
 

@@ -12,6 +12,7 @@ ghost use Rattle.bsi_table.specs.Selections.{IsSelection};
 ghost use Rattle.bsi_table.specs.Totals.{IsTotalAt, NeedsNoMemory};
 ghost use Rattle.bsi_schema.specs.Columns.{column_at, fits};
 ghost use Rattle.bsi_rows.specs.Refusals.{index_refusal, row_refusal, rows_refusal, IsFirstOr};
+ghost use Rattle.bsi_rows.specs.Numbering.{number_within};
 ghost use Rattle.bsi_rows.specs.RowBlocks.{entries_of, fed_as, no_block_rows, HaveSameLimits};
 ghost use Rattle.bsi_rows.specs.Rows.{column_of, feeders_of, holds, row_entries};
 ghost use Rattle.bsi_columns.specs.Places.{bits_each};
@@ -494,6 +495,14 @@ impl Index {
         ensures { result.now ≡ feeders_of self.now.rows }
     {
         self.origins.row_feeders()
+    }
+
+    /// Returns the number of row `r` among the rows of its feeder, from 0. It reads the feeders of at most 512 rows.
+    pub fn row_number(&self, r: u64) -> u64
+        requires { r < length self.now.rows }
+        ensures { result ≡ number_within (feeders_of self.now.rows) r }
+    {
+        self.origins.number(r)
     }
 
     /// Makes a second index of the same rows.

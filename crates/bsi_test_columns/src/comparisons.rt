@@ -79,9 +79,48 @@ fn answers_shown(column: &AnyColumn) -> Result<bool, MakingError> {
     Ok(selects_shown(column)? && nulls_are(column, &[false, true, false])?)
 }
 
+/// The bases 3 and 3, and as many slices as hold their numbers.
+const NINE: Wide<'static> = Wide {
+    width: 4,
+    bases: &[3, 3],
+};
+
+/// How many of the entries 0, 4, 5 and 8 satisfy each comparison.
+const COUNTED: [(Op, u64, u64); 14] = [
+    (Op::Le, 5, 3),
+    (Op::Le, 4, 2),
+    (Op::Gt, 5, 1),
+    (Op::Ge, 5, 2),
+    (Op::Eq, 4, 1),
+    (Op::Ne, 4, 3),
+    (Op::Lt, 4, 1),
+    (Op::Lt, 0, 0),
+    (Op::Ge, 0, 4),
+    (Op::Le, 100, 4),
+    (Op::Gt, 100, 0),
+    (Op::Eq, 9, 0),
+    (Op::Ne, 9, 4),
+    (Op::Lt, u64::MAX, 4),
+];
+
+// Whether each of those comparisons selects as many rows as it should.
+fn counts_shown(column: &AnyColumn) -> Result<bool, NoMemory> {
+    for (op, constant, wanted) in COUNTED {
+        if compared(column, op, constant)?.count() != wanted {
+            return Ok(false);
+        }
+    }
+    Ok(true)
+}
+
+fn is_counted(alloc: Global, form: TestForm) -> Result<bool, MakingError> {
+    let column = column_of(alloc, form, NINE, &[Some(0), Some(4), Some(5), Some(8)])?;
+    Ok(counts_shown(&column)?)
+}
+
 fn is_compared(alloc: Global, form: TestForm) -> Result<bool, MakingError> {
     let column = three_rows(alloc, form)?;
-    answers_shown(&column)
+    Ok(answers_shown(&column)? && is_counted(alloc, form)?)
 }
 
 #[test]

@@ -92,10 +92,19 @@ fn asked<E: Encoding>(column: &Counted<E>, i: u32) -> CallCounts {
     }
 }
 
-// The rows at most 2.
-fn at_most_two<E: Encoding>(column: &Counted<E>) -> Result<Bits, NoMemory> {
-    match column.compare(Op::Le, 2) {
-        Err(_) => column.compare(Op::Le, 2),
+// A column of 100 rows: the numbers below 15 by turns.
+fn hundred_rows<E: Encoding>(alloc: Global) -> Result<Counted<E>, MakingError> {
+    let mut column = empty_decomposed::<WholeVectors<E>>(alloc, FIFTEEN.bases)?;
+    for row in 0..100 {
+        append(&mut column, &[Some(row % 15)])?;
+    }
+    Ok(column)
+}
+
+// The rows at most 7.
+fn at_most_seven<E: Encoding>(column: &Counted<E>) -> Result<Bits, NoMemory> {
+    match column.compare(Op::Le, 7) {
+        Err(_) => column.compare(Op::Le, 7),
         found => found,
     }
 }
@@ -107,17 +116,17 @@ fn is_one_to_four(after: CallCounts, before: CallCounts) -> bool {
 // Whether a comparison calls each component one to four times, if its encoding has no calls on spans.
 fn compares_by_components<E: Encoding>(column: &Counted<E>) -> Result<bool, NoMemory> {
     let (first, second) = (asked(column, 0), asked(column, 1));
-    let found = at_most_two(column)?;
+    let found = at_most_seven(column)?;
     let called = is_one_to_four(asked(column, 0), first)
         && is_one_to_four(asked(column, 1), second);
-    Ok(called && has_bits(&found, &[false, false, true]))
+    Ok(called && found.count() == 56)
 }
 
 // Whether a sum asks each component.
 fn sums_by_components<E: Encoding>(column: &Counted<E>) -> bool {
     let (first, second) = (asked(column, 0), asked(column, 1));
     let sum = column.sum(column.not_null());
-    sum == 5 && asked(column, 0).sums > first.sums && asked(column, 1).sums > second.sums
+    sum == 675 && asked(column, 0).sums > first.sums && asked(column, 1).sums > second.sums
 }
 
 fn has_components<E: Encoding>(column: &Counted<E>) -> Result<bool, MakingError> {
@@ -125,7 +134,7 @@ fn has_components<E: Encoding>(column: &Counted<E>) -> Result<bool, MakingError>
 }
 
 fn works_by_components<E: Encoding>(alloc: Global) -> Result<bool, MakingError> {
-    let column = digits_of::<WholeVectors<E>>(alloc)?;
+    let column = hundred_rows::<E>(alloc)?;
     has_components(&column)
 }
 

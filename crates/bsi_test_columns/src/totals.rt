@@ -68,34 +68,61 @@ const NARROW: Wide<'static> = Wide {
     bases: &[2, 4],
 };
 
+/// As wide as a column can be.
+const WIDEST: Wide<'static> = Wide {
+    width: 63,
+    bases: &[512; 7],
+};
+
+/// The greatest number of the widest column, 2^63 - 1.
+const GREATEST: u64 = u64::MAX / 2;
+
 // Whether entries come to these totals.
 fn works(
     alloc: Global,
     form: TestForm,
+    wide: Wide,
     entries: &[Option<u64>],
     wanted: Found,
 ) -> Result<bool, MakingError> {
-    let column = column_of(alloc, form, NARROW, entries)?;
+    let column = column_of(alloc, form, wide, entries)?;
     comes_to(alloc, &column, wanted)
 }
 
-/// Entries, and the totals of those rows that the word finds.
-const TABLE: [(&[Option<u64>], Found); 4] = [
-    (&[Some(5), None], (0b11, (5, [Some(5); 3]))),
-    (&[Some(5), None], (0b10, NOTHING)),
+/// A width, entries, and the totals of those rows that the word finds.
+const TABLE: [(Wide, &[Option<u64>], Found); 7] = [
+    (NARROW, &[Some(5), None], (0b11, (5, [Some(5); 3]))),
+    (NARROW, &[Some(5), None], (0b10, NOTHING)),
     (
+        NARROW,
         &[None, None, Some(5), None, Some(2), Some(7)],
         (0b111111, (14, [Some(2), Some(7), Some(5)])),
     ),
     (
+        NARROW,
         &[Some(5), None, Some(0)],
         (0b111, (5, [Some(0), Some(5), Some(0)])),
+    ),
+    (
+        NARROW,
+        &[Some(1), Some(2), Some(3), Some(4)],
+        (0b1111, (10, [Some(1), Some(4), Some(2)])),
+    ),
+    (
+        NARROW,
+        &[Some(7), Some(7), None],
+        (0b111, (14, [Some(7); 3])),
+    ),
+    (
+        WIDEST,
+        &[Some(GREATEST); 3],
+        (0b111, (27_670_116_110_564_327_421, [Some(GREATEST); 3])),
     ),
 ];
 
 fn all_work(alloc: Global, form: TestForm) -> Result<bool, MakingError> {
-    for (entries, wanted) in TABLE {
-        if !works(alloc, form, entries, wanted)? {
+    for (wide, entries, wanted) in TABLE {
+        if !works(alloc, form, wide, entries, wanted)? {
             return Ok(false);
         }
     }

@@ -82,8 +82,15 @@ fn submit_many(alloc: Global, feeder: &mut Feeder, rows: u32) -> Option<bool> {
     }
 }
 
+/// Takes two batches of these lengths, one after the other. Returns whether they have them.
+fn take_two<B: Naming>(loader: &mut Loader<B>, first: usize, second: usize) -> bool {
+    let taken = load_batch(loader) == Ok(first);
+    taken && load_batch(loader) == Ok(second)
+}
+
 /// Fills a ring of 1,024 places by two batches, so that a batch between them and a row behind them find no room, and
-/// takes the first out, so that the batch does. Returns whether just that is so.
+/// takes the first out, so that the batch does. Once all are taken, the first fits again: the ring counts the places of
+/// each that was taken. Returns whether just that is so.
 pub(crate) fn fill_by_batches<B: Naming>(
     alloc: Global,
     feeder: Feeder,
@@ -95,5 +102,7 @@ pub(crate) fn fill_by_batches<B: Naming>(
     let rest = submit_many(alloc, &mut feeder, 24)?;
     let full = most && !over && rest && !submit(alloc, &mut feeder, 1);
     let taken = load_batch(loader) == Ok(1_000);
-    Some(full && taken && submit_many(alloc, &mut feeder, 25)?)
+    let fits = taken && submit_many(alloc, &mut feeder, 25)?;
+    let all = take_two(loader, 24, 25);
+    Some(full && fits && all && submit_many(alloc, &mut feeder, 1_000)?)
 }

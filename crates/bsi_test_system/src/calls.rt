@@ -68,11 +68,13 @@ pub(crate) fn opened<B: Naming, R: Wait>(
     }
 }
 
+/// Loads the next row of a feeder. A load that finds no memory and changes nothing is made again.
 pub(crate) fn load<B: Naming>(loader: &mut Loader<B>, feeder: u32) -> Result<(), LoadRefused>
     ensures { loader.new.system ≡ loader.old.system }
 {
+    let before = loader.counts();
     match loader.load(feeder) {
-        Err(LoadRefused::NoMemory) => loader.load(feeder),
+        Err(LoadRefused::NoMemory) if loader.counts() == before => loader.load(feeder),
         loaded => loaded,
     }
 }

@@ -3,7 +3,7 @@
 use crate::tables::{append_row, index_of};
 use bsi_columns::{NoMemory, Op};
 use bsi_fixtures::{DeclaredColumn, FORMS, QTY, TestForm, row_of};
-use bsi_groups::{Group, GroupError, PairGroup, group_by, group_by_two};
+use bsi_groups::{GroupError, Groups, group_by};
 use bsi_table::{Answer, Index, IndexError, Pred, Query, Total};
 use std::alloc::Global;
 
@@ -42,37 +42,46 @@ fn grouped(
     alloc: Global,
     index: &Index,
     query: &Query,
-    by: u32,
+    by: &[u32],
     most: usize,
-) -> Result<Vec<Group>, GroupError> {
+) -> Result<Groups, GroupError> {
     match group_by(alloc, index, query, by, most) {
         Err(GroupError::NoMemory) => group_by(alloc, index, query, by, most),
         made => made,
     }
 }
 
-fn is_group(group: &Group, wanted: (Option<i64>, i128)) -> bool {
-    let (entry, sum) = wanted;
-    group.entry == entry && group.answer == Answer::Sum(sum)
+// Whether these are the entries of groups, and their answers.
+fn are_groups<const N: usize>(made: &Groups, wanted: &[([Option<i64>; N], Answer)]) -> bool {
+    if made.len() != wanted.len() {
+        return false;
+    }
+    for k in 0..made.len() {
+        let group = made.get(k);
+        let (entries, answer) = &wanted[k];
+        if group.entries != entries.as_slice() || group.answer != answer {
+            return false;
+        }
+    }
+    true
 }
 
 // Whether these are the groups of the rows that a predicate selects, with the sums of their numbers.
-fn has_groups(alloc: Global, index: &Index, pred: Pred, wanted: &[(Option<i64>, i128)]) -> bool {
+fn has_groups(
+    alloc: Global,
+    index: &Index,
+    pred: Pred,
+    wanted: &[([Option<i64>; 1], Answer)],
+) -> bool {
     let total = Total::Sum(1);
-    match grouped(alloc, index, &Query { total, pred }, 0, wanted.len()) {
-        Ok(groups) => {
-            groups.len() == wanted.len()
-                && groups
-                    .iter()
-                    .zip(wanted)
-                    .all(|(group, wanted)| is_group(group, *wanted))
-        }
+    match grouped(alloc, index, &Query { total, pred }, &[0], wanted.len()) {
+        Ok(groups) => are_groups(&groups, wanted),
         Err(_) => false,
     }
 }
 
 // Whether the groups are refused for this reason.
-fn is_refused(alloc: Global, index: &Index, by: u32, most: usize, wanted: GroupError) -> bool {
+fn is_refused(alloc: Global, index: &Index, by: &[u32], most: usize, wanted: GroupError) -> bool {
     let query = Query {
         total: Total::Count,
         pred: Pred::All,
@@ -85,18 +94,20 @@ fn is_refused(alloc: Global, index: &Index, by: u32, most: usize, wanted: GroupE
 
 fn is_grouped(alloc: Global, form: TestForm) -> Result<bool, IndexError> {
     let index = five_rows(alloc, form)?;
-    let all = [(Some(-3), 1), (Some(0), 3), (Some(2), 5), (None, 7)];
+    let all = [
+        ([Some(-3)], Answer::Sum(1)),
+        ([Some(0)], Answer::Sum(3)),
+        ([Some(2)], Answer::Sum(5)),
+        ([None], Answer::Sum(7)),
+    ];
+    let some = [([Some(2)], Answer::Sum(5)), ([None], Answer::Sum(7))];
     Ok(
         has_groups(alloc, &index, Pred::All, &all)
-            && has_groups(
-                alloc,
-                &index,
-                Pred::Compare(1, Op::Gt, 3),
-                &[(Some(2), 5), (None, 7)],
-            )
+            && has_groups(alloc, &index, Pred::Compare(1, Op::Gt, 3), &some)
             && has_groups(alloc, &index, Pred::Compare(1, Op::Gt, 7), &[])
-            && is_refused(alloc, &index, 0, 3, GroupError::TooMany)
-            && is_refused(alloc, &index, 2, 3, GroupError::BadColumn(2)),
+            && is_refused(alloc, &index, &[0], 3, GroupError::TooMany)
+            && is_refused(alloc, &index, &[2], 3, GroupError::BadColumn(2))
+            && is_refused(alloc, &index, &[0, 3, 2], 3, GroupError::BadColumn(3)),
     )
 }
 
@@ -110,68 +121,60 @@ fn groups_of_a_column(rt: HostRuntime) {
     }
 }
 
-fn paired(
+// Whether each row has entries of its own, in this order, and one group less is too few.
+fn has_counts<const N: usize>(
     alloc: Global,
     index: &Index,
-    query: &Query,
-    by: [u32; 2],
-    most: usize,
-) -> Result<Vec<PairGroup>, GroupError> {
-    match group_by_two(alloc, index, query, by, most) {
-        Err(GroupError::NoMemory) => group_by_two(alloc, index, query, by, most),
-        made => made,
-    }
-}
-
-fn is_pair(pair: &PairGroup, wanted: [Option<i64>; 2]) -> bool {
-    pair.entries == wanted && pair.answer == Answer::Count(1)
-}
-
-// Whether each row has a pair of its own, in this order, and one less is too few.
-fn has_pairs(alloc: Global, index: &Index, by: [u32; 2], wanted: &[[Option<i64>; 2]]) -> bool {
+    by: [u32; N],
+    wanted: &[([Option<i64>; N], Answer)],
+) -> bool {
     let query = Query {
         total: Total::Count,
         pred: Pred::All,
     };
-    let is_made = match paired(alloc, index, &query, by, 5) {
-        Ok(pairs) => {
-            pairs.len() == wanted.len()
-                && pairs
-                    .iter()
-                    .zip(wanted)
-                    .all(|(pair, wanted)| is_pair(pair, *wanted))
-        }
+    let is_made = match grouped(alloc, index, &query, &by, 5) {
+        Ok(groups) => are_groups(&groups, wanted),
         Err(_) => false,
     };
-    is_made
-        && matches!(
-            paired(alloc, index, &query, by, 4),
-            Err(GroupError::TooMany)
-        )
+    is_made && is_refused(alloc, index, &by, 4, GroupError::TooMany)
 }
 
-fn is_paired(alloc: Global, form: TestForm) -> Result<bool, IndexError> {
+fn is_grouped_by_more(alloc: Global, form: TestForm) -> Result<bool, IndexError> {
     let index = five_rows(alloc, form)?;
     let pairs = [
-        [Some(-3), Some(1)],
-        [Some(0), Some(3)],
-        [Some(2), Some(5)],
-        [Some(2), None],
-        [None, Some(7)],
+        ([Some(-3), Some(1)], Answer::Count(1)),
+        ([Some(0), Some(3)], Answer::Count(1)),
+        ([Some(2), Some(5)], Answer::Count(1)),
+        ([Some(2), None], Answer::Count(1)),
+        ([None, Some(7)], Answer::Count(1)),
     ];
     let turned = [
-        [Some(1), Some(-3)],
-        [Some(3), Some(0)],
-        [Some(5), Some(2)],
-        [Some(7), None],
-        [None, Some(2)],
+        ([Some(1), Some(-3)], Answer::Count(1)),
+        ([Some(3), Some(0)], Answer::Count(1)),
+        ([Some(5), Some(2)], Answer::Count(1)),
+        ([Some(7), None], Answer::Count(1)),
+        ([None, Some(2)], Answer::Count(1)),
     ];
-    Ok(has_pairs(alloc, &index, [0, 1], &pairs) && has_pairs(alloc, &index, [1, 0], &turned))
+    let three = [
+        ([Some(-3), Some(1), Some(-3)], Answer::Count(1)),
+        ([Some(0), Some(3), Some(0)], Answer::Count(1)),
+        ([Some(2), Some(5), Some(2)], Answer::Count(1)),
+        ([Some(2), None, Some(2)], Answer::Count(1)),
+        ([None, Some(7), None], Answer::Count(1)),
+    ];
+    Ok(
+        has_counts(alloc, &index, [0, 1], &pairs)
+            && has_counts(alloc, &index, [1, 0], &turned)
+            && has_counts(alloc, &index, [0, 1, 0], &three),
+    )
 }
 
 #[test]
-fn groups_of_two_columns(rt: HostRuntime) {
+fn groups_of_two_columns_and_three(rt: HostRuntime) {
     for form in FORMS {
-        assert!(rt; matches!(is_paired(rt.alloc(), form), Ok(true)), "{form:?}");
+        assert!(rt;
+            matches!(is_grouped_by_more(rt.alloc(), form), Ok(true)),
+            "{form:?}"
+        );
     }
 }

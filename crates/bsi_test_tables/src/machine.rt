@@ -3,7 +3,8 @@
 use bsi_columns::NoMemory;
 use bsi_fixtures::{DeclaredColumn, QTY, row_of, schema_of};
 use bsi_load::{
-    Core, Event, LoadRefused, MakeError, Reply, RunRefused, SubmitRefused, check_sizes,
+    CloseRefused, Core, Event, LoadRefused, MakeError, Reply, RunRefused, SubmitRefused,
+    check_sizes,
 };
 use bsi_table::{Answer, AskError, IndexError, Pred, Query, Row, Schema, SchemaError, Total};
 use std::alloc::Global;
@@ -57,114 +58,261 @@ fn are_replies(replies: &[Reply], wanted: &[Reply]) -> Result<bool, NoMemory> {
     Ok(replies == wanted)
 }
 
-/// Returns the replies to a run. If memory for their list is refused, nothing has taken place, and it runs the events
-/// that come back once more.
-fn replies(core: &mut Core, events: Vec<Event>) -> Result<Vec<Reply>, NoMemory> {
-    match core.run(events) {
-        Ok(replies) => Ok(replies),
-        Err(RunRefused { events }) => core.run(events).map_err(|_| NoMemory),
+/// An event, and the reply to it: a feeder, and then what is sent or answered.
+#[derive(Clone, Copy)]
+enum Step {
+    /// A row of this number is accepted.
+    Accept(u32, i128),
+    /// It comes back, since as many rows wait as may.
+    Full(u32, i128),
+    /// It comes back, since the feeder is closed.
+    Late(u32, i128),
+    /// A row is loaded, and stands at this position.
+    Load(u32, u64),
+    /// No row waits.
+    Empty(u32),
+    /// No row waits, and none will.
+    End(u32),
+    /// The feeder is closed.
+    Close(u32),
+    /// It was closed before.
+    CloseAgain(u32),
+    /// The rows are so many.
+    Count(u64),
+    /// The numbers come to this sum.
+    Sum(i128),
+    /// The rows are these.
+    Rows(&'static [(u32, u64)]),
+}
+
+fn ask(total: Total) -> Event {
+    Event::Ask(Query {
+        total,
+        pred: Pred::All,
+    })
+}
+
+fn event(alloc: Global, step: Step) -> Result<Event, NoMemory> {
+    match step {
+        Step::Accept(f, number) | Step::Full(f, number) | Step::Late(f, number) => {
+            let row = row_of(alloc, &[Some(number)])?;
+            Ok(Event::Submit(f, row))
+        }
+        Step::Load(f, _) | Step::Empty(f) | Step::End(f) => Ok(Event::Load(f)),
+        Step::Close(f) | Step::CloseAgain(f) => Ok(Event::Close(f)),
+        Step::Count(_) => Ok(ask(Total::Count)),
+        Step::Sum(_) => Ok(ask(Total::Sum(0))),
+        Step::Rows(_) => Ok(ask(Total::Rows)),
     }
 }
 
-fn submit(alloc: Global, number: i128) -> Result<Event, NoMemory> {
-    let row = row_of(alloc, &[Some(number)])?;
-    Ok(Event::Submit(0, row))
-}
-
-// The first run: two rows are submitted.
-fn first_events(alloc: Global) -> Result<Vec<Event>, NoMemory> {
-    let mut events = Vec::new(alloc);
-    for number in [1, 2] {
-        events.push(submit(alloc, number)?)?;
-    }
-    Ok(events)
-}
-
-// The second run: the first row is loaded, the feeder is closed, a third row is refused, and the second row is loaded.
-fn second_event(alloc: Global, k: u32) -> Result<Event, NoMemory> {
-    match k {
-        1 => Ok(Event::Close(0)),
-        2 => submit(alloc, 3),
-        5 => Ok(Event::Ask(Query {
-            total: Total::Sum(0),
-            pred: Pred::All,
-        })),
-        _ => Ok(Event::Load(0)),
-    }
-}
-
-fn second_reply(alloc: Global, k: u32) -> Result<Reply, NoMemory> {
-    match k {
-        0 => Ok(Reply::Loaded(Ok(0))),
-        1 => Ok(Reply::Closed(Ok(()))),
-        2 => {
-            let row = row_of(alloc, &[Some(3)])?;
+fn reply(alloc: Global, step: Step) -> Result<Reply, NoMemory> {
+    match step {
+        Step::Accept(_, _) => Ok(Reply::Submitted(Ok(()))),
+        Step::Full(_, number) => {
+            let row = row_of(alloc, &[Some(number)])?;
+            Ok(Reply::Submitted(Err(SubmitRefused::Full(row))))
+        }
+        Step::Late(_, number) => {
+            let row = row_of(alloc, &[Some(number)])?;
             Ok(Reply::Submitted(Err(SubmitRefused::Closed(row))))
         }
-        3 => Ok(Reply::Loaded(Ok(1))),
-        4 => Ok(Reply::Loaded(Err(LoadRefused::Ended))),
-        _ => Ok(Reply::Answered(Ok(Answer::Sum(3)))),
+        Step::Load(_, position) => Ok(Reply::Loaded(Ok(position))),
+        Step::Empty(_) => Ok(Reply::Loaded(Err(LoadRefused::Empty))),
+        Step::End(_) => Ok(Reply::Loaded(Err(LoadRefused::Ended))),
+        Step::Close(_) => Ok(Reply::Closed(Ok(()))),
+        Step::CloseAgain(_) => Ok(Reply::Closed(Err(CloseRefused::AlreadyClosed))),
+        Step::Count(rows) => Ok(Reply::Answered(Ok(Answer::Count(rows)))),
+        Step::Sum(sum) => Ok(Reply::Answered(Ok(Answer::Sum(sum)))),
+        Step::Rows(rows) => {
+            let rows = Vec::from_slice(alloc, rows)?;
+            Ok(Reply::Answered(Ok(Answer::Rows(rows))))
+        }
     }
 }
 
-fn second_events(alloc: Global) -> Result<Vec<Event>, NoMemory> {
+fn events(alloc: Global, steps: &[Step]) -> Result<Vec<Event>, NoMemory> {
     let mut events = Vec::new(alloc);
-    for k in 0..6 {
-        events.push(second_event(alloc, k)?)?;
+    for step in steps {
+        events.push(event(alloc, *step)?)?;
     }
     Ok(events)
 }
 
-fn second_replies(alloc: Global) -> Result<Vec<Reply>, NoMemory> {
-    let mut wanted = Vec::new(alloc);
-    for k in 0..6 {
-        wanted.push(second_reply(alloc, k)?)?;
+fn replies(alloc: Global, steps: &[Step]) -> Result<Vec<Reply>, NoMemory> {
+    let mut replies = Vec::new(alloc);
+    for step in steps {
+        replies.push(reply(alloc, *step)?)?;
     }
-    Ok(wanted)
+    Ok(replies)
 }
 
-fn is_first_run(alloc: Global, core: &mut Core) -> Result<bool, NoMemory> {
-    let found = replies(core, first_events(alloc)?)?;
-    let accepted = [Reply::Submitted(Ok(())), Reply::Submitted(Ok(()))];
-    are_replies(&found, &accepted)
+// Whether an event is that of a step.
+fn is_event(event: &Event, step: Step) -> bool {
+    match (event, step) {
+        (Event::Submit(f, row), Step::Accept(own, number))
+        | (Event::Submit(f, row), Step::Full(own, number))
+        | (Event::Submit(f, row), Step::Late(own, number)) => {
+            *f == own && row.values() == &[Some(number)][..]
+        }
+        (Event::Load(f), Step::Load(own, _))
+        | (Event::Load(f), Step::Empty(own))
+        | (Event::Load(f), Step::End(own))
+        | (Event::Close(f), Step::Close(own))
+        | (Event::Close(f), Step::CloseAgain(own)) => *f == own,
+        (Event::Ask(query), Step::Count(_)) => query.total == Total::Count,
+        (Event::Ask(query), Step::Sum(_)) => query.total == Total::Sum(0),
+        (Event::Ask(query), Step::Rows(_)) => query.total == Total::Rows,
+        _ => false,
+    }
 }
 
-fn is_second_run(alloc: Global, core: &mut Core) -> Result<bool, NoMemory> {
-    let wanted = second_replies(alloc)?;
-    let found = replies(core, second_events(alloc)?)?;
-    are_replies(&found, &wanted)
+// Whether the events are those of the steps.
+fn are_events(events: &[Event], steps: &[Step]) -> bool {
+    if events.len() != steps.len() {
+        return false;
+    }
+    events
+        .iter()
+        .zip(steps)
+        .all(|(event, step)| is_event(event, *step))
 }
 
-// Whether the machine, which has one feeder, has none of its rows waiting, and no second feeder.
-fn has_none_waiting(core: &Core) -> bool {
-    core.feeders() == 1
-        && core.waiting(0) == Some(0)
-        && core.waiting(1) == None
-        && core.schema().columns() == 1
+// Whether a run of the steps gets their replies. If memory for the list of replies is refused, the events come back and
+// the rows that wait stay, and they are run once more.
+fn runs(alloc: Global, core: &mut Core, steps: &[Step]) -> Result<bool, NoMemory> {
+    let wanted = replies(alloc, steps)?;
+    let waiting = core.waiting(0);
+    match core.run(events(alloc, steps)?) {
+        Ok(found) => are_replies(&found, &wanted),
+        Err(RunRefused { events }) if are_events(&events, steps) && core.waiting(0) == waiting => {
+            let found = core.run(events).map_err(|_| NoMemory)?;
+            are_replies(&found, &wanted)
+        }
+        Err(_) => Ok(false),
+    }
 }
 
-fn are_both_runs(alloc: Global, core: &mut Core) -> Result<bool, MakeError> {
-    Ok(is_first_run(alloc, core)? && is_second_run(alloc, core)? && has_none_waiting(core))
+/// The capacities of a machine, and runs one after the other, after which no row waits.
+type Worked = (&'static [u32], &'static [&'static [Step]]);
+
+const WORKED: [Worked; 6] = [
+    (
+        &[2],
+        &[
+            &[Step::Accept(0, 1), Step::Accept(0, 2)],
+            &[
+                Step::Load(0, 0),
+                Step::Close(0),
+                Step::Late(0, 3),
+                Step::Load(0, 1),
+                Step::End(0),
+                Step::Sum(3),
+            ],
+        ],
+    ),
+    (
+        &[2],
+        &[&[
+            Step::Accept(0, 1),
+            Step::Accept(0, 2),
+            Step::Full(0, 3),
+            Step::Load(0, 0),
+            Step::Accept(0, 3),
+            Step::Load(0, 1),
+            Step::Load(0, 2),
+            Step::Empty(0),
+            Step::Sum(6),
+        ]],
+    ),
+    (
+        &[4],
+        &[&[
+            Step::Accept(0, 5),
+            Step::Close(0),
+            Step::CloseAgain(0),
+            Step::Late(0, 6),
+            Step::Load(0, 0),
+            Step::End(0),
+            Step::Sum(5),
+        ]],
+    ),
+    (
+        &[2, 2],
+        &[&[
+            Step::Accept(0, 1),
+            Step::Accept(1, 2),
+            Step::Accept(0, 3),
+            Step::Load(1, 0),
+            Step::Load(0, 1),
+            Step::Load(0, 2),
+            Step::Rows(&[(1, 0), (0, 0), (0, 1)]),
+        ]],
+    ),
+    (&[1], &[&[]]),
+    (
+        &[1],
+        &[&[Step::Accept(0, 5), Step::Load(0, 0), Step::Count(1)]],
+    ),
+];
+
+// Whether the machine has so many feeders, none of whose rows wait.
+fn has_none_waiting(core: &Core, feeders: usize) -> bool {
+    let last = core.feeders();
+    let waits = (0..last).any(|f| core.waiting(f) != Some(0));
+    last as usize == feeders && !waits && core.waiting(last) == None && core.schema().columns() == 1
 }
 
-fn are_two_runs(alloc: Global) -> Result<bool, MakeError> {
-    let mut core = made(alloc, PAIR)?;
-    are_both_runs(alloc, &mut core)
+fn runs_each(alloc: Global, core: &mut Core, steps: &[&[Step]]) -> Result<bool, MakeError> {
+    for run in steps {
+        if !runs(alloc, core, run)? {
+            return Ok(false);
+        }
+    }
+    Ok(true)
+}
+
+fn works(alloc: Global, worked: Worked) -> Result<bool, MakeError> {
+    let (capacities, steps) = worked;
+    let machine = Machine { capacities, ..PAIR };
+    let mut core = made(alloc, machine)?;
+    Ok(runs_each(alloc, &mut core, steps)? && has_none_waiting(&core, capacities.len()))
+}
+
+fn all_work(alloc: Global) -> Result<bool, MakeError> {
+    for worked in WORKED {
+        if !works(alloc, worked)? {
+            return Ok(false);
+        }
+    }
+    Ok(true)
 }
 
 #[test]
-fn two_runs(rt: HostRuntime) {
-    let done = match are_two_runs(rt.alloc()) {
-        Err(_) => are_two_runs(rt.alloc()),
+fn worked_runs(rt: HostRuntime) {
+    let done = match all_work(rt.alloc()) {
+        Err(_) => all_work(rt.alloc()),
         done => done,
     };
     assert!(rt; matches!(done, Ok(true)));
 }
 
-// Whether a feeder of no places is refused where sizes are checked.
-fn is_checked(schema: &Schema) -> bool {
-    check_sizes(schema, &[4], 10) == Ok(())
-        && check_sizes(schema, &[1, 0], 10) == Err(MakeError::CapacityOutOfRange(1))
+/// Capacities, a limit, and what is wrong with them for an index of a column.
+const SIZES: [(&[u32], u64, Result<(), MakeError>); 6] = [
+    (&[4], 10, Ok(())),
+    (&[], 10, Err(MakeError::NoFeeders)),
+    (&[1; 65], 10, Err(MakeError::TooManyFeeders)),
+    (&[1, 0], 10, Err(MakeError::CapacityOutOfRange(1))),
+    (&[1, 65_537], 10, Err(MakeError::CapacityOutOfRange(1))),
+    (&[4], 0, Err(MakeError::Index(IndexError::LimitOutOfRange))),
+];
+
+// Whether sizes are checked as they should be, with a column and with none.
+fn is_checked(schema: &Schema, empty: &Schema) -> bool {
+    let none = Err(MakeError::Index(IndexError::NoColumns));
+    SIZES.iter().all(|(capacities, limit, wanted)| check_sizes(schema, capacities, *limit)
+        == *wanted)
+        && check_sizes(empty, &[4], 0) == none
 }
 
 // Whether a machine is not made for this reason.
@@ -208,7 +356,7 @@ fn first_refusal_is_told(alloc: Global) -> bool {
 
 fn sizes_are_refused(alloc: Global) -> Result<bool, SchemaError> {
     let schema = schema_of(alloc, &[QTY])?;
-    Ok(is_checked(&schema) && first_refusal_is_told(alloc))
+    Ok(is_checked(&schema, &Schema::new(alloc)) && first_refusal_is_told(alloc))
 }
 
 #[test]
@@ -227,10 +375,15 @@ fn asked_of(core: &Core, total: Total) -> Result<Answer, AskError> {
     }
 }
 
+// Whether a row waits, and none is indexed.
+fn waits_alone(core: &Core) -> bool {
+    core.waiting(0) == Some(1) && asked_of(core, Total::Count) == Ok(Answer::Count(0))
+}
+
 // The load of the row that waits. One that finds no memory leaves it waiting, and is made again.
 fn load_of(core: &mut Core) -> Result<u64, LoadRefused> {
     match core.load(0) {
-        Err(LoadRefused::NoMemory) if core.waiting(0) == Some(1) => core.load(0),
+        Err(LoadRefused::NoMemory) if waits_alone(core) => core.load(0),
         loaded => loaded,
     }
 }

@@ -3,8 +3,11 @@
 
 use crate::tables::{answer, append_row, has_rows, index_of, lists};
 use bsi_columns::{AnyColumn, NoMemory, Op};
+use bsi_digits::BasesError;
 use bsi_fixtures::{DeclaredColumn, FORMS, QTY, TestForm, Wide, add, both, has_bits, not, row_of};
-use bsi_table::{Answer, AskError, Index, IndexError, Pred, Row, Schema, SchemaError, Total};
+use bsi_table::{
+    Answer, AppendError, AskError, Index, IndexError, Pred, Row, Schema, SchemaError, Total,
+};
 use std::alloc::Global;
 
 /// Rows of one number: the feeder, and the number.
@@ -63,6 +66,89 @@ fn index_calls(rt: HostRuntime) {
     for form in FORMS {
         assert!(rt;
             matches!(is_answered(rt.alloc(), form), Ok(true)),
+            "{form:?}"
+        );
+    }
+}
+
+// An index of rows of one entry each, of feeder 0.
+fn rows_of(alloc: Global, form: TestForm, entries: &[Option<i128>]) -> Result<Index, IndexError> {
+    let mut index = index_of(alloc, &[DeclaredColumn { form, ..QTY }], 1, 10)?;
+    for entry in entries {
+        let row = row_of(alloc, &[*entry])?;
+        let _ = append_row(&mut index, 0, &row);
+    }
+    Ok(index)
+}
+
+// Whether the predicate selects so many rows.
+fn counts(index: &Index, pred: Pred, wanted: u64) -> bool {
+    answer(index, Total::Count, pred) == Ok(Answer::Count(wanted))
+}
+
+// Whether the numbers come to this sum.
+fn sums(index: &Index, pred: Pred, wanted: i128) -> bool {
+    answer(index, Total::Sum(0), pred) == Ok(Answer::Sum(wanted))
+}
+
+// Whether a total of the numbers is this one.
+fn is_value(index: &Index, total: Total, pred: Pred, wanted: Option<i64>) -> bool {
+    answer(index, total, pred) == Ok(Answer::Value(wanted))
+}
+
+// Whether of 5 and a null the null satisfies no comparison, and each negation of one.
+fn null_is_no_number(alloc: Global, index: &Index) -> Result<bool, NoMemory> {
+    let not_five = not(alloc, Pred::Compare(0, Op::Eq, 5))?;
+    Ok(
+        counts(index, Pred::Compare(0, Op::Ne, 5), 0)
+            && counts(index, not_five, 1)
+            && counts(index, Pred::Null(0), 1)
+            && counts(index, Pred::All, 2)
+            && counts(index, Pred::Compare(0, Op::Le, 7), 1)
+            && sums(index, Pred::All, 5),
+    )
+}
+
+// Whether of 1, 2, 3 and 4 the median is the lower one in the middle, and a conjunction lists what both select.
+fn tie_goes_low(alloc: Global, index: &Index) -> Result<bool, NoMemory> {
+    let between = both(
+        alloc,
+        Pred::Compare(0, Op::Gt, 1),
+        Pred::Compare(0, Op::Lt, 4),
+    )?;
+    let from_two = Pred::Compare(0, Op::Ge, 2);
+    Ok(
+        is_value(index, Total::Median(0), Pred::All, Some(2))
+            && is_value(index, Total::Median(0), from_two, Some(3))
+            && is_value(index, Total::Least(0), Pred::All, Some(1))
+            && is_value(index, Total::Greatest(0), Pred::All, Some(4))
+            && lists(index, between, &[(0, 1), (0, 2)]),
+    )
+}
+
+// Whether of 7, 7 and a null the repeated number is each total, and the null none.
+fn repeats_count(index: &Index) -> bool {
+    is_value(index, Total::Median(0), Pred::All, Some(7))
+        && is_value(index, Total::Least(0), Pred::All, Some(7))
+        && is_value(index, Total::Greatest(0), Pred::All, Some(7))
+        && sums(index, Pred::All, 14)
+        && is_value(index, Total::Least(0), Pred::Null(0), None)
+        && sums(index, Pred::Null(0), 0)
+}
+
+// Whether indexes of these rows answer so.
+fn read_as_they_should(alloc: Global, form: TestForm) -> Result<bool, IndexError> {
+    let null = rows_of(alloc, form, &[Some(5), None])?;
+    let tie = rows_of(alloc, form, &[Some(1), Some(2), Some(3), Some(4)])?;
+    let repeats = rows_of(alloc, form, &[Some(7), Some(7), None])?;
+    Ok(null_is_no_number(alloc, &null)? && tie_goes_low(alloc, &tie)? && repeats_count(&repeats))
+}
+
+#[test]
+fn nulls_ties_and_repeats(rt: HostRuntime) {
+    for form in FORMS {
+        assert!(rt;
+            matches!(read_as_they_should(rt.alloc(), form), Ok(true)),
             "{form:?}"
         );
     }
@@ -265,21 +351,74 @@ fn is_copied_whole(schema: &Schema) -> Result<bool, SchemaError> {
     Ok(has_quantities(&copy))
 }
 
-// Whether the schema takes the column qty, once.
+/// Columns that a schema with the column qty refuses, and why.
+const REFUSED: [(DeclaredColumn, SchemaError); 4] = [
+    (QTY, SchemaError::NameTaken),
+    (DeclaredColumn { name: "Qty", ..QTY }, SchemaError::BadName),
+    (
+        DeclaredColumn {
+            name: "none",
+            form: TestForm::Range,
+            wide: Wide {
+                width: 0,
+                bases: &[],
+            },
+            offset: 0,
+        },
+        SchemaError::BadBases(BasesError::Empty),
+    ),
+    (
+        DeclaredColumn {
+            name: "wide",
+            wide: Wide {
+                width: 63,
+                bases: &[],
+            },
+            offset: 1,
+            ..QTY
+        },
+        SchemaError::BadOffset,
+    ),
+];
+
+// Whether the schema takes the column qty, and none of those that it is to refuse.
 fn takes_quantities(alloc: Global, schema: &mut Schema) -> Result<bool, SchemaError> {
     add(alloc, schema, QTY)?;
-    let again = add(alloc, schema, QTY);
-    Ok(again == Err(SchemaError::NameTaken) && is_copied_whole(schema)?)
+    for (column, why) in REFUSED {
+        if add(alloc, schema, column) != Err(why) {
+            return Ok(false);
+        }
+    }
+    is_copied_whole(schema)
 }
 
-fn takes_a_name_once(alloc: Global) -> Result<bool, SchemaError> {
+/// As many names as a schema can have columns.
+const NAMES: [&str; 64] = [
+    "c0", "c1", "c2", "c3", "c4", "c5", "c6", "c7", "c8", "c9", "c10", "c11", "c12", "c13", "c14",
+    "c15", "c16", "c17", "c18", "c19", "c20", "c21", "c22", "c23", "c24", "c25", "c26", "c27",
+    "c28", "c29", "c30", "c31", "c32", "c33", "c34", "c35", "c36", "c37", "c38", "c39", "c40",
+    "c41", "c42", "c43", "c44", "c45", "c46", "c47", "c48", "c49", "c50", "c51", "c52", "c53",
+    "c54", "c55", "c56", "c57", "c58", "c59", "c60", "c61", "c62", "c63",
+];
+
+// Whether it takes so many columns, and not one more.
+fn takes_no_more(alloc: Global, schema: &mut Schema) -> Result<bool, SchemaError> {
+    for name in NAMES {
+        add(alloc, schema, DeclaredColumn { name, ..QTY })?;
+    }
+    let more = add(alloc, schema, QTY);
+    Ok(more == Err(SchemaError::TooManyColumns) && schema.columns() == 64)
+}
+
+fn takes_what_it_should(alloc: Global) -> Result<bool, SchemaError> {
     let mut schema = Schema::new(alloc);
-    takes_quantities(alloc, &mut schema)
+    let mut full = Schema::new(alloc);
+    Ok(takes_quantities(alloc, &mut schema)? && takes_no_more(alloc, &mut full)?)
 }
 
 #[test]
 fn makers_of_a_schema(rt: HostRuntime) {
-    assert!(rt; matches!(takes_a_name_once(rt.alloc()), Ok(true)));
+    assert!(rt; matches!(takes_what_it_should(rt.alloc()), Ok(true)));
 }
 
 // Whether an index of no columns is refused before one of no rows.
@@ -291,9 +430,18 @@ fn no_index_is_made(alloc: Global) -> bool {
         )
 }
 
+// Whether an index of at most one row takes one, and not a second.
+fn takes_one_row(alloc: Global) -> Result<bool, IndexError> {
+    let row = row_of(alloc, &[Some(5)])?;
+    let mut index = index_of(alloc, &[QTY], 1, 1)?;
+    let first = append_row(&mut index, 0, &row);
+    let second = append_row(&mut index, 0, &row);
+    Ok(first == Some(Ok(0)) && second == Some(Err(AppendError::IndexFull)))
+}
+
 #[test]
 fn makers_of_an_index(rt: HostRuntime) {
-    assert!(rt; no_index_is_made(rt.alloc()));
+    assert!(rt; no_index_is_made(rt.alloc()) && matches!(takes_one_row(rt.alloc()), Ok(true)));
 }
 
 fn copied_row(row: &Row) -> Result<Row, NoMemory> {

@@ -137,6 +137,21 @@ fn row_source_calls(rt: HostRuntime) {
 }
 
 #[test]
+fn a_file_that_is_too_long_stays_so(rt: HostRuntime) {
+    let want: [GivenRow<'_>; 2] = [Err(SourceFault::TooLong), Err(SourceFault::TooLong)];
+    let file = File {
+        reader: TextReader {
+            unit: b"x\n",
+            times: 1_000_001,
+            ..whole(b"a,b\n")
+        },
+        want: &want,
+        bad: 1_000_000,
+    };
+    assert!(rt; is_read(rt.alloc(), file));
+}
+
+#[test]
 fn a_fault_stays(rt: HostRuntime) {
     let want: [GivenRow<'_>; 4] = [
         Ok(Some(&[Some(1), Some(2)])),

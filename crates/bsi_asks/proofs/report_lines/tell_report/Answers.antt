@@ -1,8 +1,9 @@
 use Rattle.std.proofs.Common.{◌++◌, Ok, sym, subst, ap, ◌∙◌}
-use Rattle.bsi_asks.specs.ReportLines.{groups_line, pairs_line, top_line, IsReportLine}
+use Rattle.bsi_rows.specs.Rows.{feeders_of}
+use Rattle.bsi_asks.specs.ReportLines.{groups_line, top_line, IsReportLine}
 use Rattle.bsi_asks.specs.declared.reports.Report.{Report}
 use Rattle.bsi_asks.proofs.Passing.{on_ok}
-use Rattle.bsi_asks.proofs.ReportTexts.{groups_told, no_groups_told, no_pairs_told, no_top_told, pairs_told, top_told}
+use Rattle.bsi_asks.proofs.ReportTexts.{groups_told, no_groups_told, no_top_told, top_told}
 use Rattle.bsi_asks.proofs.report_lines.tell_report.Goals as goal
 
 pub returns-in-Ok : goal.returns-in-Ok
@@ -13,9 +14,9 @@ returns-in-Ok c =
     let line = c.write_groups.new.line.items in
     on_ok c.write_groups.result
     (λ is. subst (λ (r : Report). IsReportLine schema rows r line) (sym c.in-Groups.is)
-    (groups_told schema rows c.in-Groups.query c.in-Groups.by before line c.clear.ensures.items c.in-Ok.groups.items c.in-Ok.ensures.there c.in-Ok.ensures.groups
+    (groups_told schema rows c.in-Groups.query c.in-Groups.by c.deref.result.now c.deref.ensures.value before line c.clear.ensures.items c.in-Ok.groups.groups c.in-Ok.ensures.there c.in-Ok.ensures.groups
     c.in-Ok.ensures.few
-    (is ∙ ap (λ gs. before ++ groups_line (Ok gs)) c.deref.ensures.value)))
+    is))
     c.write_groups.ensures
 
 pub returns-in-Err : goal.returns-in-Err
@@ -25,33 +26,8 @@ returns-in-Err c =
     let line = c.write_no_groups.new.line.items in
     on_ok c.write_no_groups.result
     (λ is. subst (λ (r : Report). IsReportLine schema rows r line) (sym c.in-Groups.is)
-    (no_groups_told schema rows c.in-Groups.query c.in-Groups.by c.clear.new.self.items line c.clear.ensures.items c.in-Err.refused c.in-Err.ensures.refused is))
-    c.write_no_groups.ensures.groups
-
-pub returns-in-Ok-group_by_two : goal.returns-in-Ok-group_by_two
-returns-in-Ok-group_by_two c =
-    let schema = c.args.table.now.schema in
-    let rows = c.args.table.now.rows in
-    let before = c.clear.new.self.items in
-    let line = c.write_pairs.new.line.items in
-    let found = c.in-Ok-group_by_two.ensures in
-    on_ok c.write_pairs.result
-    (λ is. subst (λ (r : Report). IsReportLine schema rows r line) (sym c.in-Pairs.is)
-    (pairs_told schema rows c.in-Pairs.query c.in-Pairs.first c.in-Pairs.second before line c.clear.ensures.items c.in-Ok-group_by_two.pairs.items found.there
-    found.groups found.few
-    (is ∙ ap (λ ps. before ++ pairs_line (Ok ps)) c.deref-in-Ok-group_by_two.ensures.value)))
-    c.write_pairs.ensures
-
-pub returns-in-Err-group_by_two : goal.returns-in-Err-group_by_two
-returns-in-Err-group_by_two c =
-    let schema = c.args.table.now.schema in
-    let rows = c.args.table.now.rows in
-    let line = c.write_no_groups-in-Err-group_by_two.new.line.items in
-    on_ok c.write_no_groups-in-Err-group_by_two.result
-    (λ is. subst (λ (r : Report). IsReportLine schema rows r line) (sym c.in-Pairs.is)
-    (no_pairs_told schema rows c.in-Pairs.query c.in-Pairs.first c.in-Pairs.second c.clear.new.self.items line c.clear.ensures.items
-    c.in-Err-group_by_two.refused c.in-Err-group_by_two.ensures.refused is))
-    c.write_no_groups-in-Err-group_by_two.ensures.pairs
+    (no_groups_told schema rows c.in-Groups.query c.in-Groups.by c.deref.result.now c.deref.ensures.value c.clear.new.self.items line c.clear.ensures.items c.in-Err.refused c.in-Err.ensures.refused is))
+    c.write_no_groups.ensures
 
 pub returns-in-Ok-top : goal.returns-in-Ok-top
 returns-in-Ok-top c =
@@ -61,8 +37,8 @@ returns-in-Ok-top c =
     let line = c.write_top.new.line.items in
     on_ok c.write_top.result
     (λ is. subst (λ (r : Report). IsReportLine schema rows r line) (sym c.in-Top.is)
-    (top_told schema rows c.in-Top.end c.in-Top.c c.in-Top.most c.in-Top.pred before line c.clear.ensures.items c.in-Ok-top.rows.items c.row_feeders.result.now
-    c.in-Ok-top.ensures c.row_feeders.ensures (is ∙ ap (λ rs. before ++ top_line c.row_feeders.result.now (Ok rs)) c.deref-in-Ok-top.ensures.value)))
+    (top_told schema rows c.in-Top.end c.in-Top.c c.in-Top.most c.in-Top.pred before line c.clear.ensures.items c.in-Ok-top.rows.items
+    c.in-Ok-top.ensures (is ∙ ap (λ rs. before ++ top_line (feeders_of rows) (Ok rs)) c.deref-in-Ok-top.ensures.value)))
     c.write_top.ensures
 
 pub returns-in-Err-top : goal.returns-in-Err-top

@@ -5,4 +5,4 @@ use Rattle.bsi_asks.proofs.report_lines.write_each_group.Given as goal
 
 -- the groups that are left make up the text
 abbrev pub invariant-groups : goal.invariant-groups
-invariant-groups l = l.line.items ++ flat_map group_text (drop l.group-index l.groups) ≡ l.initial.line.items ++ flat_map group_text l.groups
+invariant-groups l = l.line.items ++ flat_map group_text (drop l.k l.groups.groups) ≡ l.initial.line.items ++ flat_map group_text l.groups.groups

@@ -1,9 +1,9 @@
-use Rattle.std.proofs.Common.{◌+◌, true, false, rules, arith, refl, subst, Bool}
+use Rattle.std.proofs.Common.{true, false, rules, arith, subst, Bool}
 use Rattle.csv.specs.Reading.{ReadRecord}
 use Rattle.csv.specs.Records.{fields_of}
 use Rattle.bsi_check.specs.Checks.{IsAskVerdict}
 use Rattle.bsi_check.proofs.Asking.{asks_all, asks_bad, asks_good, asks_none}
-use Rattle.bsi_check.proofs.Telling.{grows, tells_some, told_some}
+use Rattle.bsi_check.proofs.Telling.{first_more, first_none, first_past}
 use Rattle.bsi_check.proofs.asks.count_asks.Goals as goal
 
 pub records-init : goal.records-init
@@ -12,7 +12,7 @@ records-init g c = record {
   plain = c.requires.plain;
   few = omega arith;
   fewer = omega arith;
-  told = refl;
+  told = first_none c.args.path.now c.args.reasons.now.items;
 }
 
 pub returns-then-not-branch-clause-counted : goal.returns-then-not-branch-clause-counted
@@ -38,8 +38,8 @@ records-preserved-then-asks g c =
     }
 
 -- one that is no query, and is told
-pub records-preserved-then-bad-le-MAX_TOLD : goal.records-preserved-then-bad-le-MAX_TOLD
-records-preserved-then-bad-le-MAX_TOLD g c =
+pub records-preserved-in_ok-tell_no_query : goal.records-preserved-in_ok-tell_no_query
+records-preserved-in_ok-tell_no_query g c =
     let fields = fields_of c.read_next.new.fields in
     let next : ReadRecord g.A.Read.remaining c.records.input c.read_next.new.input true fields = search rules in
     let none = subst (λ (b : Bool). IsAskVerdict c.args.schema.now fields b) c.if-asks.false c.in_ok-asks.ensures in
@@ -50,8 +50,8 @@ records-preserved-then-bad-le-MAX_TOLD g c =
       plain = c.in_ok-read_next.ensures.plain;
       few = omega (arith, c.records-test.true);
       fewer = omega (arith, c.records.invariant.fewer);
-      told = tells_some (c.records.bad + 1) c.args.reasons.now.items c.tell_at.new.reasons.items (omega arith)
-          (omega (arith, grows _ c.args.reasons.now.items c.records.reasons.items c.records.invariant.told, c.in_ok-tell_at.ensures));
+      told = first_more c.args.path.now c.records.bad c.args.reasons.now.items c.records.reasons.items c.tell_no_query.new.reasons.items
+          (omega (arith, c.if-bad-le-MAX_TOLD.true)) c.records.invariant.told c.in_ok-tell_no_query.ensures;
     }
 
 -- and one past the first 100
@@ -67,8 +67,7 @@ records-preserved g c =
       plain = c.in_ok-read_next.ensures.plain;
       few = omega (arith, c.records-test.true);
       fewer = omega (arith, c.records.invariant.fewer);
-      told = tells_some (c.records.bad + 1) c.args.reasons.now.items c.records.reasons.items (omega arith)
-          (told_some c.records.bad c.args.reasons.now.items c.records.reasons.items (omega (arith, c.if-bad-le-MAX_TOLD.false)) c.records.invariant.told);
+      told = first_past c.args.path.now c.records.bad c.args.reasons.now.items c.records.reasons.items (omega (arith, c.if-bad-le-MAX_TOLD.false)) c.records.invariant.told;
     }
 
 pub returns-clause-counted : goal.returns-clause-counted

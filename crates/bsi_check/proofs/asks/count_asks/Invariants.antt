@@ -1,8 +1,8 @@
-use Rattle.std.proofs.Common.{◌-◌, ◌≤◌, nat_eq}
+use Rattle.std.proofs.Common.{◌-◌, ◌≤◌}
 use Rattle.csv.specs.Reading.{source_of}
 use Rattle.bsi_reading.specs.Sources.{max_records, IsPlain}
 use Rattle.bsi_reading.specs.Texts.{FromText}
-use Rattle.bsi_check.specs.Checks.{TellsUnless}
+use Rattle.bsi_check.specs.Reasons.{TellsFirst}
 use Rattle.bsi_check.proofs.Asking.{AreAsks}
 use Rattle.bsi_check.proofs.asks.count_asks.Given as goal
 
@@ -14,7 +14,7 @@ invariant-records g l = record {
   plain : IsPlain l.input;
   few : l.records ≤ max_records;
   fewer : l.bad ≤ l.records;
-  told : TellsUnless (nat_eq l.bad 0) l.initial.reasons.items l.reasons.items;
+  told : TellsFirst l.path l.bad l.initial.reasons.items l.reasons.items;
 }
 
 abbrev pub decreases-records : goal.decreases-records

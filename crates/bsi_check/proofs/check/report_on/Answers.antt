@@ -1,20 +1,20 @@
 use Rattle.std.proofs.Common.{◌≡◌, List, [], ℕ, length, inr, map, sum, nat_le, subst, arith, ap, rules}
 use Rattle.std.specs.List.{list_all}
-use Rattle.std.specs.Prelude.{IfSome}
-use Rattle.bsi_check.specs.Checks.{has_good_asks, is_clean, IsFound, TellsUnless}
-use Rattle.bsi_check.specs.Reports.{are_good, good_rows, text_of}
-use Rattle.bsi_check.proofs.Joined.{matched_long, matched_map}
-use Rattle.bsi_check.proofs.Telling.{tells_both}
+use Rattle.bsi_check.specs.Checks.{has_good_asks, is_clean}
+use Rattle.bsi_check.specs.Reasons.{TellsOneUnless}
+use Rattle.bsi_check.specs.Reports.{good_rows, AreAdded, IsFileFound}
+use Rattle.bsi_check.proofs.Joined.{added_long, files_told}
+use Rattle.bsi_check.proofs.Telling.{given_told, tells_both, unless_told}
 use Rattle.bsi_check.proofs.check.report_on.Goals as goal
 
 pub check_limit-requires : goal.check_limit-requires
 check_limit-requires g c =
-    let long = matched_long _ c.args.rows.items c.in_ok-files.files.items c.in_ok-files.ensures.found in
+    let long = added_long _ c.args.rows.items c.in_ok-files.files.items _ _ c.in_ok-files.ensures in
     record { few = omega (arith, long, ap length c.deref.ensures.value, c.if-len.false, c.len.ensures) }
 
 pub write_counts-requires : goal.write_counts-requires
 write_counts-requires g c =
-    let long = matched_long _ c.args.rows.items c.in_ok-files.files.items c.in_ok-files.ensures.found in
+    let long = added_long _ c.args.rows.items c.in_ok-files.files.items _ _ c.in_ok-files.ensures in
     record { few = omega (arith, long, ap length c.deref-2.ensures.value, c.if-len.false, c.len.ensures) }
 
 -- the schema is one, and the files were checked one after another
@@ -22,21 +22,29 @@ pub returns : goal.returns
 returns g c =
     let files = c.in_ok-files.files.items in
     let table = c.in-Some.table in
+    let asks = c.in_ok-check_given.field-0 in
+    let rem = g.S.Read.remaining in
     let one = c.check_each.new.reasons.items in
     let two = c.check_limit.new.reasons.items in
     let three = c.check_given.new.reasons.items in
     let none : c.check_schema.new.reasons.items ≡ [] = search rules in
-    let limited : TellsUnless (nat_le (sum (map good_rows files)) table.limit) one two =
-    subst (λ (fs : List _). TellsUnless (nat_le (sum (map good_rows fs)) table.limit) one two) c.deref.ensures.value c.in_ok-check_limit.ensures in
-    let told = tells_both (list_all is_clean files) _ c.check_schema.new.reasons.items one three c.in_ok-files.ensures.told
-    (tells_both (nat_le (sum (map good_rows files)) table.limit) (has_good_asks c.in_ok-check_given.field-0) one two three limited c.in_ok-check_given.ensures.told) in
+    let limit = nat_le (sum (map good_rows files)) table.limit in
+    let limited : TellsOneUnless limit c.args.schema.path.now one two =
+    subst (λ (fs : List _). TellsOneUnless (nat_le (sum (map good_rows fs)) table.limit) c.args.schema.path.now one two) c.deref.ensures.value c.in_ok-check_limit.ensures in
+    let found : AreAdded (IsFileFound rem table.schema) c.args.rows.items files [] one =
+    subst (λ (before : List ℕ). AreAdded (IsFileFound rem table.schema) c.args.rows.items files before one) none c.in_ok-files.ensures in
     inr (record {
       table = table;
       files = files;
-      asks = c.in_ok-check_given.field-0;
+      asks = asks;
+      of_files = one;
+      of_limit = two;
       schema_is = search rules;
-      files_are = matched_map (text_of g.S.Read.remaining) (λ text file. IfSome text (IsFound table.schema file)) c.args.rows.items files c.in_ok-files.ensures.found;
-      asks_are = c.in_ok-check_given.ensures.found;
-      told = subst (λ (before : List ℕ). TellsUnless (are_good table.limit files c.in_ok-check_given.field-0) before three) none told;
+      files_are = found;
+      limit_is = limited;
+      asks_are = c.in_ok-check_given.ensures;
+      told = tells_both (list_all is_clean files) _ [] one three (files_told rem table.schema c.args.rows.items files [] one found)
+          (tells_both limit (has_good_asks asks) one two three (unless_told c.args.schema.path.now limit one two limited)
+          (given_told rem table.schema c.args.asks asks two three c.in_ok-check_given.ensures));
       fed_is = search rules;
     })

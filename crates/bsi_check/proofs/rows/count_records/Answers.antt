@@ -1,15 +1,15 @@
-use Rattle.std.proofs.Common.{◌≡◌, ◌+◌, true, false, rules, arith, refl, sym, ◌∙◌, is_some}
+use Rattle.std.proofs.Common.{◌≡◌, true, false, rules, arith, refl, sym, ◌∙◌, is_some}
 use Rattle.csv.specs.Reading.{ReadRecord}
 use Rattle.csv.specs.Records.{fields_of}
 use Rattle.bsi_reading.specs.RowFiles.{good_row}
 use Rattle.bsi_check.proofs.Counting.{counted_all, counted_bad, counted_good, counted_long, counted_none}
-use Rattle.bsi_check.proofs.Telling.{grows, tells_some, told_some}
+use Rattle.bsi_check.proofs.Telling.{first_more, first_none, first_past}
 use Rattle.bsi_check.proofs.rows.count_records.Goals as goal
 
 pub records-init : goal.records-init
 records-init g c = record {
   counted = counted_none g.I.Read.remaining c.args.layout.now c.args.input.now c.requires.plain;
-  told = refl;
+  told = first_none c.args.path.now c.args.reasons.now.items;
 }
 
 pub returns-then-not-branch-clause-counted : goal.returns-then-not-branch-clause-counted
@@ -38,8 +38,8 @@ records-preserved-in_ok-tell_bad_record g c =
     record {
       counted = counted_bad g.I.Read.remaining c.args.layout.now c.args.input.now c.records.input c.records.records c.records.bad
           c.records.invariant.counted c.read_next.new.input fields next c.in_ok-read_next.ensures.plain (omega (arith, c.records-test.true)) bad;
-      told = tells_some (c.records.bad + 1) c.args.reasons.now.items c.tell_bad_record.new.reasons.items (omega arith)
-          (omega (arith, grows _ c.args.reasons.now.items c.records.reasons.items c.records.invariant.told, c.in_ok-tell_bad_record.ensures));
+      told = first_more c.args.path.now c.records.bad c.args.reasons.now.items c.records.reasons.items c.tell_bad_record.new.reasons.items
+          (omega (arith, c.if-bad-le-MAX_TOLD.true)) c.records.invariant.told c.in_ok-tell_bad_record.ensures;
     }
 
 -- and one past the first 100
@@ -51,8 +51,7 @@ records-preserved g c =
     record {
       counted = counted_bad g.I.Read.remaining c.args.layout.now c.args.input.now c.records.input c.records.records c.records.bad
           c.records.invariant.counted c.read_next.new.input fields next c.in_ok-read_next.ensures.plain (omega (arith, c.records-test.true)) bad;
-      told = tells_some (c.records.bad + 1) c.args.reasons.now.items c.records.reasons.items (omega arith)
-          (told_some c.records.bad c.args.reasons.now.items c.records.reasons.items (omega (arith, c.if-bad-le-MAX_TOLD.false)) c.records.invariant.told);
+      told = first_past c.args.path.now c.records.bad c.args.reasons.now.items c.records.reasons.items (omega (arith, c.if-bad-le-MAX_TOLD.false)) c.records.invariant.told;
     }
 
 pub returns-clause-counted : goal.returns-clause-counted

@@ -1,6 +1,6 @@
-use Rattle.std.proofs.Common.{◌-◌, nat_eq}
+use Rattle.std.proofs.Common.{◌-◌}
 use Rattle.bsi_reading.specs.Sources.{max_records}
-use Rattle.bsi_check.specs.Checks.{TellsUnless}
+use Rattle.bsi_check.specs.Reasons.{TellsFirst}
 use Rattle.bsi_check.proofs.Counting.{AreCounted}
 use Rattle.bsi_check.proofs.rows.count_records.Given as goal
 
@@ -8,7 +8,7 @@ use Rattle.bsi_check.proofs.rows.count_records.Given as goal
 abbrev pub invariant-records : goal.invariant-records
 invariant-records g l = record {
   counted : AreCounted (g.I.Read.remaining) l.fn.layout l.initial.input l.input l.records l.bad;
-  told : TellsUnless (nat_eq l.bad 0) l.initial.reasons.items l.reasons.items;
+  told : TellsFirst l.path l.bad l.initial.reasons.items l.reasons.items;
 }
 
 abbrev pub decreases-records : goal.decreases-records

@@ -1,13 +1,17 @@
-use Rattle.std.proofs.Common.{List, ℕ, Option, None, Some, IfSome}
-use Rattle.bsi_check.specs.Checks.{IsSchemaFound}
+use Rattle.std.proofs.Common.{List, ℕ, Option, None, Some, IfSome, rules}
+use Rattle.bsi_reading.specs.SchemaTexts.{IsSchemaFault}
 use Rattle.bsi_reading.specs.declared.rows.SourceFault.TheVariants.{Read}
-use Rattle.bsi_reading.specs.declared.schema_text.SchemaFault.TheVariants.{Source}
+use Rattle.bsi_reading.specs.declared.schema_text.SchemaFault.TheVariants.{NoColumns, Source}
 use Rattle.bsi_check.proofs.schema.check_schema.Goals as goal
 
--- nothing is told of a text that can't be read
-unread : (known : Option (List ℕ)) → IfSome known (IsSchemaFound None)
+-- a reader that fails says nothing of the text
+unread : (known : Option (List ℕ)) → IfSome known (λ text. IsSchemaFault text (Source Read))
 unread None = tt
-unread (Some text) = (Source Read, tt)
+unread (Some text) = tt
 
-pub returns-in-Err-clause-declared : goal.returns-in-Err-clause-declared
-returns-in-Err-clause-declared g c = unread (g.S.Read.remaining c.args.file)
+pub returns-in-Err : goal.returns-in-Err
+returns-in-Err g c =
+    (Source Read, unread (g.S.Read.remaining c.args.file), (c.in_ok-tell_unread.ensures.fault, c.in_ok-tell_unread.ensures.told))
+
+pub returns-in-Err-NoColumns : goal.returns-in-Err-NoColumns
+returns-in-Err-NoColumns g c = (NoColumns, search rules, c.in_ok-tell-in-Err-NoColumns.ensures)

@@ -17,13 +17,12 @@ returns-in-Ok-clause-grouped c =
     let fields : List (List ℕ) = map (λ f. f.now) c.args.fields.now in
     let is : IsQuestion table.schema fields c.in-Some.query = search rules in
     let named : position_of table.schema.columns c.args.name.now ≡ Some c.in-Some-find.by = search rules in
-    let made = c.in-Ok.made.items in
-    let groups : AreGroups c.in-Some.query.total (selected_by c.in-Some.query table.rows) c.in-Some-find.by table.rows made =
-    subst (λ t. AreGroups c.in-Some.query.total (selected_by c.in-Some.query t.rows) c.in-Some-find.by t.rows made) c.index-index.ensures c.in-Ok.ensures.groups in
+    let made = c.in-Ok.made.groups in
+    let groups : AreGroups c.in-Some.query.total (selected_by c.in-Some.query table.rows) (c.in-Some-find.by ∷ []) table.rows made =
+    subst (λ t. AreGroups c.in-Some.query.total (selected_by c.in-Some.query t.rows) (c.in-Some-find.by ∷ []) t.rows made) c.index-index.ensures c.in-Ok.ensures.groups in
     let long : c.len.result ≡ length made = search rules in
     let written : AllZip IsFlatGroup made (take c.len.result c.write_groups.new.groups) =
-    subst (λ n. AllZip IsFlatGroup made (take n c.write_groups.new.groups)) (sym long)
-    (subst (λ xs. AllZip IsFlatGroup xs (take (length xs) c.write_groups.new.groups)) c.deref.ensures.value c.write_groups.ensures.made) in
+    subst (λ n. AllZip IsFlatGroup made (take n c.write_groups.new.groups)) (sym long) c.write_groups.ensures.made in
     let room : c.len.result ≤ length c.write_groups.new.groups = omega (arith, long, c.in-Ok.ensures.few, c.write_groups.ensures.long) in
     (room, (c.in-Some.query, c.in-Some-find.by, is, named, (made, groups, written)))
 
@@ -35,8 +34,8 @@ returns-clause-grouped c = λ other by spelled at.
     let query = c.in-Some.query in
     let is : IsQuestion schema fields query = search rules in
     let named : position_of schema.columns c.args.name.now ≡ Some c.in-Some-find.by = search rules in
-    let missing : missing_grouped (length schema.columns) query c.in-Some-find.by ≡ Some c.in-Err-BadColumn.field-0-0 = search rules in
-    let none : missing_grouped (length schema.columns) query c.in-Some-find.by ≡ None =
+    let missing : missing_grouped (length schema.columns) query (c.in-Some-find.by ∷ []) ≡ Some c.in-Err-BadColumn.field-0-0 = search rules in
+    let none : missing_grouped (length schema.columns) query (c.in-Some-find.by ∷ []) ≡ None =
     missing_second (length schema.columns) (columns_of_total query.total ++ columns_of_pred query.pred) (c.in-Some-find.by ∷ []) (question_is_there schema fields query is)
     ∙ not_missing schema.columns c.args.name.now c.in-Some-find.by named in
     subst (λ (o : Option ℕ). MatchOption o (Unit {0}) (λ place. ⊥)) (sym none ∙ missing) tt

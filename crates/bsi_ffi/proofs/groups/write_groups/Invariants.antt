@@ -7,6 +7,6 @@ use Rattle.bsi_ffi.proofs.groups.write_groups.Given as goal
 abbrev pub invariant-groups : goal.invariant-groups
 invariant-groups l = record {
   long : length l.groups ≡ length l.initial.groups;
-  done : AllZip IsFlatGroup (take l.at l.made) (take l.at l.groups);
+  done : AllZip IsFlatGroup (take l.at l.made.groups) (take l.at l.groups);
   rest : drop l.at l.groups ≡ drop l.at l.initial.groups;
 }

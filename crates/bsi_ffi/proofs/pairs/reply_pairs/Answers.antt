@@ -7,8 +7,7 @@ use Rattle.bsi_records.specs.Questions.{IsQuestion}
 use Rattle.bsi_rows.specs.Answers.{columns_of_pred, columns_of_total}
 use Rattle.bsi_rows.proofs.Missing.{missing_second}
 use Rattle.bsi_schema.specs.Columns.{position_of}
-use Rattle.bsi_groups.specs.Groups.{selected_by}
-use Rattle.bsi_groups.specs.Pairs.{all_entries_at, missing_paired, AreMorePairs, ArePairGroups, IsPairRefusal}
+use Rattle.bsi_groups.specs.Groups.{entries_at, missing_grouped, selected_by, AreGroups, AreMore, IsGroupRefusal}
 use Rattle.bsi_ffi.specs.Pairs.{IsFlatPair}
 use Rattle.bsi_ffi.proofs.pairs.reply_pairs.Goals as goal
 
@@ -22,13 +21,12 @@ returns-in-Ok-clause-grouped c =
     let is : IsQuestion table.schema fields query = search rules in
     let named : position_of table.schema.columns c.args.first.now ≡ Some one = search rules in
     let other_named : position_of table.schema.columns c.args.second.now ≡ Some other = search rules in
-    let made = c.in-Ok.made.items in
-    let groups : ArePairGroups query.total (selected_by query table.rows) (one ∷ other ∷ []) table.rows made =
-    subst (λ t. ArePairGroups query.total (selected_by query t.rows) (one ∷ other ∷ []) t.rows made) c.index-index.ensures c.in-Ok.ensures.groups in
+    let made = c.in-Ok.made.groups in
+    let groups : AreGroups query.total (selected_by query table.rows) (one ∷ other ∷ []) table.rows made =
+    subst (λ t. AreGroups query.total (selected_by query t.rows) (one ∷ other ∷ []) t.rows made) c.index-index.ensures c.in-Ok.ensures.groups in
     let long : c.len.result ≡ length made = search rules in
     let written : AllZip IsFlatPair made (take c.len.result c.write_pairs.new.pairs) =
-    subst (λ n. AllZip IsFlatPair made (take n c.write_pairs.new.pairs)) (sym long)
-    (subst (λ xs. AllZip IsFlatPair xs (take (length xs) c.write_pairs.new.pairs)) c.deref.ensures.value c.write_pairs.ensures.made) in
+    subst (λ n. AllZip IsFlatPair made (take n c.write_pairs.new.pairs)) (sym long) c.write_pairs.ensures.made in
     let room : c.len.result ≤ length c.write_pairs.new.pairs = omega (arith, long, c.in-Ok.ensures.few, c.write_pairs.ensures.long) in
     (room, (query, one, other, is, named, other_named, (made, groups, written)))
 
@@ -44,9 +42,9 @@ returns-in-Err-TooMany-clause-grouped c =
     let other_named : position_of table.schema.columns c.args.second.now ≡ Some other = search rules in
     let by = one ∷ other ∷ [] in
     let index = c.index-index.result.now in
-    let refused = subst (IsPairRefusal index.schema index.rows query by (length c.args.pairs.now)) c.in-Err-TooMany.field-0-is c.in-Err-TooMany.ensures.refused in
-    let more : AreMorePairs (length c.args.pairs.now) (all_entries_at (selected_by query table.rows) by table.rows) =
-    subst (λ t. AreMorePairs (length c.args.pairs.now) (all_entries_at (selected_by query t.rows) by t.rows)) c.index-index.ensures refused.1 in
+    let refused = subst (IsGroupRefusal index.schema index.rows query by (length c.args.pairs.now)) c.in-Err-TooMany.field-0-is c.in-Err-TooMany.ensures.refused in
+    let more : AreMore (length c.args.pairs.now) (entries_at (selected_by query table.rows) by table.rows) =
+    subst (λ t. AreMore (length c.args.pairs.now) (entries_at (selected_by query t.rows) by t.rows)) c.index-index.ensures refused.1 in
     (query, one, other, is, named, other_named, more)
 
 -- no column of a question that was read is missing, nor those of names
@@ -61,8 +59,8 @@ returns-clause-grouped c = λ asked one_at other_at spelled at at_other.
     let is : IsQuestion schema fields query = search rules in
     let named : position_of schema.columns c.args.first.now ≡ Some one = search rules in
     let other_named : position_of schema.columns c.args.second.now ≡ Some other = search rules in
-    let missing : missing_paired columns query (one ∷ other ∷ []) ≡ Some c.in-Err-BadColumn.field-0-0 = search rules in
-    let none : missing_paired columns query (one ∷ other ∷ []) ≡ None =
+    let missing : missing_grouped columns query (one ∷ other ∷ []) ≡ Some c.in-Err-BadColumn.field-0-0 = search rules in
+    let none : missing_grouped columns query (one ∷ other ∷ []) ≡ None =
     missing_second columns (columns_of_total query.total ++ columns_of_pred query.pred) (one ∷ other ∷ []) (question_is_there schema fields query is)
     ∙ missing_second columns (one ∷ []) (other ∷ []) (not_missing schema.columns c.args.first.now one named)
     ∙ not_missing schema.columns c.args.second.now other other_named in

@@ -7,6 +7,6 @@ use Rattle.bsi_ffi.proofs.pairs.write_pairs.Given as goal
 abbrev pub invariant-pairs : goal.invariant-pairs
 invariant-pairs l = record {
   long : length l.pairs ≡ length l.initial.pairs;
-  done : AllZip IsFlatPair (take l.at l.made) (take l.at l.pairs);
+  done : AllZip IsFlatPair (take l.at l.made.groups) (take l.at l.pairs);
   rest : drop l.at l.pairs ≡ drop l.at l.initial.pairs;
 }

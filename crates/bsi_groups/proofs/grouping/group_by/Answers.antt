@@ -1,6 +1,5 @@
-use Rattle.std.proofs.Common.{◌≡◌, ◌≤◌, ◌<◌, ℕ, Bool, true, false, [], ◌∷◌, ◌++◌, List, None, Some, Result, Ok, Err, length, cond, ap, sym, subst, ◌∙◌, arith}
-use Rattle.std.specs.Prelude.{nat_le, IfErr, OnOk}
-use Rattle.std.proofs.lemmas.Bool.Decides.{nat_tests}
+use Rattle.std.proofs.Common.{◌≡◌, ℕ, Bool, ◌++◌, List, None, Result, Ok, Err, length, ap, sym, subst, ◌∙◌}
+use Rattle.std.specs.Prelude.{IfErr, OnOk}
 use Rattle.bsi_rows.specs.Answers.{columns_of_pred, columns_of_total, missing_column, missing_of}
 use Rattle.bsi_rows.specs.Rows.{FedRow}
 use Rattle.bsi_rows.specs.declared.query.Query.{Query}
@@ -15,21 +14,12 @@ use Rattle.bsi_groups.proofs.grouping.group_by.Goals as goal
 abbrev read : Query → List ℕ
 read query = columns_of_total query.total ++ columns_of_pred query.pred
 
--- a column of the groups that is not there, and one that is
-past : (count by : ℕ) → count ≤ by → missing_of count (by ∷ []) ≡ Some by
-past count by at_most =
-    let test : nat_le count by ≡ true = grind (arith, nat_tests) in ap (λ b. cond b (Some by) None) test
-
-within : (count by : ℕ) → by < count → missing_of count (by ∷ []) ≡ None
-within count by below =
-    let test : nat_le count by ≡ false = grind (arith, nat_tests) in ap (λ b. cond b (Some by) None) test
-
 so_ok : {T E P : Type 0} (r : Result T E) → P → OnOk r P
 so_ok (Ok x) p = p
 so_ok (Err e) p = tt
 
 -- a refusal over the rows that the query selects
-refused : (schema : Declared) (rows : List FedRow) (query : Query) (by most : ℕ) (found : List Bool) → missing_grouped (length schema.columns) query by ≡ None
+refused : (schema : Declared) (rows : List FedRow) (query : Query) (by : List ℕ) (most : ℕ) (found : List Bool) → missing_grouped (length schema.columns) query by ≡ None
     → found ≡ selected_by query rows → (e : GroupError) → IsRefusedOver found by rows most e → IsGroupRefusal schema rows query by most e
 refused schema rows query by most found none is (BadColumn c) never = absurd never
 refused schema rows query by most found none is TooMany many = (none, subst (λ found. IsRefusedOver found by rows most TooMany) is many)
@@ -43,37 +33,35 @@ pub returns-in-Some-clause-refused : goal.returns-in-Some-clause-refused
 returns-in-Some-clause-refused c =
     let count = c.columns-columns.ensures.columns ∙ ap (λ (s : Declared). length s.columns) c.schema.ensures.schema in
     let missing = sym (c.missing_column.ensures ∙ ap (λ n. missing_column n c.args.query.now) count) in
-    missing_first (length c.args.index.now.schema.columns) (read c.args.query.now) (c.args.by ∷ []) c.in-Some.missing (missing ∙ c.in-Some.is)
+    missing_first (length c.args.index.now.schema.columns) (read c.args.query.now) c.args.by.now c.in-Some.missing (missing ∙ c.in-Some.is)
 
-pub returns-then-by-columns-clause-refused : goal.returns-then-by-columns-clause-refused
-returns-then-by-columns-clause-refused c =
+pub returns-in-Some-missing_among-clause-refused : goal.returns-in-Some-missing_among-clause-refused
+returns-in-Some-missing_among-clause-refused c =
     let count = c.columns-columns.ensures.columns ∙ ap (λ (s : Declared). length s.columns) c.schema.ensures.schema in
     let missing = sym (c.missing_column.ensures ∙ ap (λ n. missing_column n c.args.query.now) count) in
-    missing_second (length c.args.index.now.schema.columns) (read c.args.query.now) (c.args.by ∷ []) (missing ∙ c.in_default.is)
-    ∙ past (length c.args.index.now.schema.columns) c.args.by (omega (arith, count, c.if-by-columns.true))
+    let others = sym (c.missing_among.ensures ∙ ap (λ n. missing_of n c.args.by.now) count) in
+    missing_second (length c.args.index.now.schema.columns) (read c.args.query.now) c.args.by.now (missing ∙ c.in_default.is) ∙ others ∙ c.in-Some-missing_among.is
 
 pub returns-in_default-select-clause-refused : goal.returns-in_default-select-clause-refused
 returns-in_default-select-clause-refused c =
     let count = c.columns-columns.ensures.columns ∙ ap (λ (s : Declared). length s.columns) c.schema.ensures.schema in
-    let missing = sym (c.missing_column.ensures ∙ ap (λ n. missing_column n c.args.query.now) count) in (
-      missing_second (length c.args.index.now.schema.columns) (read c.args.query.now) (c.args.by ∷ []) (missing ∙ c.in_default.is)
-          ∙ within (length c.args.index.now.schema.columns) c.args.by (omega (arith, count, c.if-by-columns.false)),
-      tt,
-    )
+    let missing = sym (c.missing_column.ensures ∙ ap (λ n. missing_column n c.args.query.now) count) in
+    let others = sym (c.missing_among.ensures ∙ ap (λ n. missing_of n c.args.by.now) count) in
+    (missing_second (length c.args.index.now.schema.columns) (read c.args.query.now) c.args.by.now (missing ∙ c.in_default.is) ∙ others ∙ c.in_default-missing_among.is, tt)
 
 pub returns-clause-there : goal.returns-clause-there
 returns-clause-there c =
     let count = c.columns-columns.ensures.columns ∙ ap (λ (s : Declared). length s.columns) c.schema.ensures.schema in
     let missing = sym (c.missing_column.ensures ∙ ap (λ n. missing_column n c.args.query.now) count) in
-    so_ok c.group_found.result
-    (missing_second (length c.args.index.now.schema.columns) (read c.args.query.now) (c.args.by ∷ []) (missing ∙ c.in_default.is)
-    ∙ within (length c.args.index.now.schema.columns) c.args.by (omega (arith, count, c.if-by-columns.false)))
+    let others = sym (c.missing_among.ensures ∙ ap (λ n. missing_of n c.args.by.now) count) in
+    so_ok c.groups_found.result
+    (missing_second (length c.args.index.now.schema.columns) (read c.args.query.now) c.args.by.now (missing ∙ c.in_default.is) ∙ others ∙ c.in_default-missing_among.is)
 
 pub returns-clause-refused : goal.returns-clause-refused
 returns-clause-refused c =
     let count = c.columns-columns.ensures.columns ∙ ap (λ (s : Declared). length s.columns) c.schema.ensures.schema in
     let missing = sym (c.missing_column.ensures ∙ ap (λ n. missing_column n c.args.query.now) count) in
-    let none = missing_second (length c.args.index.now.schema.columns) (read c.args.query.now) (c.args.by ∷ []) (missing ∙ c.in_default.is)
-    ∙ within (length c.args.index.now.schema.columns) c.args.by (omega (arith, count, c.if-by-columns.false)) in
-    so_err _ _ c.group_found.result
-    (refused c.args.index.now.schema c.args.index.now.rows c.args.query.now c.args.by c.args.most c.in-Ok.found.bits none c.in-Ok.ensures.1) c.group_found.ensures.refused
+    let others = sym (c.missing_among.ensures ∙ ap (λ n. missing_of n c.args.by.now) count) in
+    let none = missing_second (length c.args.index.now.schema.columns) (read c.args.query.now) c.args.by.now (missing ∙ c.in_default.is) ∙ others ∙ c.in_default-missing_among.is in
+    so_err _ _ c.groups_found.result
+    (refused c.args.index.now.schema c.args.index.now.rows c.args.query.now c.args.by.now c.args.most c.in-Ok.found.bits none c.in-Ok.ensures.1) c.groups_found.ensures.refused

@@ -7,9 +7,9 @@ use Rattle.bsi_orders.specs.Offsets.{IsInRange}
 use Rattle.bsi_rows.specs.Rows.{column_of}
 use Rattle.bsi_schema.specs.Columns.{column_at}
 use Rattle.bsi_shift.specs.Shifted.{shifted_entries, shifted_size}
-use Rattle.bsi_groups.specs.Groups.{entries_at, AreMore}
+use Rattle.bsi_groups.specs.ColumnGroups.{column_entries_at, AreMoreEntries}
 use Rattle.bsi_groups.specs.Tallies.{entries_or_nulls, IsTally}
-use Rattle.bsi_groups.specs.declared.grouping.Group.{Group}
+use Rattle.bsi_groups.specs.declared.column.ColumnGroup.{ColumnGroup}
 use Rattle.bsi_groups.proofs.Tallied.{entry_placed}
 use Rattle.bsi_groups.proofs.TalliedGroups.{all_groups, no_group, one_group, too_many, AreTallied}
 use Rattle.bsi_groups.proofs.tallying.tallied_groups.Goals.{then-has_rows+else-len-most+in_ok-reserve, else-has_rows}
@@ -30,7 +30,7 @@ returns-then-len-most-clause-refused c =
     let offset_is = c.column-keys.ensures.offset ∙ sym (ap (λ schema. (column_at schema.columns c.args.by).offset) c.schema.ensures.schema) ∙ sym c.offset-offset.ensures.offset ∙ sym (to_z-of_z fits) in
     let entries_are = ap (entries_or_nulls c.args.found.now.bits) c.column_of_total-entries.ensures in
     let some = some_rows c.has_rows.result c.index.result.now.rows (get_or tallies c.tallies.k c.index.result.now).rows c.has_rows.ensures c.if-has_rows.true (ap (λ tally. tally.rows) c.index.ensures) in
-    subst (λ most. AreMore most (entries_at c.args.found.now.bits c.args.by rows)) (omega (arith, c.len.ensures, c.tallies.groups.ok.0, c.if-len-most.true))
+    subst (λ most. AreMoreEntries most (column_entries_at c.args.found.now.bits c.args.by rows)) (omega (arith, c.len.ensures, c.tallies.groups.ok.0, c.if-len-most.true))
     (too_many c.args.total c.args.found.now.bits c.args.by rows (to_z w64 (of_z w64 c.offset-offset.result)) c.size-size.result tallies c.requires.same keys offset_is (sym c.size-size.ensures.size)
     c.column-keys.ensures.entries (entries_or_nulls c.args.found.now.bits (option_map (λ c. shifted_entries c.now) c.column_of_total-entries.result)) entries_are c.in_ok-tallies.ensures c.tallies.k c.tallies.groups.items c.tallies.invariant.are c.index.result.now (omega (arith, c.tallies-test.true, c.len-k-end.ensures, c.in_ok-tallies.tallies.ok.0)) some)
 
@@ -50,7 +50,7 @@ tallies-preserved c =
     let within : k < length tallies = omega (arith, c.tallies-test.true, c.len-k-end.ensures, c.in_ok-tallies.tallies.ok.0) in
     elim c.if-has_rows.branch [
       | then-has_rows+else-len-most+in_ok-reserve w ↦
-          let group : Group = record { entry = w.entry_at.result; answer = w.answer.result } in
+          let group : ColumnGroup = record { entry = w.entry_at.result; answer = w.answer.result } in
           let pushed = ap (λ v. v.items) w.groups-is ∙ w.push_reserved.ensures.items ∙ ap (λ groups. groups ++ group ∷ []) w.reserve.ensures.items in
           let some = some_rows c.has_rows.result tally.rows (get_or tallies k tally).rows c.has_rows.ensures w.if-has_rows.true (ap (λ tally. tally.rows) c.index.ensures) in
           let then_tally = w.index-then-has_rows.result.now in

@@ -1,8 +1,8 @@
-use Rattle.std.proofs.Common.{◌≡◌, ap, map, rules, subst, sym, ◌∙◌, option_map}
+use Rattle.std.proofs.Common.{◌≡◌, ap, rules, subst, sym, ◌∙◌}
 use Rattle.std.specs.Prelude.{IfErr, Err}
 use Rattle.bsi_asks.proofs.Passing.{if_err}
 use Rattle.bsi_asks.specs.declared.faults.FilesFault.TheVariants as run
-use Rattle.bsi_check.specs.Reports.{text_of, HasBegunReport, HasReported}
+use Rattle.bsi_check.specs.Reports.{HasBegunReport, HasReported}
 use Rattle.bsi_shell.specs.Checks.{check_fault_of, LeavesCheck}
 use Rattle.bsi_shell.specs.declared.files.RunFault.{RunFault}
 use Rattle.bsi_shell.specs.declared.files.RunFault.TheVariants.{Run}
@@ -11,9 +11,11 @@ use Rattle.bsi_shell.proofs.check.check_over.Goals as goal
 
 pub returns-clause-reported : goal.returns-clause-reported
 returns-clause-reported g c =
-    over_opened g.S.Read.remaining (λ declared texts asked before after. HasReported declared texts asked before after c.in_ok-good.good)
-    c.in_ok-schema.schema c.in_ok-asks.asks c.in_ok-rows.rows.items (g.O.Write.contents c.args.output.now)
-    (g.O.Write.contents c.check_files.new.output) (g.O.Write.contents c.flush.new.self) c.in_ok-good.ensures.reported c.flush.ensures.bytes
+    let rem = g.S.Read.remaining in
+    over_opened rem c.in_ok-schema.schema c.in_ok-asks.asks c.in_ok-rows.rows.items
+    (λ schema rows asks before after. HasReported rem schema rows asks before after c.in_ok-good.good)
+    (g.O.Write.contents c.args.output.now) (g.O.Write.contents c.check_files.new.output) (g.O.Write.contents c.flush.new.self)
+    c.in_ok-good.ensures.reported c.flush.ensures.bytes
 
 -- the check itself ended by a fault
 pub returns-in_err-good-clause-left : goal.returns-in_err-good-clause-left
@@ -38,5 +40,5 @@ returns-in_err-map_err-clause-left g c =
     let rows = c.in_ok-rows.rows.items in
     let met : IfErr c.from_residual-in_err-map_err.result (λ (fault : RunFault). fault ≡ Run run.Write) = search rules in
     if_err c.from_residual-in_err-map_err.result (λ fault is. subst (λ f. LeavesCheck rem f before after) (sym is)
-    (over_opened rem HasBegunReport schema asks rows before middle after
-    (begun_all (text_of rem schema) (map (text_of rem) rows) (option_map (text_of rem) asks) before middle c.in_ok-good.good c.in_ok-good.ensures.reported) c.flush.ensures.bytes)) met
+    (over_opened rem schema asks rows (HasBegunReport rem) before middle after
+    (begun_all rem schema asks rows before middle c.in_ok-good.good c.in_ok-good.ensures.reported) c.flush.ensures.bytes)) met

@@ -5,7 +5,6 @@ use Rattle.bsi_shell.specs.declared.files.RunFault.TheVariants.{Run}
 use Rattle.bsi_reading.proofs.Standing.{nothing_begun}
 use Rattle.bsi_shell.proofs.Runs.{keeps_same, of_any}
 use Rattle.bsi_shell.proofs.words.run_words.Goals as goal
-use Rattle.bsi_store.specs.declared.fault.StoreFault.TheVariants as store
 
 -- no memory for the words: nothing was written
 pub returns-clause-begun : goal.returns-clause-begun
@@ -30,9 +29,47 @@ returns-clause-reasons g c = λ one check.
           (sym c.by-in-NoMemory.ensures.told) c.tell_run_fault.ensures,
     )
 
-pub returns-clause-unkept : goal.returns-clause-unkept
-returns-clause-unkept g c = λ one kept. (
-  store.Run NoMemory,
-  subst (λ told. IsTold told (g.F.Write.contents c.args.faults.now) (g.F.Write.contents c.tell_run_fault.new.faults) (fault_line (Run NoMemory)))
-      (sym c.by-in-NoMemory.ensures.told) c.tell_run_fault.ensures,
-)
+pub returns-clause-unsaved : goal.returns-clause-unsaved
+returns-clause-unsaved g c = λ one command.
+    inr (
+      refl {a = g.O.Write.contents c.args.output.now},
+      subst (λ told. IsTold told (g.F.Write.contents c.args.faults.now) (g.F.Write.contents c.tell_run_fault.new.faults) (fault_line (Run NoMemory)))
+          (sym c.by-in-NoMemory.ensures.told) c.tell_run_fault.ensures,
+    )
+
+pub returns-clause-unadded : goal.returns-clause-unadded
+returns-clause-unadded g c = λ one command.
+    inr (
+      refl {a = g.O.Write.contents c.args.output.now},
+      subst (λ told. IsTold told (g.F.Write.contents c.args.faults.now) (g.F.Write.contents c.tell_run_fault.new.faults) (fault_line (Run NoMemory)))
+          (sym c.by-in-NoMemory.ensures.told) c.tell_run_fault.ensures,
+    )
+
+pub returns-clause-unasked : goal.returns-clause-unasked
+returns-clause-unasked g c = λ one command.
+    inr (
+      refl {a = g.O.Write.contents c.args.output.now},
+      subst (λ told. IsTold told (g.F.Write.contents c.args.faults.now) (g.F.Write.contents c.tell_run_fault.new.faults) (fault_line (Run NoMemory)))
+          (sym c.by-in-NoMemory.ensures.told) c.tell_run_fault.ensures,
+    )
+
+pub returns-clause-unshown : goal.returns-clause-unshown
+returns-clause-unshown g c = λ one command.
+    inr (
+      refl {a = g.O.Write.contents c.args.output.now},
+      subst (λ told. IsTold told (g.F.Write.contents c.args.faults.now) (g.F.Write.contents c.tell_run_fault.new.faults) (fault_line (Run NoMemory)))
+          (sym c.by-in-NoMemory.ensures.told) c.tell_run_fault.ensures,
+    )
+
+-- each command, by what it took from the words
+pub returns-in-Save-clause-unsaved : goal.returns-in-Save-clause-unsaved
+returns-in-Save-clause-unsaved g c = λ one command. inl (c.in-Save.paths, c.answer_save.ensures.told one)
+
+pub returns-in-Add-clause-unadded : goal.returns-in-Add-clause-unadded
+returns-in-Add-clause-unadded g c = λ one command. inl (c.in-Add.paths, c.answer_add.ensures.told one)
+
+pub returns-in-Ask-clause-unasked : goal.returns-in-Ask-clause-unasked
+returns-in-Ask-clause-unasked g c = λ one command. inl (c.in-Ask.paths, c.answer_ask.ensures.told one)
+
+pub returns-in-Show-clause-unshown : goal.returns-in-Show-clause-unshown
+returns-in-Show-clause-unshown g c = λ one command. inl (c.in-Show.path, c.answer_show.ensures.told one)
