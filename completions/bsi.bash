@@ -17,7 +17,7 @@ _bsi() {
                 ;;
         esac
     elif [[ ${COMP_WORDS[1]} == save && $word == -* ]]; then
-        words='--schema --to'
+        words='--force --schema --to'
     elif [[ ${COMP_WORDS[1]} == add && $word == -* ]]; then
         words='--so-far'
     elif [[ ${COMP_WORDS[1]} == ask && $word == -* ]]; then

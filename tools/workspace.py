@@ -1,6 +1,7 @@
 """What the tools share: where things lie, the crates, a run with bytes, how a process ended, and the count of checks."""
 
 import contextlib
+import itertools
 import os
 import subprocess
 import sys
@@ -37,8 +38,9 @@ def run(words, given=b"", variables=None, folder=None, seconds=60, source=None, 
         return Ran(ran.returncode, ran.stdout or b"", ran.stderr)
 
 
-def run_in_turns(words, given, folder=None, seconds=10):
-    """Runs a command on the lines given, each once the one before it was answered by a line, and returns how it ended."""
+def run_in_turns(words, given, folder=None, seconds=10, turns=()):
+    """Runs a command on the lines given, and returns how it ended. A turn is how many lines are given at once, and how many lines are awaited
+    before the next turn; without turns each line is given once the one before it was answered by a line."""
     late = threading.Event()
     how = {"stdin": subprocess.PIPE, "stdout": subprocess.PIPE, "stderr": subprocess.PIPE}
     with subprocess.Popen(words, cwd=folder, bufsize=0, **how) as started:
@@ -46,9 +48,13 @@ def run_in_turns(words, given, folder=None, seconds=10):
         timer.start()
         out = b""
         with contextlib.suppress(BrokenPipeError):
-            for line in given.splitlines(keepends=True):
-                started.stdin.write(line)
-                out += started.stdout.readline()
+            lines = iter(given.splitlines(keepends=True))
+            for many, answers in turns or itertools.repeat((1, 1)):
+                part = b"".join(itertools.islice(lines, many))
+                if not part:
+                    break
+                started.stdin.write(part)
+                out += b"".join(started.stdout.readline() for _ in range(answers))
         rest, err = started.communicate()
         timer.cancel()
     return Ran(None if late.is_set() else started.returncode, out + rest, err)

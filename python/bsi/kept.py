@@ -233,30 +233,62 @@ def is_kept(path: str) -> bool:
 
 # ---- Replacing a file ----
 
+# How many names are tried for the new file beside another one.
+MAX_NEW = 1000
+
 
 def replace(path: Path, data: Any) -> None:
     """Replaces a file by these bytes, or leaves it as it is. They go to a new file beside it, which takes its place
-    when the disk has all of it. What a crash left of such a file is replaced."""
+    when the disk has all of it. No other file is opened."""
     name = os.path.realpath(os.fspath(path))
     if os.path.isdir(name):
         raise IsADirectoryError(errno.EISDIR, os.strerror(errno.EISDIR), os.fspath(path))
-    new = f"{name}.new"
     # (opened first, so that a folder that can't be opened leaves the old file)
     folder = os.open(os.path.dirname(name), os.O_RDONLY | os.O_DIRECTORY)
     try:
-        with _unless_added_to(name), _alone(new) as file:
+        with _unless_added_to(name):
+            old = _stat(name)
+            number, new = _create(name, 0o666 if old is None else stat.S_IMODE(old.st_mode) & 0o777)
             try:
-                file.truncate(0)
-                _keep_mode(name, file)
-                _write_all(file, memoryview(data))
-                os.fsync(file.fileno())
-                os.replace(new, name)
+                with open(number, "wb", buffering=0) as file:
+                    if old is not None:
+                        os.fchmod(number, stat.S_IMODE(old.st_mode))
+                    _write_all(file, memoryview(data))
+                    os.fsync(number)
+                    _refuse_another(name, old)
+                    os.replace(new, name)
             except BaseException:
                 os.unlink(new)
                 raise
         os.fsync(folder)
     finally:
         os.close(folder)
+
+
+def _create(name: str, mode: int) -> Tuple[int, str]:
+    """Creates a new file beside one, under the first name that is free."""
+    for number in range(1, MAX_NEW + 1):
+        new = f"{name}.new{number}"
+        try:
+            return os.open(new, os.O_WRONLY | os.O_CREAT | os.O_EXCL | os.O_CLOEXEC, mode), new
+        except FileExistsError:
+            pass
+    raise FileExistsError(errno.EEXIST, os.strerror(errno.EEXIST), f"{name}.new")
+
+
+def _stat(name: str) -> Optional[os.stat_result]:
+    """Returns what the system says of a file, or None where there is none."""
+    try:
+        return os.stat(name)
+    except FileNotFoundError:
+        return None
+
+
+def _refuse_another(name: str, old: Optional[os.stat_result]) -> None:
+    """Raises an Error where another file stands there than before."""
+    now = _stat(name)
+    if (now is None) != (old is None) or now is not None and not os.path.samestat(now, old):
+        raise Error(f"{name}: another program is writing it")
 
 
 @contextmanager
@@ -273,38 +305,6 @@ def _unless_added_to(name: str) -> Iterator[None]:
         except OSError:
             pass  # there is none, or none that can be read
         yield
-
-
-@contextmanager
-def _alone(new: str) -> Iterator[IO[bytes]]:
-    """Opens the new file for one writer at a time. One that another writer has put in its place is opened anew."""
-    with ExitStack() as stack:
-        while True:
-            number = os.open(new, os.O_RDWR | os.O_CREAT | os.O_NOFOLLOW | os.O_CLOEXEC, 0o666)
-            file = stack.enter_context(open(number, "r+b", buffering=0))
-            try:
-                fcntl.flock(number, fcntl.LOCK_EX | fcntl.LOCK_NB)
-            except BlockingIOError:
-                raise Error(f"{new}: another program is writing it") from None
-            if _is_still(new, number):
-                yield file
-                return
-
-
-def _is_still(name: str, number: int) -> bool:
-    """Returns whether a name still stands for the file that was opened."""
-    try:
-        return os.path.samestat(os.stat(name, follow_symlinks=False), os.fstat(number))
-    except FileNotFoundError:
-        return False
-
-
-def _keep_mode(name: str, file: IO[bytes]) -> None:
-    """Gives the new file the rights of the old one."""
-    try:
-        os.fchmod(file.fileno(), stat.S_IMODE(os.stat(name).st_mode))
-    except FileNotFoundError:
-        pass
 
 
 def _write_all(file: IO[bytes], data: memoryview) -> None:

@@ -298,11 +298,16 @@ def test_texts_that_are_too_long(path):
 # ---- How a file is replaced ----
 
 
-def test_a_stale_new_file_is_replaced(path):
-    with open(f"{path}.new", "wb") as file:
-        file.write(b"x" * 100_000)
+def test_no_other_file_is_touched(tmp_path, path):
+    other = tmp_path / "other"
+    other.write_bytes(b"others")
+    pathlib.Path(f"{path}.new1").write_bytes(b"x")
+    os.symlink(other, f"{path}.new2")
+    os.mkfifo(f"{path}.new3")
+    before = sorted(os.listdir(tmp_path))
     small().save(path)
-    assert len(bsi.open(path)) == 4 and not os.path.exists(f"{path}.new")
+    assert len(bsi.open(path)) == 4 and sorted({*before, os.path.basename(path)}) == sorted(os.listdir(tmp_path))
+    assert pathlib.Path(f"{path}.new1").read_bytes() == b"x" and other.read_bytes() == b"others"
 
 
 def test_a_link_stays_a_link(tmp_path, path):
@@ -316,9 +321,6 @@ def test_a_link_stays_a_link(tmp_path, path):
 
 def test_two_writers_at_once(path):
     index = small()
-    with kept._alone(f"{os.path.realpath(path)}.new"):
-        with pytest.raises(bsi.Error, match="another program is writing"):
-            index.save(path)
     threads = [threading.Thread(target=lambda: _try(index.share(), path)) for _ in range(8)]
     for thread in threads:
         thread.start()

@@ -81,10 +81,10 @@ def first_rows(sign):
 
 
 def groups(machine, name, *query):
-    """Returns the line of a query over each group, by one column or two."""
+    """Returns the line of a query over each group, by one column or more."""
     by = [machine.position(name)]
-    if query[:1] == (b"by",):
-        by, query = [*by, machine.position(query[1])] if query[1:] else [None], query[2:]
+    while query[:1] == (b"by",):
+        by, query = [*by, machine.position(query[1]) if query[1:] else None], query[2:]
     is_query = query[:1] != (b"list",) and (query[:1] == (b"rank",) or query[:1] and query[0] not in REPORTS)
     if None in by or not is_query or answer(machine, list(query)) == files_model.BAD:
         return files_model.BAD
