@@ -119,9 +119,9 @@ fn open_old<'a, R: Files<File = S>, S: Read + LockFile + Drop>(
     ensures named { IfErr result (Names (λ named. named ≡ path.entry)) }
 {
     let mut old = open_one(rt, path)?;
-    match old.lock_beside() {
-        Ok(false) => return Err(StoreFault::Unusable(path, FileFault::InUse)),
-        _ => {}
+    // A file that can't be locked here is read without.
+    if matches!(old.lock_beside(), Ok(false)) {
+        return Err(StoreFault::Unusable(path, FileFault::InUse));
     }
     if force {
         return Ok(old);

@@ -10,13 +10,10 @@ ghost use Rattle.bsi_asks.specs.Reports.{end_word, spelled_share, AreAllNamed, I
 
 use crate::NoMemory;
 use bsi_groups::{End, Share};
-use bsi_records::{field, read_number, read_question};
+use bsi_records::{MAX_GROUP_COLUMNS, field, read_number, read_question};
 use bsi_rows::{Pred, Query, Schema, Total};
 use csv::ByteRecord;
 use std::alloc::Global;
-
-/// The most columns of groups.
-const MAX_GROUP_COLUMNS: usize = 64;
 
 /// What a report asks of an index.
 #[derive(Debug, Drop)]

@@ -1,6 +1,5 @@
 pub use Rattle.bsi_columns.specs.Decomposed
 pub use Rattle.bsi_groups.specs.Groups
-pub use Rattle.bsi_groups.specs.Pairs
 pub use Rattle.bsi_groups.specs.Replies as ColumnReplies
 pub use Rattle.bsi_groups.specs.Tops
 pub use Rattle.bsi_load.specs.Runs

@@ -3,16 +3,10 @@
 use crate::NoMemory;
 use crate::closest::unknown_column;
 use crate::shown::{add_line_ends, shown};
-use bsi_records::{field, read_number, read_signed};
+use bsi_records::{MAX_GROUP_COLUMNS, MAX_PREDICATE_FIELDS, field, read_number, read_signed};
 use bsi_schema::Schema;
 use csv::ByteRecord;
 use std::alloc::Global;
-
-/// The most columns of groups.
-const MAX_GROUP_COLUMNS: usize = 64;
-
-/// The most fields of a predicate.
-const MAX_PREDICATE_FIELDS: usize = 1_000;
 
 /// The totals that have no column.
 const TOTALS_OF_ROWS: [&str; 2] = ["count", "list"];

@@ -78,7 +78,7 @@ pub(crate) fn add_line_ends(
 }
 
 /// Counts the line ends of some bytes: line feeds, and carriage returns that no line feed follows.
-pub fn count_line_ends(bytes: &[u8]) -> u64 {
+fn count_line_ends(bytes: &[u8]) -> u64 {
     count_line_feeds(bytes).saturating_add(count_lone_returns(bytes))
 }
 

@@ -12,8 +12,9 @@ mod setups;
 
 pub use lines::{write_bad, write_fed, write_reply};
 pub use numbers::{read_entry, read_number, read_signed, read_value};
+pub use predicates::MAX_PREDICATE_FIELDS;
 pub use queries::read_query;
-pub use questions::read_question;
+pub use questions::{MAX_GROUP_COLUMNS, read_question};
 pub use records::{field, read_event, read_row};
 pub use setups::{DeclaredTable, Setup, is_begin, read_setup};
 pub use std::alloc::AllocError as NoMemory;

@@ -19,7 +19,7 @@ use csv::ByteRecord;
 use std::alloc::Global;
 
 /// The most fields of a predicate.
-const MAX_PREDICATE_FIELDS: usize = 1_000;
+pub const MAX_PREDICATE_FIELDS: usize = 1_000;
 
 /// What the last fields have begun.
 #[derive(Clone, Copy, PartialEq, Eq)]

@@ -13,6 +13,9 @@ use bsi_rows::{Query, Schema, Total};
 use csv::ByteRecord;
 use std::alloc::Global;
 
+/// The most columns of groups.
+pub const MAX_GROUP_COLUMNS: usize = 64;
+
 /// Reads a record as a question: a query as `read_query` reads it, in which a comparison may have the name of a second
 /// column in place of the number, or `rank`, a column, a number from 0, and then the fields of a predicate. `None`
 /// stands for a record that is no question. It allocates memory for each part of the predicate.
