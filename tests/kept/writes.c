@@ -1,7 +1,7 @@
-// Preloaded: tells what is written, stored, cut and moved, in its order, and lets one file not be stored.
+// Preloaded: tells what is locked, written, stored, cut and moved, in its order, and lets one file not be stored or cut.
 //
-// The file BSI_LOG gets a line for each: the word, how many bytes, and the path, of a move both. BSI_FAIL_SYNC says which
-// sync fails, from 1.
+// The file BSI_LOG gets a line for each: the word, how many bytes or which lock, and the path, of a move both.
+// BSI_FAIL_SYNC and BSI_FAIL_CUT say which sync and which cut fails, from 1.
 
 #define _GNU_SOURCE
 #include <dlfcn.h>
@@ -14,20 +14,28 @@
 #include <unistd.h>
 
 static int told = -1;
-static long failing, syncs;
+static long failing_sync, failing_cut, syncs, cuts;
 static ssize_t (*next_write)(int, const void *, size_t);
-static int (*next_fsync)(int), (*next_fdatasync)(int);
+static int (*next_fsync)(int), (*next_fdatasync)(int), (*next_flock)(int, int);
 static int (*next_ftruncate)(int, off_t), (*next_rename)(const char *, const char *);
+
+static long number_of(const char *name)
+{
+    const char *number = getenv(name);
+    return number ? atol(number) : 0;
+}
 
 __attribute__((constructor)) static void begin(void)
 {
-    const char *path = getenv("BSI_LOG"), *number = getenv("BSI_FAIL_SYNC");
+    const char *path = getenv("BSI_LOG");
     next_write = (ssize_t (*)(int, const void *, size_t))dlsym(RTLD_NEXT, "write");
     next_fsync = (int (*)(int))dlsym(RTLD_NEXT, "fsync");
     next_fdatasync = (int (*)(int))dlsym(RTLD_NEXT, "fdatasync");
     next_ftruncate = (int (*)(int, off_t))dlsym(RTLD_NEXT, "ftruncate");
     next_rename = (int (*)(const char *, const char *))dlsym(RTLD_NEXT, "rename");
-    failing = number ? atol(number) : 0;
+    next_flock = (int (*)(int, int))dlsym(RTLD_NEXT, "flock");
+    failing_sync = number_of("BSI_FAIL_SYNC");
+    failing_cut = number_of("BSI_FAIL_CUT");
     told = path ? open(path, O_WRONLY | O_APPEND | O_CLOEXEC) : -1;
 }
 
@@ -50,7 +58,7 @@ static void tell_file(const char *word, long long bytes, int file)
 
 static int sync_by(int (*next)(int), int file)
 {
-    if (++syncs == failing) {
+    if (++syncs == failing_sync) {
         errno = EIO;
         return -1;
     }
@@ -80,9 +88,21 @@ int fdatasync(int file)
 
 int ftruncate(int file, off_t size)
 {
+    if (++cuts == failing_cut) {
+        errno = EIO;
+        return -1;
+    }
     int status = next_ftruncate(file, size);
     if (status == 0)
         tell_file("cut", (long long)size, file);
+    return status;
+}
+
+int flock(int file, int how)
+{
+    int status = next_flock(file, how);
+    if (status == 0)
+        tell_file("lock", how, file);
     return status;
 }
 
