@@ -135,7 +135,7 @@ behind_minus : (ds rest : List ℕ) → list_all is_ascii_digit ds ≡ true → 
 behind_minus ds rest all = ap (λ k. drop (k + 1) (ds ++ 45 ∷ rest)) (minus_place ds rest all) ∙ drop-append-add ds (45 ∷ rest) 1
 
 -- the last digits of a small number are the number
-part_text : (least k n : ℕ) → least ≤ k → n < 10 ^ k → part_of least k (last_digits k n) ≡ Some n
+pub part_text : (least k n : ℕ) → least ≤ k → n < 10 ^ k → part_of least k (last_digits k n) ≡ Some n
 part_text least k n low small =
     let long = length_last k n in
     let test : (nat_le least (length (last_digits k n)) && nat_le (length (last_digits k n)) k && list_all is_ascii_digit (last_digits k n)) ≡ true =

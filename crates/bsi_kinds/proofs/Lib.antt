@@ -1,9 +1,11 @@
+pub mod Clocks
 pub mod Comparing
 pub mod Cutting
 pub mod Days
 pub mod Entering
 pub mod Kinded
 pub mod Lowering
+pub mod Moments
 pub mod Places
 pub mod Scanning
 pub mod Scaling
@@ -11,4 +13,5 @@ pub mod Raising
 pub mod Rising
 pub mod RoundTrip
 pub mod Scans
+pub mod TimeTexts
 pub mod Writing

@@ -6,3 +6,4 @@ pub mod Dictionaries
 pub mod Kinds
 pub mod Predicates
 pub mod Texts
+pub mod Times

@@ -1,6 +1,6 @@
 //! Dates: from the bytes of a field to days since 1970-01-01, and back.
 
-ghost use Rattle.std.specs.Prelude.{◌≡◌, ◌++◌, ℤ, pos, ◌≤ℤ◌, Some, OnOk, option_and_then};
+ghost use Rattle.std.specs.Prelude.{◌≡◌, ◌++◌, ℤ, pos, ◌≤ℤ◌, Some, OnOk, IfSome, option_and_then};
 ghost use Rattle.jiff_core.specs.Calendar.{IsEpochDay};
 ghost use Rattle.jiff_core.specs.Date.{epoch_day};
 ghost use Rattle.jiff_core.specs.declared.civil.date.Date.{Date};
@@ -35,7 +35,8 @@ pub struct DateForm {
 /// Reads a date as its number of days since 1970-01-01. `None` stands for a text that is not written so, and for a day that
 /// the calendar has not. It allocates no memory.
 pub fn read_date(form: DateForm, text: &[u8]) -> Option<i64>
-    ensures { result ≡ date_number form text.now }
+    ensures value { result ≡ date_number form text.now }
+    ensures within { IfSome result IsEpochDay }
 {
     let (first, rest) = split_at_byte(form.sign, text);
     let (second, third) = split_at_byte(form.sign, rest);
@@ -48,7 +49,8 @@ pub fn read_date(form: DateForm, text: &[u8]) -> Option<i64>
 
 /// Reads a year, a month and a day.
 fn read_ymd(year: &[u8], month: &[u8], day: &[u8]) -> Option<i64>
-    ensures { result ≡ option_and_then day_number (ymd_of year.now month.now day.now) }
+    ensures value { result ≡ option_and_then day_number (ymd_of year.now month.now day.now) }
+    ensures within { IfSome result IsEpochDay }
 {
     let year = read_part(4, 4, year)?;
     let month = read_part(1, 2, month)?;
@@ -67,7 +69,7 @@ pub fn write_date(day: i64, line: &mut Vec<u8>) -> Result<(), NoMemory>
 }
 
 /// Appends a date, or a first part of it.
-fn write_parts(date: Date, line: &mut Vec<u8>) -> Result<(), NoMemory>
+pub(crate) fn write_parts(date: Date, line: &mut Vec<u8>) -> Result<(), NoMemory>
     ensures { OnOk result (line.new.items ≡ line.old.items ++ date_text date) }
 {
     if date.year < 0 {

@@ -149,7 +149,7 @@ fn scan_before_point(point: u8, before: u32, text: &[u8]) -> Option<Scanned>
 }
 
 /// Scans digits with at most one point among them, at so many places.
-fn scan_mantissa(point: u8, places: u32, text: &[u8]) -> Option<Scanned>
+pub(crate) fn scan_mantissa(point: u8, places: u32, text: &[u8]) -> Option<Scanned>
     ensures { result ≡ option_map (scanned places) (mantissa_of point text.now) }
 {
     let (whole, fraction) = split_at_byte(point, text);

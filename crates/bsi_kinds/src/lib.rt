@@ -1,5 +1,5 @@
-//! What the numbers of a column stand for, and how fields spell it: kinds. Decimals, days, booleans and texts keep their
-//! order as whole numbers, so an index answers questions about them.
+//! What the numbers of a column stand for, and how fields spell it: kinds. Decimals, days, times, booleans and texts keep
+//! their order as whole numbers, so an index answers questions about them.
 #![tactic(auto)]
 
 mod boolean;
@@ -10,6 +10,7 @@ mod decimal_text;
 mod dictionary;
 mod kind;
 mod predicate;
+mod time;
 
 pub use boolean::{BooleanForm, read_boolean, write_boolean};
 pub use bsi_orders::Op;
@@ -23,3 +24,6 @@ pub use dictionary::{Dictionary, MAX_TEXTS};
 pub use kind::Kind;
 pub use predicate::a_lowered_predicate_holds_of_the_same_rows;
 pub use std::alloc::AllocError as NoMemory;
+pub use time::{
+    TimeForm, TimeUnit, a_time_text_spells_its_number, compare_time, read_time, write_time,
+};

@@ -10,7 +10,7 @@ returns-in-Decimal-clause-some c =
 pub returns-in-Date-clause-some : goal.returns-in-Date-clause-some
 returns-in-Date-clause-some c =
     by_date c.args.op c.in-Date.form c.args.self.now c.args.point c.args.text.now c.compare_number.result c.in-Date.is
-    (c.compare_number.ensures ∙ ap (option_map (λ n. comparison c.args.op n)) c.read_date.ensures)
+    (c.compare_number.ensures ∙ ap (option_map (λ n. comparison c.args.op n)) c.read_date.ensures.value)
 
 pub returns-in-Boolean-clause-some : goal.returns-in-Boolean-clause-some
 returns-in-Boolean-clause-some c =

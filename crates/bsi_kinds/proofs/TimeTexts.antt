@@ -1,0 +1,223 @@
+-- A time that is written is read again.
+use Rattle.std.proofs.Common.{◌≡◌, ℕ, ◌+◌, ◌*◌, ◌^◌, ◌<◌, ◌≤◌, inl, inr, Bool, true, false, cond, not, ◌&&◌, ◌==◌, List, [], ◌∷◌, ◌++◌, length, take, drop, Option, Some, None, MatchOption, option_map, option_and_then, ℤ, pos, ◌+ℤ◌, ◌-ℤ◌, ◌*ℤ◌, ◌≤ℤ◌, int_lt, unsigned_abs, ◌∙◌, ap, ap₂, arith, sym, refl, subst, eq-eqb, lt-ltb, nat_lt, append_assoc, if◌then◌else◌}
+use Rattle.std.proofs.Math.ListN.{drop_of_length-le}
+use Rattle.std.proofs.Math.Nat.{mod-eq_of_lt}
+use Rattle.std.proofs.Math.Seq.{drop-append-add}
+use Rattle.std.proofs.lemmas.Bool.{and_from, and_parts, cases_eq, ne_eqb}
+use Rattle.std.proofs.lemmas.Bool.Decides.{nat_tests}
+use Rattle.std.proofs.lemmas.Int.{ints}
+use Rattle.std.proofs.lemmas.List.{take_all}
+use Rattle.std.proofs.lemmas.List.Folds.{list_all-append}
+use Rattle.std.specs.Char.{is_ascii_digit}
+use Rattle.std.specs.Int.{int_div_euclid, int_rem_euclid}
+use Rattle.std.specs.List.{after_first, before_first, list_all, position_or_len}
+use Rattle.std.specs.Str.Parse.{digits_value}
+use Rattle.jiff_core.proofs.SignedLemmas.{int_rem_euclid-parts, signed_arith}
+use Rattle.jiff_core.specs.Date.{epoch_day}
+use Rattle.jiff_core.specs.Time.{time_seconds}
+use Rattle.jiff_core.specs.declared.civil.date.Date.{Date}
+use Rattle.jiff_core.specs.declared.civil.time.Time.{Time}
+use Rattle.bsi_kinds.specs.Dates.{date_number, date_text}
+use Rattle.bsi_kinds.specs.Decimals.{StandsAt}
+use Rattle.bsi_kinds.specs.Texts.{last_digits, places_text}
+use Rattle.bsi_kinds.specs.Times.{clock_of, clock_text, from_first, is_clock_sign, is_zone_sign, minutes_of, moment_behind, moment_of, moment_on, moment_value, moved, offset_of, part_behind, places_of, seconds_behind, time_text, two_digits, Moment, SpellsTime, WritesTime}
+use Rattle.bsi_kinds.specs.declared.date.DateOrder.TheVariants.{YearFirst}
+use Rattle.bsi_kinds.specs.declared.time.TimeForm.{TimeForm}
+use Rattle.bsi_kinds.proofs.Days.{date_spells, part_text}
+use Rattle.bsi_kinds.proofs.Scans.{digit_range}
+use Rattle.bsi_kinds.proofs.Writing.{last_all, last_value, length_last}
+
+-- ---- a number is split
+
+divided : (n : ℤ) (k : ℕ) → 0 < k → (int_div_euclid n (pos k) *ℤ pos k +ℤ int_rem_euclid n (pos k)) ≡ n
+divided n k some = omega (arith, signed_arith, int_rem_euclid-parts n k some)
+
+pub number_split : (a : ℕ) → 0 < a → (n seconds day : ℤ) (clock part : ℕ) → seconds ≡ int_div_euclid n (pos a) → day ≡ int_div_euclid seconds (pos 86400)
+    → pos clock ≡ int_rem_euclid seconds (pos 86400) → pos part ≡ int_rem_euclid n (pos a) → ((day *ℤ pos 86400 +ℤ pos clock) *ℤ pos a +ℤ pos part) ≡ n
+number_split a some n seconds day clock part seconds_is day_is clock_is part_is =
+    ap (λ z. z *ℤ pos a +ℤ pos part) (ap₂ (λ d c. d *ℤ pos 86400 +ℤ c) day_is clock_is ∙ divided seconds 86400 (omega arith))
+    ∙ ap₂ (λ s p. s *ℤ pos a +ℤ p) seconds_is part_is ∙ divided n a some
+
+-- ---- a text is cut at the first byte of a kind
+
+module _ (is : ℕ → Bool) where
+  -- no byte of a text is of the kind
+  abbrev Lacks : List ℕ → Type 0
+  Lacks xs = list_all (λ byte. not (is byte)) xs ≡ true
+
+  place : (xs rest : List ℕ) (y : ℕ) → Lacks xs → is y ≡ true → position_or_len is (xs ++ y ∷ rest) ≡ length xs
+  place [] rest y all here = ap (λ b. cond (not b) (1 + position_or_len is rest) 0) here
+  place (x ∷ xs) rest y all here =
+      let parts = and_parts (not (is x)) (list_all (λ byte. not (is byte)) xs) all in
+      let more = place xs rest y parts.1 here in
+      ap (λ b. cond b (1 + position_or_len is (xs ++ y ∷ rest)) 0) parts.0 ∙ omega (arith, more)
+
+  nowhere : (xs : List ℕ) → Lacks xs → position_or_len is xs ≡ length xs
+  nowhere [] all = refl
+  nowhere (x ∷ xs) all =
+      let parts = and_parts (not (is x)) (list_all (λ byte. not (is byte)) xs) all in
+      let more = nowhere xs parts.1 in
+      ap (λ b. cond b (1 + position_or_len is xs) 0) parts.0 ∙ omega (arith, more)
+
+  take_front : (xs ys : List ℕ) → take (length xs) (xs ++ ys) ≡ xs
+  take_front [] ys = refl
+  take_front (x ∷ xs) ys = ap (λ l. x ∷ l) (take_front xs ys)
+
+  drop_front : (xs ys : List ℕ) → drop (length xs) (xs ++ ys) ≡ ys
+  drop_front [] ys = refl
+  drop_front (x ∷ xs) ys = drop_front xs ys
+
+  before_is : (xs rest : List ℕ) (y : ℕ) → Lacks xs → is y ≡ true → before_first is (xs ++ y ∷ rest) ≡ xs
+  before_is xs rest y all here = ap (λ k. take k (xs ++ y ∷ rest)) (place xs rest y all here) ∙ take_front xs (y ∷ rest)
+
+  from_is : (xs rest : List ℕ) (y : ℕ) → Lacks xs → is y ≡ true → from_first is (xs ++ y ∷ rest) ≡ y ∷ rest
+  from_is xs rest y all here = ap (λ k. drop k (xs ++ y ∷ rest)) (place xs rest y all here) ∙ drop_front xs (y ∷ rest)
+
+  after_is : (xs rest : List ℕ) (y : ℕ) → Lacks xs → is y ≡ true → after_first is (xs ++ y ∷ rest) ≡ rest
+  after_is xs rest y all here = ap (λ k. drop (k + 1) (xs ++ y ∷ rest)) (place xs rest y all here) ∙ drop-append-add xs (y ∷ rest) 1
+
+  before_none : (xs : List ℕ) → Lacks xs → before_first is xs ≡ xs
+  before_none xs all = ap (λ k. take k xs) (nowhere xs all) ∙ take_all (length xs) xs (omega arith)
+
+  from_none : (xs : List ℕ) → Lacks xs → from_first is xs ≡ []
+  from_none xs all = ap (λ k. drop k xs) (nowhere xs all) ∙ drop_of_length-le xs (omega arith)
+
+  -- digits are of no such kind
+  digits_lack : ((byte : ℕ) → is_ascii_digit byte ≡ true → not (is byte) ≡ true) → (ds : List ℕ) → list_all is_ascii_digit ds ≡ true → Lacks ds
+  digits_lack other [] all = refl
+  digits_lack other (d ∷ ds) all =
+      let parts = and_parts (is_ascii_digit d) (list_all is_ascii_digit ds) all in
+      and_from _ _ (other d parts.0) (digits_lack other ds parts.1)
+
+  both_lack : (xs ys : List ℕ) → Lacks xs → Lacks ys → Lacks (xs ++ ys)
+  both_lack xs ys one two = list_all-append (λ byte. not (is byte)) xs ys ∙ and_from _ _ one two
+
+no_colon : (byte : ℕ) → is_ascii_digit byte ≡ true → not (byte == 58) ≡ true
+no_colon byte digit = let range = digit_range byte digit in grind (arith, nat_tests)
+
+no_clock_sign : (byte : ℕ) → is_ascii_digit byte ≡ true → not (is_clock_sign byte) ≡ true
+no_clock_sign byte digit = let range = digit_range byte digit in grind (arith, nat_tests)
+
+no_zone_sign : (byte : ℕ) → is_ascii_digit byte ≡ true → not (is_zone_sign byte) ≡ true
+no_zone_sign byte digit = let range = digit_range byte digit in grind (arith, nat_tests)
+
+-- ---- what a clock spells
+
+two_spelled : (end n : ℕ) → n < end → end ≤ 100 → two_digits end (last_digits 2 n) ≡ Some n
+two_spelled end n low few =
+    ap (option_and_then (λ k. if nat_lt k end then Some k else None)) (part_text 2 2 n (omega arith) (omega arith))
+    ∙ ap (λ b. if b then Some n else None) (lt-ltb n end low)
+
+minutes_spelled : (h m : ℕ) → h < 24 → m < 60 → minutes_of (last_digits 2 h ++ 58 ∷ last_digits 2 m) ≡ Some (h * 60 + m)
+minutes_spelled h m hours minutes =
+    let digits : Lacks (λ byte. byte == 58) (last_digits 2 h) = digits_lack (λ byte. byte == 58) no_colon (last_digits 2 h) (last_all 2 h) in
+    ap₂ (λ a b. option_and_then (λ hs. option_map (λ ms. hs * 60 + ms) (two_digits 60 b)) (two_digits 24 a))
+    (before_is (λ byte. byte == 58) (last_digits 2 h) (last_digits 2 m) 58 digits refl) (after_is (λ byte. byte == 58) (last_digits 2 h) (last_digits 2 m) 58 digits refl)
+    ∙ ap₂ (λ a b. option_and_then (λ hs. option_map (λ ms. hs * 60 + ms) b) a) (two_spelled 24 h hours (omega arith)) (two_spelled 60 m minutes (omega arith))
+
+part_spelled : (p part : ℕ) → part < 10 ^ p → part_behind (places_text p part) ≡ Some (record { value = part; places = p })
+part_spelled p part low = elim (cases_eq p 0) [
+  | inl none ↦ (
+      let nothing : part ≡ 0 = omega (arith, low, ap (λ k. 10 ^ k) none) in
+      ap part_behind (ap (λ b. if b then [] else 46 ∷ last_digits p part) (eq-eqb p 0 none))
+      ∙ ap₂ (λ v k. Some (record { value = v; places = k })) (sym nothing) (sym none))
+  | inr some ↦ (
+      let long = length_last p part in
+      let test : (nat_lt 0 (length (last_digits p part)) && list_all is_ascii_digit (last_digits p part)) ≡ true =
+      and_from _ _ (lt-ltb 0 (length (last_digits p part)) (omega arith)) (last_all p part) in
+      ap part_behind (ap (λ b. if b then [] else 46 ∷ last_digits p part) (ne_eqb p 0 some))
+      ∙ ap (λ b. if b then Some (record { value = digits_value 10 (last_digits p part); places = length (last_digits p part) }) else None) test
+      ∙ ap₂ (λ v k. Some (record { value = v; places = k })) (last_value p part ∙ mod-eq_of_lt low) long)
+]
+
+clock_spelled : (t : Time) (p part : ℕ) → part < 10 ^ p
+    → clock_of (clock_text t ++ places_text p part)
+    ≡ Some (record { seconds = pos ((t.hour * 60 + t.minute) * 60 + t.second); part = record { value = part; places = p } })
+clock_spelled t p part low =
+    ap (option_and_then (λ minutes. seconds_behind minutes (58 ∷ (last_digits 2 t.second ++ places_text p part)))) (minutes_spelled t.hour t.minute t.hour_in t.minute_in)
+    ∙ ap₂ (λ s f. option_and_then (λ seconds. option_map (λ d. record { seconds = pos ((t.hour * 60 + t.minute) * 60 + seconds); part = d }) f) s)
+    (two_spelled 60 t.second t.second_in (omega arith)) (part_spelled p part low)
+
+-- ---- and a zone
+
+places_lack : (p part : ℕ) → Lacks is_zone_sign (places_text p part)
+places_lack p part = elim (cases_eq p 0) [
+  | inl none ↦ ap (λ b. list_all (λ byte. not (is_zone_sign byte)) (if b then [] else 46 ∷ last_digits p part)) (eq-eqb p 0 none)
+  | inr some ↦ ap (λ b. list_all (λ byte. not (is_zone_sign byte)) (if b then [] else 46 ∷ last_digits p part)) (ne_eqb p 0 some)
+      ∙ digits_lack is_zone_sign no_zone_sign (last_digits p part) (last_all p part)
+]
+
+clock_lacks : (t : Time) (p part : ℕ) → Lacks is_zone_sign (clock_text t ++ places_text p part)
+clock_lacks t p part =
+    both_lack is_zone_sign (clock_text t) (places_text p part)
+    (both_lack is_zone_sign (last_digits 2 t.hour) (58 ∷ (last_digits 2 t.minute ++ 58 ∷ last_digits 2 t.second)) (digits_lack is_zone_sign no_zone_sign (last_digits 2 t.hour) (last_all 2 t.hour))
+    (both_lack is_zone_sign (last_digits 2 t.minute) (58 ∷ last_digits 2 t.second) (digits_lack is_zone_sign no_zone_sign (last_digits 2 t.minute) (last_all 2 t.minute))
+    (digits_lack is_zone_sign no_zone_sign (last_digits 2 t.second) (last_all 2 t.second))))
+    (places_lack p part)
+
+append_none : (xs : List ℕ) → xs ++ [] ≡ xs
+append_none [] = refl
+append_none (x ∷ xs) = ap (λ l. x ∷ l) (append_none xs)
+
+abbrev zone_text : Bool → List ℕ
+zone_text utc = if utc then 90 ∷ [] else []
+
+-- a clock and a zone are told apart
+cut_zone : (utc : Bool) (xs : List ℕ) → Lacks is_zone_sign xs
+    → (before_first is_zone_sign (xs ++ zone_text utc) ≡ xs) × (from_first is_zone_sign (xs ++ zone_text utc) ≡ zone_text utc)
+cut_zone true xs all = (before_is is_zone_sign xs [] 90 all refl, from_is is_zone_sign xs [] 90 all refl)
+cut_zone false xs all =
+    (ap (before_first is_zone_sign) (append_none xs) ∙ before_none is_zone_sign xs all, ap (from_first is_zone_sign) (append_none xs) ∙ from_none is_zone_sign xs all)
+
+no_offset : (utc : Bool) → offset_of utc (zone_text utc) ≡ Some (pos 0)
+no_offset true = refl
+no_offset false = refl
+
+abbrev moment_written : ℤ → Time → ℕ → ℕ → Moment
+moment_written day t p part =
+    record { seconds = pos ((t.hour * 60 + t.minute) * 60 + t.second) +ℤ (day *ℤ pos 86400 -ℤ pos 0); part = record { value = part; places = p } }
+
+moment_on_spelled : (utc : Bool) (day : ℤ) (t : Time) (p part : ℕ) → part < 10 ^ p
+    → moment_on utc day (clock_text t ++ (places_text p part ++ zone_text utc)) ≡ Some (moment_written day t p part)
+moment_on_spelled utc day t p part low =
+    let cut = cut_zone utc (clock_text t ++ places_text p part) (clock_lacks t p part) in
+    ap (moment_on utc day) (sym (append_assoc (clock_text t) (places_text p part) (zone_text utc)))
+    ∙ ap₂ (λ zone clock. option_and_then (λ offset. option_map (moved (day *ℤ pos 86400 -ℤ offset)) (clock_of clock)) (offset_of utc zone)) cut.1 cut.0
+    ∙ ap₂ (λ zone clock. option_and_then (λ offset. option_map (moved (day *ℤ pos 86400 -ℤ offset)) clock) zone) (no_offset utc) (clock_spelled t p part low)
+
+-- ---- and the date before it
+
+sign_lacks : (negative : Bool) → Lacks is_clock_sign (if negative then 45 ∷ [] else [])
+sign_lacks true = refl
+sign_lacks false = refl
+
+date_lacks : (d : Date) → Lacks is_clock_sign (date_text d)
+date_lacks d =
+    both_lack is_clock_sign (if int_lt d.year (pos 0) then 45 ∷ [] else []) (last_digits 4 (unsigned_abs d.year) ++ 45 ∷ (last_digits 2 d.month ++ 45 ∷ last_digits 2 d.day))
+    (sign_lacks (int_lt d.year (pos 0)))
+    (both_lack is_clock_sign (last_digits 4 (unsigned_abs d.year)) (45 ∷ (last_digits 2 d.month ++ 45 ∷ last_digits 2 d.day))
+    (digits_lack is_clock_sign no_clock_sign (last_digits 4 (unsigned_abs d.year)) (last_all 4 (unsigned_abs d.year)))
+    (both_lack is_clock_sign (last_digits 2 d.month) (45 ∷ last_digits 2 d.day) (digits_lack is_clock_sign no_clock_sign (last_digits 2 d.month) (last_all 2 d.month))
+    (digits_lack is_clock_sign no_clock_sign (last_digits 2 d.day) (last_all 2 d.day))))
+
+moment_spelled : (form : TimeForm) (d : Date) (t : Time) (part : ℕ) → form.date ≡ record { order = YearFirst; sign = 45 } → pos 0 ≤ℤ d.year
+    → part < 10 ^ places_of form.unit
+    → moment_of form (time_text form d t part) ≡ Some (moment_written (epoch_day d) t (places_of form.unit) part)
+moment_spelled form d t part is low small =
+    ap₂ (λ date behind. option_and_then (λ day. moment_behind form.utc day behind) (date_number form.date date))
+    (before_is is_clock_sign (date_text d) (clock_text t ++ (places_text (places_of form.unit) part ++ zone_text form.utc)) 84 (date_lacks d) refl)
+    (from_is is_clock_sign (date_text d) (clock_text t ++ (places_text (places_of form.unit) part ++ zone_text form.utc)) 84 (date_lacks d) refl)
+    ∙ ap (option_and_then (λ day. moment_on form.utc day (clock_text t ++ (places_text (places_of form.unit) part ++ zone_text form.utc))))
+    (ap (λ f. date_number f (date_text d)) is ∙ date_spells d low)
+    ∙ moment_on_spelled form.utc (epoch_day d) t (places_of form.unit) part small
+
+-- a text that was written spells its number
+pub time_spells : (form : TimeForm) (n : ℤ) (text : List ℕ) → form.date ≡ record { order = YearFirst; sign = 45 }
+    → (written : WritesTime form n [] text) → pos 0 ≤ℤ written.date.year → SpellsTime form text n
+time_spells form n text is written low =
+    let found = ap (moment_of form) written.written ∙ moment_spelled form written.date written.time written.part is low written.small in
+    let seconds : (epoch_day written.date *ℤ pos 86400 +ℤ pos (time_seconds written.time))
+    ≡ pos ((written.time.hour * 60 + written.time.minute) * 60 + written.time.second) +ℤ (epoch_day written.date *ℤ pos 86400 -ℤ pos 0) =
+    omega (arith, ints) in
+    subst (λ (m : Option Moment). MatchOption (option_map moment_value m) ⊥ (StandsAt (places_of form.unit) n)) (sym found)
+    (ap (λ z. z *ℤ pos (10 ^ places_of form.unit)) (sym written.is ∙ ap (λ s. s *ℤ pos (10 ^ places_of form.unit) +ℤ pos written.part) seconds))
