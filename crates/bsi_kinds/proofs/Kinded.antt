@@ -13,8 +13,11 @@ use Rattle.bsi_kinds.specs.declared.boolean.BooleanForm.{BooleanForm}
 use Rattle.bsi_kinds.specs.declared.comparison.Comparison.{Comparison}
 use Rattle.bsi_kinds.specs.declared.date.DateForm.{DateForm}
 use Rattle.bsi_kinds.specs.declared.kind.Kind.{Kind}
-use Rattle.bsi_kinds.specs.declared.kind.Kind.TheVariants.{Boolean, Date, Decimal}
+use Rattle.bsi_kinds.specs.declared.kind.Kind.TheVariants.{Boolean, Date, Decimal, Time}
+use Rattle.bsi_kinds.specs.Times.{places_of, time_of}
+use Rattle.bsi_kinds.specs.declared.time.TimeForm.{TimeForm}
 use Rattle.bsi_kinds.proofs.Cutting.{some_same}
+use Rattle.bsi_kinds.proofs.Moments.{number_fits}
 
 -- days compare as their numbers
 by_found : (op : Op) (form : DateForm) (found : Option ℤ)
@@ -80,3 +83,18 @@ by_decimal op places kind point text None is given = tt
 by_decimal op places kind point text (Some c) is given =
     subst (λ (k : Kind). MatchOption (value_of k point text) ⊥ (λ v. ComparesValues k op v c)) (sym is)
     (by_fraction op places (decimal_of point text) c given)
+
+-- and so does a time
+by_moment : (op : Op) (form : TimeForm) (found : Option Fraction) (c : Comparison)
+    → MatchOption found ⊥ (λ d. ComparesAs decimal_order (decimal_at (places_of form.unit)) op d c)
+    → MatchOption (option_map fraction found) ⊥ (λ v. ComparesValues (Time form) op v c)
+by_moment op form None c holds = holds
+by_moment op form (Some d) c holds = λ n within. holds n (number_fits form.unit n within)
+
+pub by_time : (op : Op) (form : TimeForm) (kind : Kind) (point : ℕ) (text : List ℕ) (found : Option Comparison) → kind ≡ Time form
+    → IfSome found (λ c. MatchOption (time_of form text) ⊥ (λ d. ComparesAs decimal_order (decimal_at (places_of form.unit)) op d c))
+    → IfSome found (λ c. MatchOption (value_of kind point text) ⊥ (λ v. ComparesValues kind op v c))
+by_time op form kind point text None is given = tt
+by_time op form kind point text (Some c) is given =
+    subst (λ (k : Kind). MatchOption (value_of k point text) ⊥ (λ v. ComparesValues k op v c)) (sym is)
+    (by_moment op form (time_of form text) c given)

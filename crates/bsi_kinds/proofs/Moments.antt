@@ -5,17 +5,19 @@ use Rattle.std.proofs.Math.Nat.{mul_assoc, mul_comm, pow-le-pow_right}
 use Rattle.std.proofs.lemmas.Bool.{cases_eq, eqb-false, eqb-true, ne_eqb}
 use Rattle.std.proofs.lemmas.Int.{by_lt_z, ints}
 use Rattle.std.proofs.lemmas.Nat.{div-add-mod', mod_below}
+use Rattle.std.specs.Int.{int_div_euclid}
+use Rattle.jiff_core.proofs.SignedLemmas.{signed_arith}
 use Rattle.bsi_orders.specs.Orders.{compares_by}
 use Rattle.bsi_orders.specs.WholeNumbers.{signed_order}
 use Rattle.bsi_orders.specs.declared.op.Op.{Op}
 use Rattle.bsi_kinds.specs.Comparisons.{brought_down, past_numbers, ComparesAs}
 use Rattle.bsi_kinds.specs.Decimals.{decimal_at, decimal_order, is_whole, most_scanned, units_of, StandsAt}
-use Rattle.bsi_kinds.specs.Times.{first_at, moment_value, places_of, scanned_time, units_at, Moment}
+use Rattle.bsi_kinds.specs.Times.{day_of, first_at, moment_value, places_of, scanned_time, units_at, IsTimeNumber, Moment}
 use Rattle.bsi_kinds.specs.declared.comparison.Comparison.{Comparison}
 use Rattle.bsi_kinds.specs.declared.time.ScannedTime.{ScannedTime}
 use Rattle.bsi_kinds.specs.declared.time.TimeUnit.{TimeUnit}
 use Rattle.bsi_kinds.specs.declared.time.TimeUnit.TheVariants.{Seconds, Milliseconds, Microseconds}
-use Rattle.bsi_kinds.proofs.Comparing.{at_least, exact_agrees, inexact_agrees, less_than, times_add, AgreesAt}
+use Rattle.bsi_kinds.proofs.Comparing.{at_least, exact_agrees, inexact_agrees, less_than, more_than, times_add, AgreesAt}
 use Rattle.bsi_kinds.proofs.Cutting.{by_units, neg_times}
 use Rattle.bsi_kinds.proofs.Scaling.{ten_some}
 
@@ -24,6 +26,19 @@ pub few_places : (unit : TimeUnit) → places_of unit ≤ 6
 few_places Seconds = omega arith
 few_places Milliseconds = omega arith
 few_places Microseconds = omega arith
+
+-- the day of units is that of the second that they follow
+pub same_day : (unit : TimeUnit) (s : ℤ) (u : ℕ) → u < 10 ^ places_of unit
+    → day_of unit (s *ℤ pos (10 ^ places_of unit) +ℤ pos u) ≡ int_div_euclid s (pos 86400)
+same_day Seconds s u low = omega (arith, signed_arith)
+same_day Milliseconds s u low = omega (arith, signed_arith)
+same_day Microseconds s u low = omega (arith, signed_arith)
+
+-- 64 bits hold the numbers of the calendar
+pub number_fits : (unit : TimeUnit) (n : ℤ) → IsTimeNumber unit n → FitsSigned w64 n
+number_fits Seconds n within = omega (arith, signed_arith)
+number_fits Milliseconds n within = omega (arith, signed_arith)
+number_fits Microseconds n within = omega (arith, signed_arith)
 
 -- products with two numbers, one after the other
 times_twice : (s : ℤ) (b a : ℕ) → (s *ℤ pos b) *ℤ pos a ≡ s *ℤ pos (b * a)
@@ -65,6 +80,12 @@ module _ (s : ℤ) (f a b u r : ℕ) (split : u * b + r ≡ f * a) (close : r < 
   none_stands some n same =
       by_lt_z n (begun +ℤ pos 1) (λ less. let low = less_than n (begun +ℤ pos 1) value b (b - r) next_is (omega arith) less in omega (arith, ints, low, same))
       (λ more. let high = at_least n (begun +ℤ pos 1) value b (b - r) next_is (omega arith) more in omega (arith, ints, high, same))
+
+  pub only : r ≡ 0 → (n : ℤ) → n *ℤ pos b ≡ value → n ≡ begun
+  only none n same =
+      by_lt_z n begun (λ less. let low = less_than n begun value b 0 (none_left none) (omega arith) less in absurd (omega (arith, ints, low, same)))
+      (λ upper. by_lt_z begun n (λ more. let high = more_than n begun value b 0 (none_left none) (omega arith) more in absurd (omega (arith, ints, high, same)))
+      (λ lower. omega (arith, ints)))
 
   -- the comparison with it is the one that is brought down
   pub agrees : (op : Op) (n : ℤ) → FitsSigned w64 n → AgreesAt op (r == 0) (n *ℤ pos b) value n (if r == 0 then begun else begun +ℤ pos 1)
@@ -126,6 +147,17 @@ module _ (p : ℕ) (few : p ≤ 6) where
       ap (λ z. z *ℤ pos (10 ^ m.part.places)) (is ∙ units_at_is p m t same low few)
       ∙ stands m.seconds m.part.value (10 ^ p) (10 ^ m.part.places) (units_of p m.part) (m.part.value * 10 ^ p % 10 ^ m.part.places) (split_of m) (close_of m)
       (eqb-true (m.part.value * 10 ^ p % 10 ^ m.part.places) 0 exact)
+
+  pub spelled_only : (found : Option Moment) (t : ScannedTime) (n : ℤ) → Some t ≡ option_map (scanned_time p) found → t.part.units < 10 ^ p
+      → t.part.exact ≡ true → MatchOption (option_map moment_value found) ⊥ (StandsAt p n) → n ≡ units_at p t
+  spelled_only None t n some low whole = λ none. absurd none
+  spelled_only (Some m) t n some low whole =
+      λ standing.
+      let same : t ≡ scanned_time p m = (cc) in
+      let exact : is_whole p m.part ≡ true = sym (ap (λ q. q.part.exact) same) ∙ whole in
+      only m.seconds m.part.value (10 ^ p) (10 ^ m.part.places) (units_of p m.part) (m.part.value * 10 ^ p % 10 ^ m.part.places) (split_of m) (close_of m)
+      (eqb-true (m.part.value * 10 ^ p % 10 ^ m.part.places) 0 exact) n standing
+      ∙ sym (units_at_is p m t same low few)
 
   -- and no number does, if something is
   pub nothing_spelled : (found : Option Moment) (t : ScannedTime) (n : ℤ) → Some t ≡ option_map (scanned_time p) found

@@ -10,11 +10,12 @@ use Rattle.bsi_kinds.specs.Dates.{date_number, WritesDate}
 use Rattle.bsi_kinds.specs.Decimals.{decimal_at, decimal_entry, decimal_of, decimal_order, Decimal as Fraction, Field}
 use Rattle.bsi_kinds.specs.Dictionaries.{text_at, text_order}
 use Rattle.bsi_kinds.specs.Texts.{decimal_text}
+use Rattle.bsi_kinds.specs.Times.{places_of, time_of, IsTimeNumber, SpellsTime, WritesTime}
 use Rattle.bsi_kinds.specs.declared.comparison.Comparison.{Comparison}
 use Rattle.bsi_kinds.specs.declared.kind.Kind.{Kind}
-use Rattle.bsi_kinds.specs.declared.kind.Kind.TheVariants.{Boolean, Decimal, Date, Text}
+use Rattle.bsi_kinds.specs.declared.kind.Kind.TheVariants.{Boolean, Decimal, Date, Text, Time}
 
--- a value: a truth value, a fraction, a day or a text
+-- a value: a truth value, a fraction, which a time is one of seconds, a day or a text
 pub data Value : Type 0 where
   truth : Bool → Value
   fraction : Fraction → Value
@@ -25,6 +26,7 @@ pub data Value : Type 0 where
 abbrev pub IsKind : Kind → Type 0
 IsKind (Decimal places) = places ≤ 18
 IsKind (Date form) = Unit {0}
+IsKind (Time form) = Unit {0}
 IsKind (Boolean form) = form.yes.items ≢ form.no.items
 IsKind (Text texts) = Unit {0}
 
@@ -32,6 +34,7 @@ IsKind (Text texts) = Unit {0}
 abbrev pub value_at : Kind → ℤ → Value
 value_at (Decimal places) n = fraction (decimal_at places n)
 value_at (Date form) n = day n
+value_at (Time form) n = fraction (decimal_at (places_of form.unit) n)
 value_at (Boolean form) n = truth (is_true n)
 value_at (Text texts) n = text (text_at texts (unsigned_abs n))
 
@@ -39,6 +42,7 @@ value_at (Text texts) n = text (text_at texts (unsigned_abs n))
 abbrev pub IsNumber : Kind → ℤ → Type 0
 IsNumber (Decimal places) n = FitsSigned w64 n
 IsNumber (Date form) n = IsEpochDay n
+IsNumber (Time form) n = IsTimeNumber form.unit n
 IsNumber (Boolean form) n = (n ≡ pos 0) ⊎ (n ≡ pos 1)
 IsNumber (Text texts) (pos n) = n < length texts
 IsNumber (Text texts) (negsuc n) = ⊥
@@ -47,6 +51,7 @@ IsNumber (Text texts) (negsuc n) = ⊥
 abbrev pub value_of : Kind → ℕ → Field → Option Value
 value_of (Decimal places) point word = option_map fraction (decimal_of point word)
 value_of (Date form) point word = option_map day (date_number form word)
+value_of (Time form) point word = option_map fraction (time_of form word)
 value_of (Boolean form) point word = option_map (λ n. truth (is_true n)) (boolean_number form word)
 value_of (Text texts) point word = Some (text word)
 
@@ -66,6 +71,7 @@ compares op a b = false
 abbrev pub IsSpelled : Kind → ℕ → Field → ℤ → Type 0
 IsSpelled (Decimal places) point word n = decimal_entry point places word ≡ Some n
 IsSpelled (Date form) point word n = date_number form word ≡ Some n
+IsSpelled (Time form) point word n = IsTimeNumber form.unit n × SpellsTime form word n
 IsSpelled (Boolean form) point word n = boolean_number form word ≡ Some n
 IsSpelled (Text texts) point word (pos n) = (n < length texts) × (text_at texts n ≡ word)
 IsSpelled (Text texts) point word (negsuc n) = ⊥
@@ -79,5 +85,6 @@ ComparesValues kind op constant c =
 abbrev pub Writes : Kind → ℤ → Field → Field → Type 0
 Writes (Decimal places) n old new = new ≡ old ++ decimal_text places n
 Writes (Date form) n old new = WritesDate n old new
+Writes (Time form) n old new = WritesTime form n old new
 Writes (Boolean form) n old new = new ≡ old ++ boolean_text form n
 Writes (Text texts) n old new = new ≡ old ++ text_at texts (unsigned_abs n)

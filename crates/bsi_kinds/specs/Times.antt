@@ -3,7 +3,7 @@ use Rattle.std.specs.Prelude.{◌≡◌, ℕ, ◌+◌, ◌*◌, ◌<◌, ◌^◌
 use Rattle.std.specs.Int.{int_div_euclid}
 use Rattle.std.specs.List.{after_first, before_first, position_or_len}
 use Rattle.std.specs.Str.{bytes_eq}
-use Rattle.jiff_core.specs.Calendar.{IsWithin}
+use Rattle.jiff_core.specs.Calendar.{IsEpochDay, IsWithin}
 use Rattle.jiff_core.specs.Date.{epoch_day}
 use Rattle.jiff_core.specs.Time.{time_seconds}
 use Rattle.jiff_core.specs.declared.civil.date.Date.{Date}
@@ -139,6 +139,10 @@ most_seconds = 400_000_000_000
 -- the day of a number
 abbrev pub day_of : TimeUnit → ℤ → ℤ
 day_of unit n = int_div_euclid n (pos (86400 * 10 ^ places_of unit))
+
+-- the calendar has that day
+abbrev pub IsTimeNumber : TimeUnit → ℤ → Type 0
+IsTimeNumber unit n = IsEpochDay (day_of unit n)
 
 -- the number of a clock on a day, and so many units behind it
 abbrev pub number_at : TimeUnit → Date → Time → ℕ → ℤ

@@ -11,6 +11,7 @@ use crate::date::{DateForm, read_date, write_date};
 use crate::decimal::{compare_decimal, read_decimal};
 use crate::decimal_text::write_decimal;
 use crate::dictionary::Dictionary;
+use crate::time::{TimeForm, compare_time, read_time, write_time};
 use bsi_orders::Op;
 
 /// What the numbers of a column stand for. Whole numbers are decimals of no places.
@@ -20,6 +21,9 @@ pub enum Kind {
     Decimal(u32),
     /// Dates, which fields write so. Answers have them as 2026-01-31.
     Date(DateForm),
+    /// Times, which fields write so. Answers have them as 2026-01-31T10:30:00, with as many digits behind a point as the
+    /// unit has places, and Z if they are of UTC.
+    Time(TimeForm),
     /// Booleans, written so.
     Boolean(BooleanForm),
     /// These texts.
@@ -31,11 +35,13 @@ impl Kind {
     pub fn read(&self, point: u8, text: &[u8]) -> Option<i64>
         requires { IsKind self.now }
         ensures some { IfSome result (IsSpelled self.now point text.now) }
+        ensures number { IfSome result (IsNumber self.now) }
         ensures none { IfNone result ((n : ℤ) → IsSpelled self.now point text.now n → ⊥) }
     {
         match self {
             Kind::Decimal(places) => read_decimal(point, *places, text),
             Kind::Date(form) => read_date(*form, text),
+            Kind::Time(form) => read_time(*form, text),
             Kind::Boolean(form) => read_boolean(form, text),
             Kind::Text(texts) => Some(i64::from(texts.find(text)?)),
         }
@@ -52,6 +58,7 @@ impl Kind {
         match self {
             Kind::Decimal(places) => compare_decimal(op, point, *places, text),
             Kind::Date(form) => compare_number(op, read_date(*form, text)),
+            Kind::Time(form) => compare_time(op, *form, text),
             Kind::Boolean(form) => compare_number(op, read_boolean(form, text)),
             Kind::Text(texts) => Some(texts.compare_text(op, text)),
         }
@@ -66,6 +73,7 @@ impl Kind {
         match self {
             Kind::Decimal(places) => write_decimal(*places, i128::from(number), line),
             Kind::Date(_) => write_date(number, line),
+            Kind::Time(form) => write_time(*form, number, line),
             Kind::Boolean(form) => write_boolean(form, number, line),
             Kind::Text(texts) => line.extend_from_slice(texts.text(number as usize)),
         }

@@ -1,13 +1,14 @@
 //! Times: from the bytes of a field to units since 1970-01-01T00:00:00, and back.
 
-ghost use Rattle.std.specs.Prelude.{◌≡◌, ℕ, ℤ, pos, neg_ℤ, ◌<ℤ◌, ◌≤ℤ◌, ◌*ℤ◌, ◌<◌, ◌≤◌, ◌^◌, ◌++◌, [], List, None, OnOk, option_map, MatchOption, IfNone, IfSome};
+ghost use Rattle.std.specs.Prelude.{◌≡◌, ℕ, ℤ, pos, neg_ℤ, ◌<ℤ◌, ◌≤ℤ◌, ◌*ℤ◌, ◌<◌, ◌≤◌, ◌^◌, ◌++◌, [], List, None, OnOk, option_map, MatchOption, IfNone, IfSome, IsTrue, ◌↔◌};
+ghost use Rattle.std.specs.Int.{int_div_euclid};
 ghost use Rattle.std.specs.List.{before_first, position};
 ghost use Rattle.jiff_core.specs.Calendar.{IsEpochDay, IsWithin};
 ghost use Rattle.jiff_core.specs.declared.civil.date.Date.{Date};
 ghost use Rattle.bsi_kinds.specs.Comparisons.{ComparesAs};
 ghost use Rattle.bsi_kinds.specs.Decimals.{decimal_at, decimal_order, scanned};
 ghost use Rattle.bsi_kinds.specs.declared.date.DateOrder.TheVariants.{YearFirst};
-ghost use Rattle.bsi_kinds.specs.Times.{clock_of, clock_text, day_of, first_at, from_first, is_clock_sign, is_zone_sign, minutes_of, moment_of, moment_on, offset_of, part_behind, places_of, scanned_time, seconds_behind, most_seconds, number_at, time_of, time_text, two_digits, units_at, whole_moment, zone_of, IsWithinSeconds, SpellsTime, WritesTime};
+ghost use Rattle.bsi_kinds.specs.Times.{clock_of, clock_text, first_at, from_first, is_clock_sign, is_zone_sign, minutes_of, moment_of, moment_on, offset_of, part_behind, places_of, scanned_time, seconds_behind, most_seconds, number_at, time_of, time_text, two_digits, units_at, whole_moment, zone_of, IsTimeNumber, IsWithinSeconds, SpellsTime, WritesTime};
 
 use crate::NoMemory;
 use crate::comparison::{Comparison, bring_down};
@@ -32,7 +33,6 @@ pub enum TimeUnit {
 }
 
 impl TimeUnit {
-    ghost use Rattle.bsi_kinds.specs.declared.date.DateOrder.TheVariants.{YearFirst};
     ghost use Rattle.bsi_kinds.specs.Times.{places_of};
 
     /// Returns how many places of a second a unit has.
@@ -82,13 +82,15 @@ pub(crate) struct ScannedTime {
 }
 
 /// Reads a time as the number of units that stands for it. `None` stands for a text that is not written so, for a day
-/// that the calendar has not, and for a time between two units. It allocates no memory.
+/// that the calendar has not, also if it is one in UTC alone, and for a time between two units. It allocates no memory.
 pub fn read_time(form: TimeForm, text: &[u8]) -> Option<i64>
     ensures some { IfSome result (SpellsTime form text.now) }
-    ensures none { IfNone result ((n : ℤ) → SpellsTime form text.now n → ⊥) }
+    ensures within { IfSome result (IsTimeNumber form.unit) }
+    ensures none { IfNone result ((n : ℤ) → IsTimeNumber form.unit n →
+        SpellsTime form text.now n → ⊥) }
 {
     let time = scan_time(form, text)?;
-    if time.part.exact {
+    if time.part.exact && has_date(time.seconds) {
         Some(count_units(form.unit, time))
     } else {
         None
@@ -109,7 +111,7 @@ pub fn compare_time(op: Op, form: TimeForm, text: &[u8]) -> Option<Comparison>
 
 /// Appends the text of the time that a number stands for, with the year first, or a first part of it.
 pub fn write_time(form: TimeForm, number: i64, line: &mut Vec<u8>) -> Result<(), NoMemory>
-    requires { IsEpochDay (day_of form.unit number) }
+    requires { IsTimeNumber form.unit number }
     ensures { OnOk result (WritesTime form number line.old.items line.new.items) }
 {
     let (date, time, part) = split_number(form.unit, number);
@@ -118,7 +120,7 @@ pub fn write_time(form: TimeForm, number: i64, line: &mut Vec<u8>) -> Result<(),
 
 /// Splits a number into a date, a clock, and the units behind its whole seconds.
 fn split_number(unit: TimeUnit, number: i64) -> (Date, Time, u64)
-    requires { IsEpochDay (day_of unit number) }
+    requires { IsTimeNumber unit number }
     ensures number { number_at unit result.0 result.1 result.2 ≡ number }
     ensures small { result.2 < 10 ^ places_of unit }
 {
@@ -166,6 +168,13 @@ pub fn a_time_text_spells_its_number()
     ensures { (form : TimeForm) → (n : ℤ) → (text : List ℕ) → form.date ≡ record { order = YearFirst; sign = 45 } →
         (written : WritesTime form n [] text) → pos 0 ≤ℤ written.date.year → SpellsTime form text n }
 {}
+
+/// Returns whether the calendar has the day of a second, from the year -9999 to 9999.
+fn has_date(seconds: i64) -> bool
+    ensures { IsTrue result ↔ IsEpochDay (int_div_euclid seconds (pos 86400)) }
+{
+    Date::from_unix_epoch_day(seconds.div_euclid(DAY)).is_ok()
+}
 
 /// Returns how many units have begun at a time.
 fn count_units(unit: TimeUnit, time: ScannedTime) -> i64

@@ -1,6 +1,6 @@
 use Rattle.std.proofs.Common.{option_map, ap, ◌∙◌}
 use Rattle.bsi_kinds.specs.Comparisons.{comparison}
-use Rattle.bsi_kinds.proofs.Kinded.{by_boolean, by_date, by_decimal}
+use Rattle.bsi_kinds.proofs.Kinded.{by_boolean, by_date, by_decimal, by_time}
 use Rattle.bsi_kinds.proofs.kind.Kind.compare.Goals as goal
 
 pub returns-in-Decimal-clause-some : goal.returns-in-Decimal-clause-some
@@ -16,3 +16,7 @@ pub returns-in-Boolean-clause-some : goal.returns-in-Boolean-clause-some
 returns-in-Boolean-clause-some c =
     by_boolean c.args.op c.in-Boolean.form c.args.self.now c.args.point c.args.text.now c.compare_number-in-Boolean.result c.in-Boolean.is
     (c.compare_number-in-Boolean.ensures ∙ ap (option_map (λ n. comparison c.args.op n)) c.read_boolean.ensures)
+
+pub returns-in-Time-clause-some : goal.returns-in-Time-clause-some
+returns-in-Time-clause-some c =
+    by_time c.args.op c.in-Time.form c.args.self.now c.args.point c.args.text.now c.compare_time.result c.in-Time.is c.compare_time.ensures.some
