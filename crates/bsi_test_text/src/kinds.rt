@@ -1,8 +1,8 @@
 //! Worked texts of each kind. A refused allocation is tried again.
 
 use bsi_kinds::{
-    BooleanForm, DateForm, DateOrder, Dictionary, Kind, NoMemory, Op, compare_decimal, read_date,
-    read_decimal,
+    BooleanForm, DateForm, DateOrder, Dictionary, Kind, NoMemory, Op, TimeForm, TimeUnit,
+    compare_decimal, compare_time, read_date, read_decimal, read_time, write_time,
 };
 use std::alloc::Global;
 
@@ -78,6 +78,159 @@ const DATES: [(DateForm, &str, Option<i64>); 11] = [
 fn dates_are_read(rt: HostRuntime) {
     for (form, text, want) in DATES {
         assert!(rt; read_date(form, text.as_bytes()) == want, "{text}");
+    }
+}
+
+const LOCAL_SECONDS: TimeForm = TimeForm {
+    date: ISO,
+    unit: TimeUnit::Seconds,
+    utc: false,
+};
+
+const LOCAL_MILLISECONDS: TimeForm = TimeForm {
+    date: DOTTED,
+    unit: TimeUnit::Milliseconds,
+    utc: false,
+};
+
+const UTC_MICROSECONDS: TimeForm = TimeForm {
+    date: ISO,
+    unit: TimeUnit::Microseconds,
+    utc: true,
+};
+
+/// Texts, and the times that they spell.
+const TIMES: [(TimeForm, &str, Option<i64>); 30] = [
+    (LOCAL_SECONDS, "1970-01-01T00:00:00", Some(0)),
+    (LOCAL_SECONDS, "1969-12-31 23:59:59", Some(-1)),
+    (LOCAL_SECONDS, "2026-01-31T10:30:00", Some(1_769_855_400)),
+    (LOCAL_SECONDS, "2026-01-31T10:30", Some(1_769_855_400)),
+    (LOCAL_SECONDS, "2026-01-31", Some(1_769_817_600)),
+    (LOCAL_SECONDS, "2026-01-31T", None),
+    (LOCAL_SECONDS, "2026-02-30T10:30", None),
+    (LOCAL_SECONDS, "2026-01-31T24:00", None),
+    (LOCAL_SECONDS, "2026-01-31T10:60", None),
+    (LOCAL_SECONDS, "2026-01-31T10:30:60", None),
+    (LOCAL_SECONDS, "2026-01-31T1:30", None),
+    (LOCAL_SECONDS, "2026-01-31T10:30:", None),
+    (LOCAL_SECONDS, "2026-01-31T10:30:00.", None),
+    (LOCAL_SECONDS, "2026-01-31T10:30.5", None),
+    (LOCAL_SECONDS, "2026-01-31T10:30:00.5", None),
+    (
+        LOCAL_SECONDS,
+        "2026-01-31T10:30:00.000",
+        Some(1_769_855_400),
+    ),
+    (LOCAL_SECONDS, "2026-01-31T10:30:00Z", None),
+    (LOCAL_MILLISECONDS, "31.12.1969 23:59:59.999", Some(-1)),
+    (
+        LOCAL_MILLISECONDS,
+        "01.01.1970 00:00:00.1250000000000000000000000",
+        Some(125),
+    ),
+    (LOCAL_MILLISECONDS, "01.01.1970 00:00:00.1255", None),
+    (UTC_MICROSECONDS, "1970-01-01T00:00:00.000001Z", Some(1)),
+    (UTC_MICROSECONDS, "1970-01-01T01:00:00+01:00", Some(0)),
+    (
+        UTC_MICROSECONDS,
+        "1970-01-01T00:00-01:30",
+        Some(5_400_000_000),
+    ),
+    (UTC_MICROSECONDS, "1970-01-01T00:00:00", None),
+    (UTC_MICROSECONDS, "1970-01-01", None),
+    (UTC_MICROSECONDS, "1970-01-01T00:00:00Z0", None),
+    (UTC_MICROSECONDS, "1970-01-01T00:00:00+24:00", None),
+    (UTC_MICROSECONDS, "1970-01-01T00:00:00+01", None),
+    (
+        UTC_MICROSECONDS,
+        "9999-12-31T23:59:59+00:00",
+        Some(253_402_300_799_000_000),
+    ),
+    (UTC_MICROSECONDS, "9999-12-31T23:59:59-00:01", None),
+];
+
+#[test]
+fn times_are_read(rt: HostRuntime) {
+    for (form, text, want) in TIMES {
+        assert!(rt; read_time(form, text.as_bytes()) == want, "{text}");
+    }
+}
+
+/// Comparisons with a time, and those of the numbers of milliseconds that they come to.
+const MOMENTS: [(Op, &str, Op, i128); 5] = [
+    (Op::Ge, "31.01.2026", Op::Ge, 1_769_817_600_000),
+    (
+        Op::Le,
+        "31.01.2026 10:30:00.0005",
+        Op::Lt,
+        1_769_855_400_001,
+    ),
+    (Op::Gt, "31.12.1969 23:59:59.9995", Op::Ge, 0),
+    (Op::Lt, "31.12.1969 23:59:59.999", Op::Lt, -1),
+    (Op::Eq, "31.12.1969 23:59:59.9995", Op::Eq, 1 << 64),
+];
+
+#[test]
+fn times_are_brought_down(rt: HostRuntime) {
+    for (op, text, sign, number) in MOMENTS {
+        let found = compare_time(op, LOCAL_MILLISECONDS, text.as_bytes());
+        assert!(rt;
+            found.is_some_and(|found| found.op == sign && found.number == number),
+            "{text}"
+        );
+    }
+}
+
+/// Times, and how they are written again.
+const CLOCKS: [(TimeForm, &str, &str); 5] = [
+    (LOCAL_SECONDS, "2026-01-31 10:30", "2026-01-31T10:30:00"),
+    (
+        LOCAL_MILLISECONDS,
+        "31.12.1969 23:59:59.9",
+        "1969-12-31T23:59:59.900",
+    ),
+    (
+        UTC_MICROSECONDS,
+        "2026-01-31T10:30:00.5+01:00",
+        "2026-01-31T09:30:00.500000Z",
+    ),
+    (
+        UTC_MICROSECONDS,
+        "2026-01-31T23:30-01:00",
+        "2026-02-01T00:30:00.000000Z",
+    ),
+    (
+        UTC_MICROSECONDS,
+        "0000-01-01T00:00+00:01",
+        "-0001-12-31T23:59:00.000000Z",
+    ),
+];
+
+fn clock_once(alloc: Global, form: TimeForm, text: &str) -> Result<Option<Vec<u8>>, NoMemory> {
+    let Some(number) = read_time(form, text.as_bytes()) else {
+        return Ok(None);
+    };
+    let mut line = Vec::new(alloc);
+    write_time(form, number, &mut line)?;
+    Ok(Some(line))
+}
+
+// Whether a time is written so again.
+fn is_rewritten(alloc: Global, form: TimeForm, text: &str, wanted: &str) -> bool {
+    let line = match clock_once(alloc, form, text) {
+        Err(_) => clock_once(alloc, form, text),
+        line => line,
+    };
+    match line {
+        Ok(Some(line)) => line.as_slice() == wanted.as_bytes(),
+        _ => false,
+    }
+}
+
+#[test]
+fn times_are_written(rt: HostRuntime) {
+    for (form, text, wanted) in CLOCKS {
+        assert!(rt; is_rewritten(rt.alloc(), form, text, wanted), "{text}");
     }
 }
 
