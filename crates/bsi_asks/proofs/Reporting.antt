@@ -1,6 +1,6 @@
 -- Which records ask for a report.
-use Rattle.std.proofs.Common.{◌≡◌, ◌≢◌, ℕ, zero, suc, Global, ◌+◌, ◌-◌, ◌*◌, ◌<◌, ◌≤◌, false, List, [], ◌∷◌, ◌++◌, drop, get_or, length, length-append, take, arith, Option, Some, None, option_and_then, refl, ap, ap₂, sym, subst, ◌∙◌, codes}
-use Rattle.std.proofs.lemmas.List.{append_assoc, drop-drop, get_or-drop, length-drop, take_more}
+use Rattle.std.proofs.Common.{◌≡◌, ◌≢◌, ℕ, zero, suc, Global, ◌+◌, ◌*◌, ◌<◌, ◌≤◌, false, List, [], ◌∷◌, ◌++◌, drop, get_or, length, length-append, arith, Option, Some, None, option_and_then, refl, ap, ap₂, sym, subst, ◌∙◌, codes}
+use Rattle.std.proofs.lemmas.List.{drop-drop, get_or-drop}
 use Rattle.std.proofs.lemmas.Option.{none-some, same_Some}
 use Rattle.std.proofs.lemmas.Slice.Eq.{bytes_eq-Decides}
 use Rattle.std.specs.Prelude.{MatchOption}
@@ -17,7 +17,7 @@ use Rattle.bsi_records.specs.Reading.{IsReadAs}
 use Rattle.bsi_rows.specs.declared.query.Pred.{Pred}
 use Rattle.bsi_rows.specs.declared.query.Query.{Query}
 use Rattle.bsi_rows.specs.declared.query.Total.{Total}
-use Rattle.bsi_rows.specs.declared.query.Total.TheVariants.{Median, Rank, Rows}
+use Rattle.bsi_rows.specs.declared.query.Total.TheVariants.{Rows}
 use Rattle.bsi_schema.specs.Columns.{Declared, position_of}
 use Rattle.bsi_asks.specs.Reports.{end_word, max_group_columns, spelled_share, AreAllNamed, AreNamed, IsReport, IsUnlisted}
 use Rattle.bsi_asks.specs.declared.reports.Report.{Report}
@@ -31,23 +31,6 @@ module _ {T : Type 0} (Is : T → Type 0) (o : Option T) (is : IsReadAs Is o) wh
   pub none_is : o ≡ None → (x : T) → Is x → ⊥
   none_is at = subst (IsReadAs Is) at is
 
--- ---- the fields of a question
-
--- the fields so far, after one more
-pub next_field : (fields word : List Field) (from place : ℕ) (now next : List Field) (begun field : Field) → from ≤ place → place < length fields
-    → now ≡ word ++ take (place - from) (drop from fields) → next ≡ now ++ (begun ++ field) ∷ [] → begun ≡ [] → field ≡ get_or fields place []
-    → next ≡ word ++ take (place + 1 - from) (drop from fields)
-next_field fields word from place now next begun field le lt so_far pushed none is =
-    let n = place - from in
-    let one : place + 1 - from ≡ n + 1 = omega (arith, le) in
-    let there : from + n ≡ place = omega (arith, le) in
-    let within : n < length (drop from fields) = omega (arith, length-drop from fields, le, lt) in
-    let last : begun ++ field ≡ get_or (drop from fields) n [] =
-    ap (λ p. p ++ field) none ∙ is ∙ ap (λ k. get_or fields k []) (sym there) ∙ sym (get_or-drop from fields n []) in
-    pushed ∙ ap (λ xs. xs ++ (begun ++ field) ∷ []) so_far ∙ append_assoc word (take n (drop from fields)) ((begun ++ field) ∷ [])
-    ∙ ap (λ g. word ++ (take n (drop from fields) ++ g ∷ [])) last ∙ ap (λ xs. word ++ xs) (sym (take_more (drop from fields) n [] within))
-    ∙ ap (λ k. word ++ take k (drop from fields)) (sym one)
-
 -- ---- the total of a question
 
 abbrev IsTotalOf : Declared → Query → Total × List Field → Type 0
@@ -60,21 +43,6 @@ same_total schema (Some found) x y one two = one.0 ∙ sym two.0
 -- fields that are two questions have one total
 one_total : (schema : Declared) (fields : List Field) (x y : Query) → IsQuestion schema fields x → IsQuestion schema fields y → x.total ≡ y.total
 one_total schema fields x y one two = same_total schema (asked_total schema fields) x y one two
-
-module _ (schema : Declared) (fields : List Field) (query : Query) (is : IsQuestion schema fields query) where
-  pub rank_read : (o : Option (ℕ × ℕ × Pred)) → IsReadAs (λ x. query ≡ record { total = Rank x.0 x.1; pred = x.2 }) o
-      → IsReadAs (λ x. IsQuestion schema fields (record { total = Rank x.0 x.1; pred = x.2 })) o
-  rank_read (Some x) same = subst (λ (q : Query). IsQuestion schema fields q) same is
-  rank_read None none = λ x other.
-      none (x.0, x.1, query.pred)
-      (ap (λ (t : Total). (let q : Query = record { total = t; pred = query.pred } in q)) (one_total schema fields query (record { total = Rank x.0 x.1; pred = x.2 }) is other))
-
-  pub median_read : (o : Option (ℕ × Pred)) → IsReadAs (λ x. query ≡ record { total = Median x.0; pred = x.1 }) o
-      → IsReadAs (λ x. IsQuestion schema fields (record { total = Median x.0; pred = x.1 })) o
-  median_read (Some x) same = subst (λ (q : Query). IsQuestion schema fields q) same is
-  median_read None none = λ x other.
-      none (x.0, query.pred)
-      (ap (λ (t : Total). (let q : Query = record { total = t; pred = query.pred } in q)) (one_total schema fields query (record { total = Median x.0; pred = x.1 }) is other))
 
 -- ---- the word of a report
 
@@ -94,8 +62,8 @@ module _ (schema : Declared) (fields : List Field) where
   begins : (asked : Report) → IsReport schema fields asked → field_at fields 0 ≡ Some (report_word asked)
   unfolding field_at
   begins (Groups query by) is = by_first schema fields is.0 by.items is.2 is.1
-  begins (Top end c most pred) is = ap (λ fs. field_at fs 0) is.1
-  begins (Distinct c pred) is = ap (λ fs. field_at fs 0) is.1
+  begins (Top end c most pred) is = ap (λ fs. field_at fs 0) is.3
+  begins (Distinct c pred) is = ap (λ fs. field_at fs 0) is.2
   begins (Quantile share c pred) is = ap (λ fs. field_at fs 0) is.4
 
   pub no_word : None ≡ field_at fields 0 → (asked : Report) → IsReport schema fields asked → ⊥
@@ -116,12 +84,6 @@ module _ (schema : Declared) (fields : List Field) where
 pub not_word : (word text other : Field) → false ≡ bytes_eq word text → text ≡ other → word ≢ other
 not_word word text other apart same is = cc (apart, (bytes_eq-Decides word text).1 (is ∙ sym same))
 
--- the fields behind the word
-behind : (fields : List Field) (word : Field) → Some word ≡ field_at fields 0 → fields ≡ word ∷ drop 1 fields
-unfolding field_at
-behind [] word at = absurd (none-some word (sym at))
-behind (f ∷ fields) word at = ap (λ w. w ∷ fields) (sym (same_Some word f at))
-
 not_by : (end : End) → codes "by" ≢ end_word end
 not_by Greatest is = cc (is)
 not_by Least is = cc (is)
@@ -140,19 +102,16 @@ not_quantile Least is = cc (is)
 -- ---- groups
 
 -- the question that was read, and whether it is a list
-module _ (schema : Declared) (question asked : List Field) (is_asked : asked ≡ question) (o : Option Query) (is : IsReadAs (IsQuestion schema asked) o) where
-  questions : IsReadAs (IsQuestion schema question) o
-  questions = subst (λ (fs : List Field). IsReadAs (IsQuestion schema fs) o) is_asked is
-
+module _ (schema : Declared) (question : List Field) (o : Option Query) (is : IsReadAs (IsQuestion schema question) o) where
   pub no_question : o ≡ None → (query : Query) → IsUnlisted schema question query → ⊥
-  no_question at query told = none_is _ o questions at query told.0
+  no_question at query told = none_is _ o is at query told.0
 
   module _ (query : Query) (at : o ≡ Some query) where
     pub a_list : query.total ≡ Rows → (other : Query) → IsUnlisted schema question other → ⊥
-    a_list rows other told = told.1 (one_total schema question other query told.0 (is_so _ o questions query at) ∙ rows)
+    a_list rows other told = told.1 (one_total schema question other query told.0 (is_so _ o is query at) ∙ rows)
 
     pub no_list : query.total ≢ Rows → IsUnlisted schema question query
-    no_list not_rows = (is_so _ o questions query at, not_rows)
+    no_list not_rows = (is_so _ o is query at, not_rows)
 
 -- no question begins with the word of groups
 by_asks : (schema : Declared) (rest : List Field) (query : Query) → IsQuestion schema (codes "by" ∷ rest) query → ⊥
@@ -307,43 +266,80 @@ module _ (schema : Declared) (fields : List Field) (word : Some (codes "by") ≡
         some [] is = absurd (is.2 (ap (λ fs. get_or fs 0 []) (sym is.1) ∙ first_field fields (codes "by") word))
         some (b ∷ bs) is = omega arith
 
--- ---- first rows, and different numbers
+-- ---- a column behind the word
 
--- the question that was read behind the word, the fields of a rank
-module _ (schema : Declared) (fields : List Field) (end : End) (word : Some (end_word end) ≡ field_at fields 0)
-    (asked : List Field) (is_asked : asked ≡ codes "rank" ∷ drop 1 fields)
-    (o : Option (ℕ × ℕ × Pred)) (is : IsReadAs (λ x. IsQuestion schema asked (record { total = Rank x.0 x.1; pred = x.2 })) o) where
-  ranks : IsReadAs (λ x. IsQuestion schema (codes "rank" ∷ drop 1 fields) (record { total = Rank x.0 x.1; pred = x.2 })) o
-  ranks = subst (λ (fs : List Field). IsReadAs (λ x. IsQuestion schema fs (record { total = Rank x.0 x.1; pred = x.2 })) o) is_asked is
+named : {A : Type 0} (pos : Field → Option A) (fields : List Field) (word : Field) (c : A) → Some word ≡ field_at fields 0
+    → Some c ≡ option_and_then pos (field_at fields 1) → (name : Field) × (fields ≡ word ∷ name ∷ drop 2 fields) × (pos name ≡ Some c)
+unfolding field_at
+named pos [] word c first there = absurd (none-some word (sym first))
+named pos (f ∷ []) word c first there = absurd (none-some c (sym there))
+named pos (f ∷ name ∷ fields) word c first there = (name, ap (λ w. w ∷ name ∷ fields) (sym (same_Some word f first)), sym there)
 
-  pub top_read : (c most : ℕ) (pred : Pred) → o ≡ Some (c, most, pred) → IsReport schema fields (Top end c most pred)
-  top_read c most pred at = (drop 1 fields, behind fields (end_word end) word, is_so _ o ranks (c, most, pred) at)
+-- the column of a name behind a word
+name_behind : {A : Type 0} (pos : Field → Option A) (fields rest : List Field) (word name : Field) → fields ≡ word ∷ name ∷ rest
+    → option_and_then pos (field_at fields 1) ≡ pos name
+unfolding field_at
+name_behind pos fields rest word name is = ap (λ fs. option_and_then pos (field_at fs 1)) is
 
-  pub no_top : o ≡ None → (asked : Report) → IsReport schema fields asked → ⊥
-  no_top none (Groups query by) is = not_by end (sym (its_word schema fields (end_word end) word (Groups query by) is))
-  no_top none (Top other c most pred) is =
-      none_is _ o ranks none (c, most, pred)
-      (subst (λ (rest : List Field). IsQuestion schema (codes "rank" ∷ rest) (record { total = Rank c most; pred = pred })) (sym (ap (drop 1) is.1)) is.2)
-  no_top none (Distinct c pred) is = not_distinct end (sym (its_word schema fields (end_word end) word (Distinct c pred) is))
-  no_top none (Quantile share c pred) is = not_quantile end (sym (its_word schema fields (end_word end) word (Quantile share c pred) is))
+-- ---- first rows
 
--- those of a median
-module _ (schema : Declared) (fields : List Field) (word : Some (codes "distinct") ≡ field_at fields 0)
-    (asked : List Field) (is_asked : asked ≡ codes "median" ∷ drop 1 fields)
-    (o : Option (ℕ × Pred)) (is : IsReadAs (λ x. IsQuestion schema asked (record { total = Median x.0; pred = x.1 })) o) where
-  medians : IsReadAs (λ x. IsQuestion schema (codes "median" ∷ drop 1 fields) (record { total = Median x.0; pred = x.1 })) o
-  medians = subst (λ (fs : List Field). IsReadAs (λ x. IsQuestion schema fs (record { total = Median x.0; pred = x.1 })) o) is_asked is
+-- a number behind the name
+number_behind : (fields : List Field) (n : ℕ) → Some n ≡ spelled_number (get_or fields 2 []) → drop 2 fields ≡ get_or fields 2 [] ∷ drop 3 fields
+number_behind [] n is = absurd (none-some n (sym is))
+number_behind (f ∷ []) n is = absurd (none-some n (sym is))
+number_behind (f ∷ name ∷ []) n is = absurd (none-some n (sym is))
+number_behind (f ∷ name ∷ number ∷ fields) n is = refl
 
-  pub distinct_read : (c : ℕ) (pred : Pred) → o ≡ Some (c, pred) → IsReport schema fields (Distinct c pred)
-  distinct_read c pred at = (drop 1 fields, behind fields (codes "distinct") word, is_so _ o medians (c, pred) at)
+module _ (schema : Declared) (fields : List Field) (end : End) (word : Some (end_word end) ≡ field_at fields 0) where
+  only_tops : ((other : End) (c most : ℕ) (pred : Pred) → IsReport schema fields (Top other c most pred) → ⊥)
+      → (asked : Report) → IsReport schema fields asked → ⊥
+  only_tops none (Groups query by) is = not_by end (sym (its_word schema fields (end_word end) word (Groups query by) is))
+  only_tops none (Top other c most pred) is = none other c most pred is
+  only_tops none (Distinct c pred) is = not_distinct end (sym (its_word schema fields (end_word end) word (Distinct c pred) is))
+  only_tops none (Quantile share c pred) is = not_quantile end (sym (its_word schema fields (end_word end) word (Quantile share c pred) is))
 
-  pub none_distinct : o ≡ None → (asked : Report) → IsReport schema fields asked → ⊥
-  none_distinct none (Groups query by) is = cc (its_word schema fields (codes "distinct") word (Groups query by) is)
-  none_distinct none (Top end c most pred) is = not_distinct end (its_word schema fields (codes "distinct") word (Top end c most pred) is)
-  none_distinct none (Distinct c pred) is =
-      none_is _ o medians none (c, pred)
-      (subst (λ (rest : List Field). IsQuestion schema (codes "median" ∷ rest) (record { total = Median c; pred = pred })) (sym (ap (drop 1) is.1)) is.2)
-  none_distinct none (Quantile share c pred) is = apart (its_word schema fields (codes "distinct") word (Quantile share c pred) is)
+  pub no_top_column : None ≡ option_and_then (position_of schema.columns) (field_at fields 1) → (asked : Report) → IsReport schema fields asked → ⊥
+  no_top_column none =
+      only_tops (λ other c most pred told. none-some c (none ∙ name_behind (position_of schema.columns) fields (told.1 ∷ told.2) (end_word other) told.0 told.3 ∙ told.4))
+
+  pub no_most : None ≡ spelled_number (get_or fields 2 []) → (asked : Report) → IsReport schema fields asked → ⊥
+  no_most none = only_tops (λ other c most pred told. none-some most (none ∙ ap (λ fs. spelled_number (get_or fs 2 [])) told.3 ∙ told.5))
+
+  module _ (o : Option Pred) (is : IsReadAs (IsPredicate schema (drop 3 fields)) o) where
+    pub no_top_rows : o ≡ None → (asked : Report) → IsReport schema fields asked → ⊥
+    no_top_rows at =
+        only_tops (λ other c most pred told.
+        none_is _ o is at pred (subst (λ (rest : List Field). IsPredicate schema rest pred) (sym (ap (drop 3) told.3)) told.6))
+
+    pub top_read : (c most : ℕ) (pred : Pred) → Some c ≡ option_and_then (position_of schema.columns) (field_at fields 1)
+        → Some most ≡ spelled_number (get_or fields 2 []) → o ≡ Some pred → IsReport schema fields (Top end c most pred)
+    top_read c most pred column number at =
+        let name = named (position_of schema.columns) fields (end_word end) c word column in
+        (name.0, get_or fields 2 [], drop 3 fields, name.1 ∙ ap (λ rest. end_word end ∷ name.0 ∷ rest) (number_behind fields most number), name.2, sym number, is_so _ o is pred at)
+
+-- ---- different numbers
+
+module _ (schema : Declared) (fields : List Field) (word : Some (codes "distinct") ≡ field_at fields 0) where
+  only_distinct : ((c : ℕ) (pred : Pred) → IsReport schema fields (Distinct c pred) → ⊥) → (asked : Report) → IsReport schema fields asked → ⊥
+  only_distinct none (Groups query by) is = cc (its_word schema fields (codes "distinct") word (Groups query by) is)
+  only_distinct none (Top end c most pred) is = not_distinct end (its_word schema fields (codes "distinct") word (Top end c most pred) is)
+  only_distinct none (Distinct c pred) is = none c pred is
+  only_distinct none (Quantile share c pred) is = apart (its_word schema fields (codes "distinct") word (Quantile share c pred) is)
+
+  pub no_distinct_column : None ≡ option_and_then (position_of schema.columns) (field_at fields 1) → (asked : Report) → IsReport schema fields asked → ⊥
+  no_distinct_column none =
+      only_distinct (λ c pred told. none-some c (none ∙ name_behind (position_of schema.columns) fields told.1 (codes "distinct") told.0 told.2 ∙ told.3))
+
+  module _ (o : Option Pred) (is : IsReadAs (IsPredicate schema (drop 2 fields)) o) where
+    pub no_distinct_rows : o ≡ None → (asked : Report) → IsReport schema fields asked → ⊥
+    no_distinct_rows at =
+        only_distinct (λ c pred told. none_is _ o is at pred (subst (λ (rest : List Field). IsPredicate schema rest pred) (sym (ap (drop 2) told.2)) told.4))
+
+    pub distinct_read : (c : ℕ) (pred : Pred) → Some c ≡ option_and_then (position_of schema.columns) (field_at fields 1) → o ≡ Some pred
+        → IsReport schema fields (Distinct c pred)
+    distinct_read c pred column at =
+        let name = named (position_of schema.columns) fields (codes "distinct") c word column in
+        (name.0, drop 2 fields, name.1, name.2, is_so _ o is pred at)
 
 -- ---- quantiles
 
@@ -351,16 +347,14 @@ no_whole : (o : Option ℕ) → option_and_then (λ p. option_and_then (λ w. sh
 no_whole None = refl
 no_whole (Some p) = refl
 
--- the fields of a share, and those before and behind them
-share_fields : (fields : List Field) → Some (codes "quantile") ≡ field_at fields 0
-    → (share : Share) → Some share ≡ spelled_share (get_or fields 2 []) (get_or fields 3 [])
-    → fields ≡ codes "quantile" ∷ get_or fields 1 [] ∷ get_or fields 2 [] ∷ get_or fields 3 [] ∷ drop 4 fields
-unfolding field_at
-share_fields [] word share is = absurd (none-some (codes "quantile") (sym word))
-share_fields (f ∷ []) word share is = absurd (none-some share (sym is))
-share_fields (f ∷ name ∷ []) word share is = absurd (none-some share (sym is))
-share_fields (f ∷ name ∷ part ∷ []) word share is = absurd (none-some share (sym (no_whole (spelled_number part)) ∙ sym is))
-share_fields (f ∷ name ∷ part ∷ whole ∷ rest) word share is = ap (λ w. w ∷ name ∷ part ∷ whole ∷ rest) (sym (same_Some (codes "quantile") f word))
+-- a share behind the name
+share_behind : (fields : List Field) (share : Share) → Some share ≡ spelled_share (get_or fields 2 []) (get_or fields 3 [])
+    → drop 2 fields ≡ get_or fields 2 [] ∷ get_or fields 3 [] ∷ drop 4 fields
+share_behind [] share is = absurd (none-some share (sym is))
+share_behind (f ∷ []) share is = absurd (none-some share (sym is))
+share_behind (f ∷ name ∷ []) share is = absurd (none-some share (sym is))
+share_behind (f ∷ name ∷ part ∷ []) share is = absurd (none-some share (sym (no_whole (spelled_number part)) ∙ sym is))
+share_behind (f ∷ name ∷ part ∷ whole ∷ fields) share is = refl
 
 module _ (schema : Declared) (fields : List Field) (word : Some (codes "quantile") ≡ field_at fields 0) where
   only_quantiles : ((share : Share) (c : ℕ) (pred : Pred) → IsReport schema fields (Quantile share c pred) → ⊥)
@@ -370,31 +364,31 @@ module _ (schema : Declared) (fields : List Field) (word : Some (codes "quantile
   only_quantiles none (Distinct c pred) is = apart (sym (its_word schema fields (codes "quantile") word (Distinct c pred) is))
   only_quantiles none (Quantile share c pred) is = none share c pred is
 
+  pub no_quantile_column : None ≡ option_and_then (position_of schema.columns) (field_at fields 1) → (asked : Report) → IsReport schema fields asked → ⊥
+  no_quantile_column none =
+      only_quantiles (λ share c pred told.
+      none-some c (none ∙ name_behind (position_of schema.columns) fields (told.1 ∷ told.2 ∷ told.3) (codes "quantile") told.0 told.4 ∙ told.5))
+
   pub no_share : None ≡ spelled_share (get_or fields 2 []) (get_or fields 3 []) → (asked : Report) → IsReport schema fields asked → ⊥
   no_share none =
-      only_quantiles (λ share c pred is. none-some share (none ∙ ap (λ fs. spelled_share (get_or fs 2 []) (get_or fs 3 [])) is.4 ∙ is.5))
+      only_quantiles (λ share c pred told. none-some share (none ∙ ap (λ fs. spelled_share (get_or fs 2 []) (get_or fs 3 [])) told.4 ∙ told.6))
 
-  -- the question that was read, of a median
-  module _ (asked : List Field) (is_asked : asked ≡ codes "median" ∷ get_or fields 1 [] ∷ drop 4 fields)
-      (o : Option (ℕ × Pred)) (is : IsReadAs (λ x. IsQuestion schema asked (record { total = Median x.0; pred = x.1 })) o) where
-    shares : IsReadAs (λ x. IsQuestion schema (codes "median" ∷ get_or fields 1 [] ∷ drop 4 fields) (record { total = Median x.0; pred = x.1 })) o
-    shares = subst (λ (fs : List Field). IsReadAs (λ x. IsQuestion schema fs (record { total = Median x.0; pred = x.1 })) o) is_asked is
-
-    pub quantile_read : (share : Share) → Some share ≡ spelled_share (get_or fields 2 []) (get_or fields 3 [])
-        → (c : ℕ) (pred : Pred) → o ≡ Some (c, pred) → IsReport schema fields (Quantile share c pred)
-    quantile_read share spelled c pred at = (
-      get_or fields 1 [],
-      get_or fields 2 [],
-      get_or fields 3 [],
-      drop 4 fields,
-      share_fields fields word share spelled,
-      sym spelled,
-      is_so _ o shares (c, pred) at,
-    )
-
-    pub no_quantile : o ≡ None → (asked : Report) → IsReport schema fields asked → ⊥
-    no_quantile none =
+  module _ (o : Option Pred) (is : IsReadAs (IsPredicate schema (drop 4 fields)) o) where
+    pub no_quantile_rows : o ≡ None → (asked : Report) → IsReport schema fields asked → ⊥
+    no_quantile_rows at =
         only_quantiles (λ share c pred told.
-        none_is _ o shares none (c, pred)
-        (subst (λ (fs : List Field). IsQuestion schema fs (record { total = Median c; pred = pred }))
-        (sym (ap (λ fs. codes "median" ∷ get_or fs 1 [] ∷ drop 4 fs) told.4)) told.6))
+        none_is _ o is at pred (subst (λ (rest : List Field). IsPredicate schema rest pred) (sym (ap (drop 4) told.4)) told.7))
+
+    pub quantile_read : (share : Share) (c : ℕ) (pred : Pred) → Some c ≡ option_and_then (position_of schema.columns) (field_at fields 1)
+        → Some share ≡ spelled_share (get_or fields 2 []) (get_or fields 3 []) → o ≡ Some pred → IsReport schema fields (Quantile share c pred)
+    quantile_read share c pred column spelled at =
+        let name = named (position_of schema.columns) fields (codes "quantile") c word column in (
+          name.0,
+          get_or fields 2 [],
+          get_or fields 3 [],
+          drop 4 fields,
+          name.1 ∙ ap (λ rest. codes "quantile" ∷ name.0 ∷ rest) (share_behind fields share spelled),
+          name.2,
+          sym spelled,
+          is_so _ o is pred at,
+        )

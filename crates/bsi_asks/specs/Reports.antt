@@ -4,9 +4,10 @@ use Rattle.bsi_groups.specs.Quantiles.{share_of, Share}
 use Rattle.bsi_groups.specs.declared.tops.End.{End}
 use Rattle.bsi_groups.specs.declared.tops.End.TheVariants.{Greatest, Least}
 use Rattle.bsi_records.specs.Numbers.{spelled_number, Field}
+use Rattle.bsi_records.specs.Predicates.{IsPredicate}
 use Rattle.bsi_records.specs.Questions.{IsQuestion}
 use Rattle.bsi_rows.specs.declared.query.Query.{Query}
-use Rattle.bsi_rows.specs.declared.query.Total.TheVariants.{Median, Rank, Rows}
+use Rattle.bsi_rows.specs.declared.query.Total.TheVariants.{Rows}
 use Rattle.bsi_schema.specs.Columns.{Declared, position_of}
 use Rattle.bsi_asks.specs.declared.reports.Report.{Report}
 use Rattle.bsi_asks.specs.declared.reports.Report.TheVariants.{Groups, Top, Distinct, Quantile}
@@ -47,16 +48,15 @@ abbrev pub IsReport : Declared → List Field → Report → Type 0
 IsReport schema fields (Groups query by) =
     (question : List Field) × AreNamed schema fields by.items question × (0 < length by.items)
     × (length by.items ≤ max_group_columns) × IsUnlisted schema question query
--- the fields of a rank: in place of its number, how many rows
+-- a column, how many rows, and a predicate
 IsReport schema fields (Top end c most pred) =
-    (rest : List Field) × (fields ≡ end_word end ∷ rest)
-    × IsQuestion schema (codes "rank" ∷ rest) (record { total = Rank c most; pred = pred })
--- the fields of a median
+    (name number : Field) × (rest : List Field) × (fields ≡ end_word end ∷ name ∷ number ∷ rest)
+    × (position_of schema.columns name ≡ Some c) × (spelled_number number ≡ Some most) × IsPredicate schema rest pred
+-- a column, and a predicate
 IsReport schema fields (Distinct c pred) =
-    (rest : List Field) × (fields ≡ codes "distinct" ∷ rest)
-    × IsQuestion schema (codes "median" ∷ rest) (record { total = Median c; pred = pred })
--- the fields of a median, and a share behind the name
+    (name : Field) × (rest : List Field) × (fields ≡ codes "distinct" ∷ name ∷ rest)
+    × (position_of schema.columns name ≡ Some c) × IsPredicate schema rest pred
+-- a column, a share, and a predicate
 IsReport schema fields (Quantile share c pred) =
-    (name : Field) × (part : Field) × (whole : Field) × (rest : List Field)
-    × (fields ≡ codes "quantile" ∷ name ∷ part ∷ whole ∷ rest) × (spelled_share part whole ≡ Some share)
-    × IsQuestion schema (codes "median" ∷ name ∷ rest) (record { total = Median c; pred = pred })
+    (name part whole : Field) × (rest : List Field) × (fields ≡ codes "quantile" ∷ name ∷ part ∷ whole ∷ rest)
+    × (position_of schema.columns name ≡ Some c) × (spelled_share part whole ≡ Some share) × IsPredicate schema rest pred

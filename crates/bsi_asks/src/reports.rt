@@ -1,16 +1,15 @@
 //! The records that ask for a report: the total of each group, the rows with the greatest or the least numbers, how many
 //! different numbers there are, or the number at the end of a share of them.
 
-ghost use Rattle.std.specs.Prelude.{◌≡◌, ◌≢◌, ◌∷◌, ◌++◌, [], codes, drop, get_or, option_and_then, Some, IfOk, OnOk};
-ghost use Rattle.csv.specs.Records.{field_at, fields_of, partial_of};
-ghost use Rattle.bsi_records.specs.Questions.{IsQuestion};
+ghost use Rattle.std.specs.Prelude.{◌≡◌, [], codes, drop, get_or, option_and_then, Some, IfOk};
+ghost use Rattle.csv.specs.Records.{field_at, fields_of};
 ghost use Rattle.bsi_records.specs.Reading.{IsReadAs};
 ghost use Rattle.bsi_schema.specs.Columns.{position_of};
 ghost use Rattle.bsi_asks.specs.Reports.{end_word, spelled_share, AreAllNamed, IsReport, IsUnlisted};
 
 use crate::NoMemory;
 use bsi_groups::{End, Share};
-use bsi_records::{MAX_GROUP_COLUMNS, field, read_number, read_question};
+use bsi_records::{MAX_GROUP_COLUMNS, field, read_number, read_predicate, read_question};
 use bsi_rows::{Pred, Query, Schema, Total};
 use csv::ByteRecord;
 use std::alloc::Global;
@@ -29,8 +28,9 @@ pub enum Report {
 }
 
 /// Reads a record as a report: `by` and a column, once or up to 64 times, and a question that is no list; `top` or
-/// `bottom` and the fields of a rank behind its word; `distinct` and those of a median; or `quantile` and those of a median, with a part and a whole behind
-/// the name, where the whole is at least 1 and the part no more than it. `None` stands for a record that is none of these.
+/// `bottom`, a column and how many rows; `distinct` and a column; or `quantile`, a column, a part and a whole, of which the
+/// whole is at least 1 and the part no more than it. Behind the last three stand the fields of a predicate. `None` stands
+/// for a record that is none of these.
 pub fn read_report(
     alloc: Global,
     schema: &Schema,
@@ -113,9 +113,13 @@ fn read_top(
     requires { Some (end_word end) ≡ field_at (fields_of fields.now) 0 }
     ensures { IfOk result (IsReadAs (IsReport schema.now (fields_of fields.now))) }
 {
-    let mut asked = begin_record(alloc, b"rank")?;
-    push_fields(fields, 1, &mut asked)?;
-    let Some((c, most, pred)) = read_rank(alloc, schema, &asked)? else {
+    let Some(c) = read_column(schema, fields, 1) else {
+        return Ok(None);
+    };
+    let Some(most) = read_number(field(fields, 2)) else {
+        return Ok(None);
+    };
+    let Some(pred) = read_predicate(alloc, schema, fields, 3)? else {
         return Ok(None);
     };
     Ok(Some(Report::Top(end, c, most, pred)))
@@ -130,9 +134,10 @@ fn read_distinct(
     requires { Some (codes "distinct") ≡ field_at (fields_of fields.now) 0 }
     ensures { IfOk result (IsReadAs (IsReport schema.now (fields_of fields.now))) }
 {
-    let mut asked = begin_record(alloc, b"median")?;
-    push_fields(fields, 1, &mut asked)?;
-    let Some((c, pred)) = read_median(alloc, schema, &asked)? else {
+    let Some(c) = read_column(schema, fields, 1) else {
+        return Ok(None);
+    };
+    let Some(pred) = read_predicate(alloc, schema, fields, 2)? else {
         return Ok(None);
     };
     Ok(Some(Report::Distinct(c, pred)))
@@ -147,38 +152,16 @@ fn read_quantile(
     requires { Some (codes "quantile") ≡ field_at (fields_of fields.now) 0 }
     ensures { IfOk result (IsReadAs (IsReport schema.now (fields_of fields.now))) }
 {
+    let Some(c) = read_column(schema, fields, 1) else {
+        return Ok(None);
+    };
     let Some(share) = read_share(fields) else {
         return Ok(None);
     };
-    let mut asked = begin_record(alloc, b"median")?;
-    asked.push_field(field(fields, 1))?;
-    push_fields(fields, 4, &mut asked)?;
-    let Some((c, pred)) = read_median(alloc, schema, &asked)? else {
+    let Some(pred) = read_predicate(alloc, schema, fields, 4)? else {
         return Ok(None);
     };
     Ok(Some(Report::Quantile(share, c, pred)))
-}
-
-/// Makes a record of one word.
-fn begin_record(alloc: Global, word: &[u8]) -> Result<ByteRecord, NoMemory>
-    ensures fields { IfOk result (λ asked. fields_of asked ≡ word.now ∷ []) }
-    ensures whole { IfOk result (λ asked. partial_of asked ≡ []) }
-{
-    let mut asked = ByteRecord::new(alloc);
-    asked.push_field(word)?;
-    Ok(asked)
-}
-
-/// Appends the fields from a place on to a record.
-fn push_fields(fields: &ByteRecord, from: usize, asked: &mut ByteRecord) -> Result<(), NoMemory>
-    requires { partial_of asked.old ≡ [] }
-    ensures { OnOk result (fields_of asked.new
-        ≡ fields_of asked.old ++ drop from (fields_of fields.now)) }
-{
-    'fields: for place in from..fields.len() {
-        asked.push_field(field(fields, place))?;
-    }
-    Ok(())
 }
 
 /// Reads the column whose name stands at a place of a record.
@@ -198,9 +181,7 @@ fn read_unlisted(
 ) -> Result<Option<Query>, NoMemory>
     ensures { IfOk result (IsReadAs (IsUnlisted schema.now (drop from (fields_of fields.now)))) }
 {
-    let mut asked = ByteRecord::new(alloc);
-    push_fields(fields, from, &mut asked)?;
-    let Some(query) = read_question(alloc, schema, &asked)? else {
+    let Some(query) = read_question(alloc, schema, fields, from)? else {
         return Ok(None);
     };
     if matches!(query.total, Total::Rows) {
@@ -217,54 +198,4 @@ fn read_share(fields: &ByteRecord) -> Option<Share>
     let part = read_number(field(fields, 2))?;
     let whole = read_number(field(fields, 3))?;
     Share::new(part, whole)
-}
-
-/// Reads a question for a rank: its column, its number, and its predicate.
-fn read_rank(
-    alloc: Global,
-    schema: &Schema,
-    asked: &ByteRecord,
-) -> Result<Option<(u32, u64, Pred)>, NoMemory>
-    ensures { IfOk result (IsReadAs (λ (c, rank, pred).
-        IsQuestion schema.now (fields_of asked.now) (record { total = Total.Rank c rank; pred = pred }))) }
-{
-    match read_question(alloc, schema, asked)? {
-        Some(query) => Ok(rank_of(query)),
-        None => Ok(None),
-    }
-}
-
-/// Reads a question for a median: its column, and its predicate.
-fn read_median(
-    alloc: Global,
-    schema: &Schema,
-    asked: &ByteRecord,
-) -> Result<Option<(u32, Pred)>, NoMemory>
-    ensures { IfOk result (IsReadAs (λ (c, pred).
-        IsQuestion schema.now (fields_of asked.now) (record { total = Total.Median c; pred = pred }))) }
-{
-    match read_question(alloc, schema, asked)? {
-        Some(query) => Ok(median_of(query)),
-        None => Ok(None),
-    }
-}
-
-/// Returns what a query for a rank asks for, or none where it asks for another total.
-fn rank_of(query: Query) -> Option<(u32, u64, Pred)>
-    ensures { IsReadAs (λ (c, rank, pred). query ≡ record { total = Total.Rank c rank; pred = pred }) result }
-{
-    match query.total {
-        Total::Rank(c, rank) => Some((c, rank, query.pred)),
-        _ => None,
-    }
-}
-
-/// Returns what a query for a median asks for, or none where it asks for another total.
-fn median_of(query: Query) -> Option<(u32, Pred)>
-    ensures { IsReadAs (λ (c, pred). query ≡ record { total = Total.Median c; pred = pred }) result }
-{
-    match query.total {
-        Total::Median(c) => Some((c, query.pred)),
-        _ => None,
-    }
 }

@@ -33,7 +33,7 @@ impl Wording {
     {
         match self {
             Wording::Queries => read_query(alloc, schema, fields),
-            Wording::Questions => read_question(alloc, schema, fields),
+            Wording::Questions => read_question(alloc, schema, fields, 0),
         }
     }
 

@@ -68,7 +68,7 @@ pub(crate) fn reply(
 {
     let index = opened.index();
     let fields = ByteRecord::from_fields(alloc, fields)?;
-    let Some(query) = read_question(alloc, index.schema(), &fields)? else {
+    let Some(query) = read_question(alloc, index.schema(), &fields, 0)? else {
         return Err(Refusal::BadQuery);
     };
     match index.ask(&query) {

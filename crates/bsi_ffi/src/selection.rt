@@ -1,7 +1,6 @@
 //! Which rows a predicate selects, as words.
 
-ghost use Rattle.std.specs.Prelude.{◌≡◌, ◌<◌, ◌≤◌, ◌∷◌, ℕ, codes, drop, false, length, map, slice_index_or, take, Some, IfErr, IfOk, OnErr, OnOk};
-ghost use Rattle.csv.specs.Records.{fields_of};
+ghost use Rattle.std.specs.Prelude.{◌≡◌, ◌<◌, ◌≤◌, ℕ, drop, false, length, map, slice_index_or, take, Some, IfErr, IfOk, OnErr, OnOk};
 ghost use Rattle.bsi_bits.specs.BitList.{word_count};
 ghost use Rattle.bsi_bits.specs.Packed.{bit_of};
 ghost use Rattle.bsi_records.specs.Predicates.{IsPredicate};
@@ -11,7 +10,6 @@ ghost use Rattle.bsi_ffi.specs.Calls.{IsMasked, LeavesWords};
 use crate::opened::Opened;
 use crate::refusal::Refusal;
 use bsi_bits::Bits;
-use bsi_records::read_question;
 use bsi_table::{AskError, NoMemory, Pred, Schema};
 use csv::ByteRecord;
 use std::alloc::Global;
@@ -39,7 +37,7 @@ pub(crate) fn write_mask(
     }
 }
 
-/// Reads the predicate that the fields spell, as that of a count.
+/// Reads the predicate that the fields spell.
 pub(crate) fn read_predicate(
     alloc: Global,
     schema: &Schema,
@@ -48,24 +46,8 @@ pub(crate) fn read_predicate(
     ensures { IfOk result
         (IsReadAs (IsPredicate schema.now (map (λ f. f.now) fields.now))) }
 {
-    let counted = count_record(alloc, fields)?;
-    let Some(query) = read_question(alloc, schema, &counted)? else {
-        return Ok(None);
-    };
-    Ok(Some(query.pred))
-}
-
-/// Makes the record that asks for a count, by the fields of its predicate.
-fn count_record(alloc: Global, fields: &[&[u8]]) -> Result<ByteRecord, NoMemory>
-    ensures { IfOk result
-        (λ counted. fields_of counted ≡ codes "count" ∷ map (λ f. f.now) fields.now) }
-{
-    let mut counted = ByteRecord::new(alloc);
-    counted.push_field(b"count")?;
-    'fields: for field in fields {
-        counted.push_field(field)?;
-    }
-    Ok(counted)
+    let fields = ByteRecord::from_fields(alloc, fields)?;
+    bsi_records::read_predicate(alloc, schema, &fields, 0)
 }
 
 /// Writes the words of a bitmap, if there is room for these.

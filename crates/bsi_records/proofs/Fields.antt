@@ -1,6 +1,7 @@
 -- The fields of a record, by their places.
-use Rattle.std.proofs.Common.{◌≡◌, ℕ, zero, suc, ◌+◌, ◌<◌, ◌≤◌, List, [], ◌∷◌, length, get_or, drop, Option, Some, None, option_map, unwrap_or, arith, refl}
+use Rattle.std.proofs.Common.{◌≡◌, ℕ, zero, suc, ◌+◌, ◌<◌, ◌≤◌, List, [], ◌∷◌, length, get_or, drop, Option, Some, None, option_map, unwrap_or, arith, ap, sym, ◌∙◌, refl}
 use Rattle.csv.specs.Records.{field_at}
+use Rattle.std.proofs.lemmas.List.{drop-drop}
 use Rattle.bsi_records.specs.Numbers.{Field}
 
 -- the field at a place, or no byte
@@ -50,3 +51,14 @@ three_behind (a ∷ []) four = absurd (omega arith)
 three_behind (a ∷ b ∷ []) four = absurd (omega arith)
 three_behind (a ∷ b ∷ c ∷ []) four = absurd (omega arith)
 three_behind (a ∷ b ∷ c ∷ d ∷ fields) four = refl
+
+-- the fields from a place on, and the field at a place among these
+pub field_on : (fields : List Field) (from n at : ℕ) → from + n ≡ at → field_at fields at ≡ field_at (drop from fields) n
+unfolding field_at
+field_on fields zero n at is = let same : at ≡ n = omega (arith, is) in ap (field_at fields) same
+field_on [] (suc from) n at is = refl
+field_on (field ∷ fields) (suc from) n zero is = absurd (omega (arith, is))
+field_on (field ∷ fields) (suc from) n (suc at) is = field_on fields from n at (omega (arith, is))
+
+pub drop_on : (fields : List Field) (from n at : ℕ) → from + n ≡ at → drop at fields ≡ drop n (drop from fields)
+drop_on fields from n at is = ap (λ k. drop k fields) (sym is) ∙ sym (drop-drop n from fields)

@@ -18,30 +18,27 @@ use Rattle.std.proofs.lemmas.Option.{option_and_then_some}
 
 -- ---- what the fields of a rank are
 
-pub no_name : (schema : Declared) (fields : List Field) → None ≡ field_at fields 1 → None ≡ rank_total schema (drop 1 fields)
+pub no_name : (schema : Declared) (fields : List Field) → None ≡ field_at fields 0 → None ≡ rank_total schema fields
 unfolding field_at
 no_name schema [] none = refl
-no_name schema (f ∷ []) none = refl
-no_name schema (f ∷ name ∷ fields) none = absurd (none_is_some name none)
+no_name schema (name ∷ fields) none = absurd (none_is_some name none)
 
-pub no_number : (schema : Declared) (fields : List Field) → None ≡ field_at fields 2 → None ≡ rank_total schema (drop 1 fields)
+pub no_number : (schema : Declared) (fields : List Field) → None ≡ field_at fields 1 → None ≡ rank_total schema fields
 unfolding field_at
 no_number schema [] none = refl
-no_number schema (f ∷ []) none = refl
-no_number schema (f ∷ name ∷ []) none = refl
-no_number schema (f ∷ name ∷ number ∷ fields) none = absurd (none_is_some number none)
+no_number schema (name ∷ []) none = refl
+no_number schema (name ∷ number ∷ fields) none = absurd (none_is_some number none)
 
 -- a rank by what its column and its number are
 abbrev pub found_rank : Option ℕ → Option ℕ → List Field → Option (Total × List Field)
 found_rank place number rest = option_and_then (λ c. option_map (λ rank. (Rank c rank, rest)) number) place
 
-pub named_rank : (schema : Declared) (fields : List Field) (name number : Field) → Some name ≡ field_at fields 1 → Some number ≡ field_at fields 2
-    → found_rank (position_of schema.columns name) (spelled_number number) (drop 3 fields) ≡ rank_total schema (drop 1 fields)
+pub named_rank : (schema : Declared) (fields : List Field) (name number : Field) → Some name ≡ field_at fields 0 → Some number ≡ field_at fields 1
+    → found_rank (position_of schema.columns name) (spelled_number number) (drop 2 fields) ≡ rank_total schema fields
 unfolding field_at
 named_rank schema [] name number at second = absurd (none_is_some name (sym at))
-named_rank schema (f ∷ []) name number at second = absurd (none_is_some name (sym at))
-named_rank schema (f ∷ g ∷ []) name number at second = absurd (none_is_some number (sym second))
-named_rank schema (f ∷ g ∷ h ∷ fields) name number at second =
+named_rank schema (g ∷ []) name number at second = absurd (none_is_some number (sym second))
+named_rank schema (g ∷ h ∷ fields) name number at second =
     ap (λ n. found_rank (position_of schema.columns n) (spelled_number number) fields) (some_same name g at)
     ∙ ap (λ n. found_rank (position_of schema.columns g) (spelled_number n) fields) (some_same number h second)
 

@@ -12,7 +12,7 @@ mod setups;
 
 pub use lines::{write_bad, write_fed, write_reply};
 pub use numbers::{read_entry, read_number, read_signed, read_value};
-pub use predicates::MAX_PREDICATE_FIELDS;
+pub use predicates::{MAX_PREDICATE_FIELDS, read_predicate};
 pub use queries::read_query;
 pub use questions::{MAX_GROUP_COLUMNS, read_question};
 pub use records::{field, read_event, read_row};

@@ -34,7 +34,7 @@ pub(crate) enum Pending {
 
 /// Reads the fields of a record from a place on as a predicate. It returns `None` if they spell no predicate or are
 /// more than 1,000. It allocates memory for each part of the predicate.
-pub(crate) fn read_predicate(
+pub fn read_predicate(
     alloc: Global,
     schema: &Schema,
     fields: &ByteRecord,

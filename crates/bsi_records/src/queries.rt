@@ -21,7 +21,7 @@ pub fn read_query(
 ) -> Result<Option<Query>, NoMemory>
     ensures { IfOk result (IsReadAs (IsQuery schema.now (fields_of fields.now))) }
 {
-    let Some((total, from)) = read_total(schema, fields) else {
+    let Some((total, from)) = read_total(schema, fields, 0) else {
         return Ok(None);
     };
     let Some(pred) = read_plain_predicate(alloc, schema, fields, from)? else {
@@ -30,22 +30,26 @@ pub fn read_query(
     Ok(Some(Query { total, pred }))
 }
 
-/// Reads the total that a record asks for, and returns it with the place where the predicate begins.
-pub(crate) fn read_total(schema: &Schema, fields: &ByteRecord) -> Option<(Total, usize)>
-    ensures { option_map (λ (total, from). (total, drop from (fields_of fields.now))) result
-        ≡ total_of schema.now (fields_of fields.now) }
+/// Reads the total that the fields from a place on ask for, and returns it with the place where the predicate begins.
+pub(crate) fn read_total(
+    schema: &Schema,
+    fields: &ByteRecord,
+    from: usize,
+) -> Option<(Total, usize)>
+    ensures { option_map (λ (total, rest). (total, drop rest (fields_of fields.now))) result
+        ≡ total_of schema.now (drop from (fields_of fields.now)) }
 {
-    let word = fields.get(0)?;
+    let word = fields.get(from)?;
     if word == b"count".as_slice() {
-        return Some((Total::Count, 1));
+        return Some((Total::Count, from + 1));
     }
     if word == b"list".as_slice() {
-        return Some((Total::Rows, 1));
+        return Some((Total::Rows, from + 1));
     }
-    let name = fields.get(1)?;
+    let name = fields.get(from + 1)?;
     let c = schema.find(name)?;
     let total = read_column_total(word, c)?;
-    Some((total, 2))
+    Some((total, from + 2))
 }
 
 /// Reads the word of a total of column `c`.

@@ -16,44 +16,45 @@ use std::alloc::Global;
 /// The most columns of groups.
 pub const MAX_GROUP_COLUMNS: usize = 64;
 
-/// Reads a record as a question: a query as `read_query` reads it, in which a comparison may have the name of a second
-/// column in place of the number, or `rank`, a column, a number from 0, and then the fields of a predicate. `None`
-/// stands for a record that is no question. It allocates memory for each part of the predicate.
+/// Reads the fields of a record from a place on as a question: a query as `read_query` reads it, in which a comparison
+/// may have the name of a second column in place of the number, or `rank`, a column, a number from 0, and then the fields
+/// of a predicate. `None` stands for fields that are no question. It allocates memory for each part of the predicate.
 pub fn read_question(
     alloc: Global,
     schema: &Schema,
     fields: &ByteRecord,
+    from: usize,
 ) -> Result<Option<Query>, NoMemory>
-    ensures { IfOk result (IsReadAs (IsQuestion schema.now (fields_of fields.now))) }
+    ensures { IfOk result (IsReadAs (IsQuestion schema.now (drop from (fields_of fields.now)))) }
 {
-    let Some((total, from)) = read_asked(schema, fields) else {
+    let Some((total, rest)) = read_asked(schema, fields, from) else {
         return Ok(None);
     };
-    let Some(pred) = read_predicate(alloc, schema, fields, from)? else {
+    let Some(pred) = read_predicate(alloc, schema, fields, rest)? else {
         return Ok(None);
     };
     Ok(Some(Query { total, pred }))
 }
 
-/// Reads the total that a record asks for, and returns it with the place where the predicate begins.
-fn read_asked(schema: &Schema, fields: &ByteRecord) -> Option<(Total, usize)>
-    ensures { option_map (λ (total, from). (total, drop from (fields_of fields.now))) result
-        ≡ asked_total schema.now (fields_of fields.now) }
+/// Reads the total that the fields from a place on ask for, and returns it with the place where the predicate begins.
+fn read_asked(schema: &Schema, fields: &ByteRecord, from: usize) -> Option<(Total, usize)>
+    ensures { option_map (λ (total, rest). (total, drop rest (fields_of fields.now))) result
+        ≡ asked_total schema.now (drop from (fields_of fields.now)) }
 {
-    if fields.get(0)? == b"rank".as_slice() {
-        return read_rank(schema, fields);
+    if fields.get(from)? == b"rank".as_slice() {
+        return read_rank(schema, fields, from + 1);
     }
-    read_total(schema, fields)
+    read_total(schema, fields, from)
 }
 
-/// Reads the column and the number of a rank, and returns it with the place where the predicate begins.
-fn read_rank(schema: &Schema, fields: &ByteRecord) -> Option<(Total, usize)>
-    ensures { option_map (λ (total, from). (total, drop from (fields_of fields.now))) result
-        ≡ rank_total schema.now (drop 1 (fields_of fields.now)) }
+/// Reads the column and the number of a rank from a place on, and returns it with the place where the predicate begins.
+fn read_rank(schema: &Schema, fields: &ByteRecord, from: usize) -> Option<(Total, usize)>
+    ensures { option_map (λ (total, rest). (total, drop rest (fields_of fields.now))) result
+        ≡ rank_total schema.now (drop from (fields_of fields.now)) }
 {
-    let name = fields.get(1)?;
-    let number = fields.get(2)?;
+    let name = fields.get(from)?;
+    let number = fields.get(from + 1)?;
     let c = schema.find(name)?;
     let rank = read_number(number)?;
-    Some((Total::Rank(c, rank), 3))
+    Some((Total::Rank(c, rank), from + 2))
 }
