@@ -7,14 +7,16 @@ use Rattle.bsi_rows.specs.Table.{Table}
 use Rattle.bsi_schema.specs.Columns.{Declared}
 use Rattle.bsi_asks.specs.RowFiles.{FedCounts}
 use Rattle.bsi_asks.specs.Runs.{fed_lines, HasLoaded}
+use Rattle.bsi_asks.specs.declared.faults.FilesFault.TheVariants.{Write}
 use Rattle.bsi_reading.specs.SchemaTexts.{IsSchemaText}
+use Rattle.bsi_reading.specs.Waiting.{IsCut}
 use Rattle.bsi_saved.specs.Saved.{kept_file, MayBeKept}
 use Rattle.bsi_saved.specs.declared.fault.OpenFault.TheVariants.{OtherVersion}
 use Rattle.bsi_store.specs.Asked.{IsKeptIn}
 use Rattle.bsi_store.specs.Faults.{IsFileFault}
 use Rattle.bsi_store.specs.declared.fault.FileFault.TheVariants.{InUse, TooManyFiles}
 use Rattle.bsi_store.specs.declared.fault.StoreFault.{StoreFault}
-use Rattle.bsi_store.specs.declared.fault.StoreFault.TheVariants.{Unusable}
+use Rattle.bsi_store.specs.declared.fault.StoreFault.TheVariants.{Run, Unusable}
 use Rattle.bsi_store.specs.Lines.{count_line}
 
 -- the line of each row file, and how many rows they gave, behind this word
@@ -90,3 +92,8 @@ IsAddFault rem so_far count fault = IsMet rem fault ⊎ IsTooMany rem so_far cou
 -- a text, put after what a writer held, tells what happened
 abbrev pub Tells : (Option (List ℕ) → Option (List ℕ) → Type 0) → List ℕ → Type 0
 Tells Happened text = (before after : Option (List ℕ)) → Appends before after text → Happened before after
+
+-- what a fault leaves of an output: it is as it was, or all happened, and not all of the text that tells it could be put there
+abbrev pub LeavesTold : (Option (List ℕ) → Option (List ℕ) → Type 0) → StoreFault → Option (List ℕ) → Option (List ℕ) → Type 0
+LeavesTold Happened fault before after =
+    (after ≡ before) ⊎ ((fault ≡ Run Write) × (text : List ℕ) × Tells Happened text × IsCut before after text)

@@ -7,7 +7,7 @@ ghost use Rattle.bsi_asks.specs.Runs.{HasLoaded};
 ghost use Rattle.bsi_rows.specs.Table.{max_feeders, no_rows, with_rows};
 ghost use Rattle.bsi_saved.specs.Faults.{MayFollow};
 ghost use Rattle.bsi_saved.specs.Saved.{kept_file, max_notes, MayBeKept};
-ghost use Rattle.bsi_adding.specs.Loads.{HasAdded, IsAddFault, IsMet, IsOfNoBytes, IsReadOf};
+ghost use Rattle.bsi_adding.specs.Loads.{HasAdded, IsAddFault, IsMet, IsOfNoBytes, IsReadOf, LeavesTold, Tells};
 ghost use Rattle.std.specs.List.{Contains};
 ghost use Rattle.bsi_store.specs.Faults.{IsFileFault, Names};
 ghost use Rattle.bsi_table.specs.Index.{table_of};
@@ -55,6 +55,29 @@ pub fn add_rows<
         (IsAddFault S.remaining paths.now.so_far (length paths.now.rows.items)) }
     ensures named { IfErr result
         (Names (λ named. (named ≡ paths.now.kept) ⊎ Contains paths.now.rows.items named)) }
+    ensures part { IfErr result (λ fault. LeavesTold
+        (HasAdded S.remaining S.contents paths.now.so_far (length paths.now.rows.items)) fault
+        (O.contents output.old) (O.contents output.new)) }
+{
+    let text = add_untold(rt, paths, gate)?;
+    write_bytes(output, text.as_slice())?;
+    Ok(())
+}
+
+/// Adds rows as `add_rows` does, and returns the lines that tell of it.
+fn add_untold<
+    'a,
+    R: AllocGlobal + Files<File = S> + Threads + Wait + Sync,
+    S: Read + Write + OpenFile + LockFile + Drop + Send,
+    G: Gate + Stopping + Sync,
+>(rt: &R, paths: &AddPaths<'a>, gate: &G) -> Result<Vec<u8>, StoreFault<'a>>
+    requires { G.STOPS ≡ false }
+    ensures added { IfOk result (λ text. Tells (HasAdded S.remaining S.contents
+        paths.now.so_far (length paths.now.rows.items)) text.items) }
+    ensures fault { IfErr result
+        (IsAddFault S.remaining paths.now.so_far (length paths.now.rows.items)) }
+    ensures named { IfErr result
+        (Names (λ named. (named ≡ paths.now.kept) ⊎ Contains paths.now.rows.items named)) }
 {
     let mut file = open_to_add(rt, paths.kept)?;
     let kept = read_to_add(rt.alloc(), paths.kept, &mut file, paths.so_far)?;
@@ -67,8 +90,7 @@ pub fn add_rows<
     let kept = look_again(rt.alloc(), paths.kept, kept, &mut file, paths.so_far)?;
     check_room(paths.kept, &kept.index, &more.table)?;
     put_segment(rt.alloc(), paths.kept, &kept, &more.table, &mut file)?;
-    write_bytes(output, text.as_slice())?;
-    Ok(())
+    Ok(text)
 }
 
 /// Reads the index that a file keeps, as `read_kept` does. It refuses segments of another version behind it, which are

@@ -1,7 +1,7 @@
 //! Row files that become a kept index.
 
 ghost use Rattle.std.specs.Prelude.{◌≡◌, ◌<◌, ◌⊎◌, IfErr, IfOk, OnOk, false, length};
-ghost use Rattle.bsi_adding.specs.Loads.{HasSaved, IsMet, IsOfNoBytes, Tells};
+ghost use Rattle.bsi_adding.specs.Loads.{HasSaved, IsMet, IsOfNoBytes, LeavesTold, Tells};
 ghost use Rattle.std.specs.List.{Contains};
 ghost use Rattle.bsi_store.specs.Faults.{Names};
 
@@ -50,6 +50,9 @@ pub fn save_rows<
     ensures fault { IfErr result (IsMet S.remaining) }
     ensures named { IfErr result (Names (λ named. (named ≡ paths.now.schema)
         ⊎ ((named ≡ paths.now.to) ⊎ Contains paths.now.rows.items named))) }
+    ensures part { IfErr result (λ fault. LeavesTold
+        (HasSaved S.remaining S.contents (length paths.now.rows.items)) fault
+        (O.contents output.old) (O.contents output.new)) }
 {
     let schema = open_one(rt, paths.schema)?;
     let rows = open_each(rt, &paths.rows)?;

@@ -10,6 +10,7 @@ use Rattle.bsi_asks.specs.Matching.{AreMatched}
 use Rattle.bsi_asks.specs.Writing.{WritesAll, WritesFirst}
 use Rattle.bsi_store.specs.declared.fault.StoreFault.{StoreFault}
 use Rattle.bsi_store.specs.declared.fault.StoreFault.TheVariants.{Run}
+use Rattle.bsi_asks.specs.declared.faults.FilesFault.TheVariants.{Write}
 use Rattle.bsi_saved.specs.Faults.{IsOpened}
 use Rattle.bsi_saved.specs.declared.fault.OpenFault.{OpenFault}
 use Rattle.bsi_saved.specs.declared.fault.OpenFault.TheVariants.{Read, NoMemory}
@@ -55,3 +56,7 @@ pub record HasShown {S : Type 0} (rem : S → Option (List ℕ)) (before after :
   pub sizes : List ℕ
   pub written : Appends before after
       (text ++ (count_line (codes "feeders") table.feeders ++ (count_line (codes "rows") (length table.rows) ++ sizes)))
+
+-- what a fault leaves of what a kept index is: the output is as it was, unless it could not be written
+abbrev pub LeavesShown : StoreFault → Option (List ℕ) → Option (List ℕ) → Type 0
+LeavesShown fault before after = (after ≡ before) ⊎ (fault ≡ Run Write)

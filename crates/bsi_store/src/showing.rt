@@ -2,7 +2,7 @@
 
 ghost use Rattle.std.specs.Prelude.{◌≡◌, ℕ, IfErr, List, OnOk};
 ghost use Rattle.std.specs.Io.KnownBytes.{Appends};
-ghost use Rattle.bsi_store.specs.Asked.{HasShown};
+ghost use Rattle.bsi_store.specs.Asked.{HasShown, LeavesShown};
 ghost use Rattle.bsi_store.specs.Faults.{IsOfFile, Names};
 
 use crate::StoreFault;
@@ -25,6 +25,8 @@ pub fn show_index<'a, R: AllocGlobal + Files<File = S>, S: Read + LockFile + Dro
         (HasShown S.remaining (O.contents output.old) (O.contents output.new)) }
     ensures named { IfErr result (Names (λ named. named ≡ path.entry)) }
     ensures fault { IfErr result (IsOfFile S.remaining) }
+    ensures part { IfErr result (λ fault. LeavesShown fault
+        (O.contents output.old) (O.contents output.new)) }
 {
     let opened = open_kept(rt, path, false)?;
     let index = &opened.index;

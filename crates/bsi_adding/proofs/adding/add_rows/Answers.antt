@@ -1,54 +1,9 @@
-use Rattle.std.proofs.Common.{◌≡◌, ℕ, List, ap, length, map, refl, subst, sym, ◌∙◌}
+use Rattle.std.proofs.Common.{ℕ, List, subst}
 use Rattle.std.specs.Io.KnownBytes.{Appends}
-use Rattle.bsi_asks.specs.RowFiles.{fed_counts}
-use Rattle.bsi_asks.specs.Runs.{HasLoaded}
-use Rattle.bsi_rows.specs.Table.{Table}
-use Rattle.bsi_saved.specs.Faults.{MayFollow}
-use Rattle.bsi_saved.specs.Saved.{kept_file, MayBeKept}
-use Rattle.bsi_schema.specs.Columns.{Declared}
-use Rattle.bsi_adding.specs.Loads.{IsReadOf}
 use Rattle.bsi_adding.proofs.adding.add_rows.Goals as goal
-use Rattle.bsi_table.specs.Index.{table_of}
-
-pub put_segment-requires : goal.put_segment-requires
-put_segment-requires g c = c.in_ok-kept-2.ensures.few c.in_ok-kept.ensures.few
 
 pub returns-clause-added : goal.returns-clause-added
 returns-clause-added g c =
-    let first = c.in_ok-kept.kept in
-    let kept = c.in_ok-kept-2.kept in
-    let more = c.in_ok-more.more in
     let before = g.O.Write.contents c.args.output.now in
     let after = g.O.Write.contents c.write_bytes.new.writer in
-    let counts = map fed_counts more.fed.items in
-    let table = table_of more.table in
-    let read : IsReadOf g.S.Read.remaining c.args.paths.now.so_far (table_of kept.index) kept.notes.items (g.S.Read.remaining c.look_again.new.file) =
-    c.in_ok-kept-2.ensures.read c.in_ok-kept.ensures.read in
-    let follows : MayFollow (table_of kept.index) table = c.in_ok-check_room.ensures.follows in
-    let schema_is : first.index.schema ≡ kept.index.schema = sym c.in_ok-more.ensures.schema ∙ follows.schema in
-    let limit_is : first.index.limit ≡ kept.index.limit = sym c.in_ok-more.ensures.limit ∙ follows.limit in
-    record {
-      kept = table_of kept.index;
-      opened = read.kept;
-      ours = read.ours;
-      more = table;
-      feeders_are = follows.feeders;
-      within = follows.within;
-      added = record {
-        files = c.in_ok-rows.rows.items;
-        many = c.in_ok-rows.ensures.many ∙ ap length c.deref.ensures.value;
-        counts = counts;
-        schema_is = follows.schema;
-        limit_is = follows.limit;
-        loaded = λ texts are. subst (λ (n : ℕ). HasLoaded kept.index.schema n texts table.rows counts) limit_is
-            (subst (λ (s : Declared). HasLoaded s first.index.limit texts table.rows counts) schema_is (c.in_ok-more.ensures.rows texts are));
-        old = c.look_again.new.file;
-        new = c.put_segment.new.file;
-        kept = subst (λ (notes : List ℕ). MayBeKept table notes) (sym read.notes_are) c.in_ok-put_segment.ensures.keeps;
-        given = subst (λ (notes : List ℕ). Appends (g.S.Write.contents c.look_again.new.file) (g.S.Write.contents c.put_segment.new.file) (kept_file table notes))
-            (sym read.notes_are) c.in_ok-put_segment.ensures.put;
-        lines = subst (λ (bytes : List ℕ). Appends before after bytes) c.in_ok-text.ensures
-            (subst (λ (bytes : List ℕ). Appends before after bytes) c.as_slice.ensures.value c.in_ok-write_bytes.ensures.ok);
-      };
-      same = sym read.left_is;
-    }
+    c.in_ok-text.ensures.added before after (subst (λ (bytes : List ℕ). Appends before after bytes) c.as_slice.ensures.value c.in_ok-write_bytes.ensures.ok)
