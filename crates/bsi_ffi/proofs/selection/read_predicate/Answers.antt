@@ -6,4 +6,4 @@ use Rattle.bsi_ffi.proofs.selection.read_predicate.Goals as goal
 
 pub returns : goal.returns
 returns c =
-    subst (λ (fields : List (List ℕ)). IfOk c.read_predicate.result (IsReadAs (IsPredicate c.args.schema.now fields))) c.in_ok-fields.ensures c.read_predicate.ensures
+    subst (λ (fields : List (List ℕ)). IfOk c.read_predicate.result (IsReadAs (IsPredicate c.args.schema.now fields))) c.in_ok-fields.ensures.fields c.read_predicate.ensures
