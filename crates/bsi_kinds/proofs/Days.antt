@@ -1,14 +1,13 @@
 -- Days of the calendar, and what spells them.
-use Rattle.std.proofs.Common.{◌≡◌, ℕ, ◌+◌, ◌^◌, ◌<◌, ◌≤◌, min, true, false, cond, not, ◌&&◌, ◌==◌, List, [], ◌∷◌, ◌++◌, length, take, drop, ◌∙◌, ap, ap₂, arith, sym, refl, subst, le-ltb, nat_le, if◌then◌else◌, ℤ, pos, negsuc, unsigned_abs, int_lt, ◌≤ℤ◌, Option, Some, None, option_map, option_and_then, Result, Ok, Err, IfOk, FitsSigned, neg_ℤ}
+use Rattle.std.proofs.Common.{◌≡◌, ℕ, ◌^◌, ◌<◌, ◌≤◌, min, true, false, not, ◌&&◌, ◌==◌, List, [], ◌∷◌, ◌++◌, length, ◌∙◌, ap, ap₂, arith, sym, refl, subst, le-ltb, nat_le, if◌then◌else◌, ℤ, pos, negsuc, unsigned_abs, int_lt, ◌≤ℤ◌, Option, Some, None, option_map, option_and_then, Result, Ok, Err, IfOk, FitsSigned, neg_ℤ}
 use mir.Val.{of_z, to_z}
 use Rattle.std.specs.Int.{w8, w16, w32, w64}
 use Rattle.std.specs.Result.{result_ok}
 use Rattle.std.proofs.Math.Nat.{mod-eq_of_lt, pow-le-pow_right}
-use Rattle.std.proofs.Math.Seq.{drop-append-add}
-use Rattle.std.proofs.lemmas.Bool.{and_from, and_parts, cond_both, le-leb, ne_eqb}
+use Rattle.std.proofs.lemmas.Bool.{and_from, cond_both, le-leb, ne_eqb}
 use Rattle.std.proofs.lemmas.Int.{ints, to_z-of_z}
 use Rattle.std.specs.Char.{is_ascii_digit}
-use Rattle.std.specs.List.{list_all, position_or_len}
+use Rattle.std.specs.List.{list_all}
 use Rattle.std.specs.Str.Parse.{digits_value, digits_value_after}
 use Rattle.jiff_core.specs.Calendar.{days_from_civil, days_in_month, is_leap_year}
 use Rattle.jiff_core.specs.Date.{epoch_day, IsYmd}
@@ -19,6 +18,7 @@ use Rattle.bsi_kinds.specs.Texts.{last_digits}
 use Rattle.bsi_kinds.specs.declared.date.DateForm.{DateForm}
 use Rattle.bsi_kinds.specs.declared.date.DateOrder.{DateOrder}
 use Rattle.bsi_kinds.specs.declared.date.DateOrder.TheVariants.{YearFirst}
+use Rattle.bsi_kinds.proofs.Cuts.{after_is, before_is, digits_lack, Lacks}
 use Rattle.bsi_kinds.proofs.Scans.{digit_range, some_if, value_below}
 use Rattle.bsi_kinds.proofs.Writing.{last_all, last_value, length_last}
 
@@ -114,25 +114,17 @@ cast_twice n w v bound first second =
 -- ---- a date that is written is read again
 
 -- the sign stands behind the digits
-minus_apart : (d : ℕ) → is_ascii_digit d ≡ true → (d == 45) ≡ false
-minus_apart d is = let range = digit_range d is in ne_eqb d 45 (λ e. omega arith)
+minus_apart : (d : ℕ) → is_ascii_digit d ≡ true → not (d == 45) ≡ true
+minus_apart d is = let range = digit_range d is in ap not (ne_eqb d 45 (λ e. omega arith))
 
-minus_place : (ds rest : List ℕ) → list_all is_ascii_digit ds ≡ true → position_or_len (λ byte. byte == 45) (ds ++ 45 ∷ rest) ≡ length ds
-minus_place [] rest all = refl
-minus_place (d ∷ ds) rest all =
-    let parts = and_parts (is_ascii_digit d) (list_all is_ascii_digit ds) all in
-    let more = minus_place ds rest parts.1 in
-    ap (λ b. cond (not b) (1 + position_or_len (λ byte. byte == 45) (ds ++ 45 ∷ rest)) 0) (minus_apart d parts.0) ∙ omega (arith, more)
-
-take_front : (xs ys : List ℕ) → take (length xs) (xs ++ ys) ≡ xs
-take_front [] ys = refl
-take_front (x ∷ xs) ys = ap (λ l. x ∷ l) (take_front xs ys)
+no_minus : (ds : List ℕ) → list_all is_ascii_digit ds ≡ true → Lacks (λ byte. byte == 45) ds
+no_minus ds all = digits_lack (λ byte. byte == 45) minus_apart ds all
 
 before_minus : (ds rest : List ℕ) → list_all is_ascii_digit ds ≡ true → whole_part 45 (ds ++ 45 ∷ rest) ≡ ds
-before_minus ds rest all = ap (λ k. take k (ds ++ 45 ∷ rest)) (minus_place ds rest all) ∙ take_front ds (45 ∷ rest)
+before_minus ds rest all = before_is (λ byte. byte == 45) ds rest 45 (no_minus ds all) refl
 
 behind_minus : (ds rest : List ℕ) → list_all is_ascii_digit ds ≡ true → fraction 45 (ds ++ 45 ∷ rest) ≡ rest
-behind_minus ds rest all = ap (λ k. drop (k + 1) (ds ++ 45 ∷ rest)) (minus_place ds rest all) ∙ drop-append-add ds (45 ∷ rest) 1
+behind_minus ds rest all = after_is (λ byte. byte == 45) ds rest 45 (no_minus ds all) refl
 
 -- the last digits of a small number are the number
 pub part_text : (least k n : ℕ) → least ≤ k → n < 10 ^ k → part_of least k (last_digits k n) ≡ Some n

@@ -1,5 +1,6 @@
 pub mod Clocks
 pub mod Comparing
+pub mod Cuts
 pub mod Cutting
 pub mod Days
 pub mod Entering

@@ -1,19 +1,19 @@
 -- What is written is read again.
-use Rattle.std.proofs.Common.{◌≡◌, ℕ, suc, ◌+◌, ◌*◌, ◌/◌, ◌%◌, ◌^◌, ◌<◌, inl, inr, true, false, cond, not, ◌==◌, List, [], ◌∷◌, ◌++◌, length, take, drop, ◌∙◌, ap, ap₂, arith, sym, refl, length-append, lt-ltb, le-ltb, eq-eqb, decimal, nat_lt, if◌then◌else◌, ℤ, pos, negsuc, unsigned_abs, Some, None, option_map}
-use Rattle.std.proofs.Math.Seq.{drop-append-add}
-use Rattle.std.proofs.Math.ListN.{drop_of_length-le}
+use Rattle.std.proofs.Common.{◌≡◌, ℕ, suc, ◌+◌, ◌*◌, ◌/◌, ◌%◌, ◌^◌, ◌<◌, inl, inr, true, false, not, ◌==◌, List, [], ◌∷◌, ◌++◌, length, ◌∙◌, ap, ap₂, arith, sym, refl, length-append, lt-ltb, le-ltb, eq-eqb, decimal, nat_lt, if◌then◌else◌, ℤ, pos, negsuc, unsigned_abs, Some, None, option_map}
 use Rattle.std.proofs.Math.Nat.{div-le_self, mod-mod}
 use Rattle.std.proofs.lemmas.Nat.{div-add-mod'}
 use Rattle.std.proofs.lemmas.Bool.{and_from, and_parts, cases_eq, le-leb, ne_eqb}
 use Rattle.std.proofs.lemmas.Fmt.{decimal_is_IsNumeral_wide}
+use Rattle.std.proofs.lemmas.List.{append-nil}
 use Rattle.std.proofs.lemmas.List.Folds.{list_all-append}
 use Rattle.std.proofs.lemmas.Str.Parse.{digit_from_value}
 use Rattle.std.specs.Char.{is_ascii_digit}
-use Rattle.std.specs.List.{list_all, position_or_len}
+use Rattle.std.specs.List.{list_all}
 use Rattle.std.specs.Option.{option_or}
 use Rattle.std.specs.Str.Parse.{digits_value, digits_value_after, AllDigits}
 use Rattle.bsi_kinds.specs.Decimals.{begins_minus, decimal_at, decimal_of, digits_of, fraction, mantissa_of, negative, positive, raised_digits_of, whole_part, without_minus}
 use Rattle.bsi_kinds.specs.Texts.{decimal_text, last_digits, places_text, sign_text, units_text}
+use Rattle.bsi_kinds.proofs.Cuts.{after_is, after_none, before_is, before_none, digits_lack, Lacks}
 use Rattle.bsi_kinds.proofs.Scaling.{value_after_is}
 use Rattle.bsi_kinds.proofs.Scanning.{value_after-append}
 use Rattle.bsi_kinds.proofs.Scans.{digit_range, digits_from}
@@ -27,38 +27,14 @@ digits_pass (d ∷ ds) all =
     and_from _ _ (and_from _ _ (le-leb 48 d (omega arith)) (le-leb d 57 (omega arith))) (digits_pass ds all.1)
 
 -- no digit is a point or a minus sign
-no_point_byte : (d : ℕ) → is_ascii_digit d ≡ true → (d == 46) ≡ false
-no_point_byte d is = let range = digit_range d is in ne_eqb d 46 (λ e. omega arith)
+no_point_byte : (d : ℕ) → is_ascii_digit d ≡ true → not (d == 46) ≡ true
+no_point_byte d is = let range = digit_range d is in ap not (ne_eqb d 46 (λ e. omega arith))
+
+no_point : (ds : List ℕ) → list_all is_ascii_digit ds ≡ true → Lacks (λ byte. byte == 46) ds
+no_point ds all = digits_lack (λ byte. byte == 46) no_point_byte ds all
 
 no_minus_byte : (d : ℕ) → is_ascii_digit d ≡ true → (d == 45) ≡ false
 no_minus_byte d is = let range = digit_range d is in ne_eqb d 45 (λ e. omega arith)
-
--- the first point stands behind the digits
-point_place : (ds rest : List ℕ) → list_all is_ascii_digit ds ≡ true → position_or_len (λ byte. byte == 46) (ds ++ 46 ∷ rest) ≡ length ds
-point_place [] rest all = refl
-point_place (d ∷ ds) rest all =
-    let parts = and_parts (is_ascii_digit d) (list_all is_ascii_digit ds) all in
-    let more = point_place ds rest parts.1 in
-    ap (λ b. cond (not b) (1 + position_or_len (λ byte. byte == 46) (ds ++ 46 ∷ rest)) 0) (no_point_byte d parts.0) ∙ omega (arith, more)
-
-no_point : (ds : List ℕ) → list_all is_ascii_digit ds ≡ true → position_or_len (λ byte. byte == 46) ds ≡ length ds
-no_point [] all = refl
-no_point (d ∷ ds) all =
-    let parts = and_parts (is_ascii_digit d) (list_all is_ascii_digit ds) all in
-    let more = no_point ds parts.1 in
-    ap (λ b. cond (not b) (1 + position_or_len (λ byte. byte == 46) ds) 0) (no_point_byte d parts.0) ∙ omega (arith, more)
-
-take_front : (xs ys : List ℕ) → take (length xs) (xs ++ ys) ≡ xs
-take_front [] ys = refl
-take_front (x ∷ xs) ys = ap (λ l. x ∷ l) (take_front xs ys)
-
-append_none : (xs : List ℕ) → xs ++ [] ≡ xs
-append_none [] = refl
-append_none (x ∷ xs) = ap (λ l. x ∷ l) (append_none xs)
-
-take_whole : (xs : List ℕ) → take (length xs) xs ≡ xs
-take_whole [] = refl
-take_whole (x ∷ xs) = ap (λ l. x ∷ l) (take_whole xs)
 
 -- digits in two parts
 from_parts : (whole part : List ℕ) → 0 < length whole → list_all is_ascii_digit whole ≡ true → list_all is_ascii_digit part ≡ true
@@ -71,19 +47,17 @@ from_parts whole part some first second =
 with_point : (whole part : List ℕ) → 0 < length whole → list_all is_ascii_digit whole ≡ true → list_all is_ascii_digit part ≡ true
     → mantissa_of 46 (whole ++ 46 ∷ part) ≡ Some (record { value = digits_value 10 (whole ++ part); places = length part })
 with_point whole part some first second =
-    let place = point_place whole part first in
-    let before : whole_part 46 (whole ++ 46 ∷ part) ≡ whole = ap (λ k. take k (whole ++ 46 ∷ part)) place ∙ take_front whole (46 ∷ part) in
-    let behind : fraction 46 (whole ++ 46 ∷ part) ≡ part = ap (λ k. drop (k + 1) (whole ++ 46 ∷ part)) place ∙ drop-append-add whole (46 ∷ part) 1 in
+    let before : whole_part 46 (whole ++ 46 ∷ part) ≡ whole = before_is (λ byte. byte == 46) whole part 46 (no_point whole first) refl in
+    let behind : fraction 46 (whole ++ 46 ∷ part) ≡ part = after_is (λ byte. byte == 46) whole part 46 (no_point whole first) refl in
     ap₂ (λ w f. digits_from w f) before behind ∙ from_parts whole part some first second
 
 without_point : (whole : List ℕ) → 0 < length whole → list_all is_ascii_digit whole ≡ true
     → mantissa_of 46 whole ≡ Some (record { value = digits_value 10 whole; places = 0 })
 without_point whole some first =
-    let place = no_point whole first in
-    let before : whole_part 46 whole ≡ whole = ap (λ k. take k whole) place ∙ take_whole whole in
-    let behind : fraction 46 whole ≡ [] = ap (λ k. drop (k + 1) whole) place ∙ drop_of_length-le whole (omega arith) in
+    let before : whole_part 46 whole ≡ whole = before_none (λ byte. byte == 46) whole (no_point whole first) in
+    let behind : fraction 46 whole ≡ [] = after_none (λ byte. byte == 46) whole (no_point whole first) in
     ap₂ (λ w f. digits_from w f) before behind ∙ from_parts whole [] some first refl
-    ∙ ap (λ ds. Some (record { value = digits_value 10 ds; places = 0 })) (append_none whole)
+    ∙ ap (λ ds. Some (record { value = digits_value 10 ds; places = 0 })) (append-nil whole)
 
 -- units as text spell the number at as many places
 module _ (p m : ℕ) (small : m < 10 ^ 64) where
@@ -109,7 +83,7 @@ module _ (p m : ℕ) (small : m < 10 ^ 64) where
     | inl none ↦ (
         let tail : places_text p (m % 10 ^ p) ≡ [] = ap (λ b. if b then [] else 46 ∷ last_digits p (m % 10 ^ p)) (eq-eqb p 0 none) in
         let whole : m / 10 ^ p ≡ m = ap (λ k. m / 10 ^ k) none ∙ omega arith in
-        ap (λ t. mantissa_of 46 (decimal (m / 10 ^ p) ++ t)) tail ∙ ap (mantissa_of 46) (append_none (decimal (m / 10 ^ p)))
+        ap (λ t. mantissa_of 46 (decimal (m / 10 ^ p) ++ t)) tail ∙ ap (mantissa_of 46) (append-nil (decimal (m / 10 ^ p)))
         ∙ without_point (decimal (m / 10 ^ p)) front_is.1 front_is.0
         ∙ ap₂ (λ v k. Some (record { value = v; places = k })) (front_is.2 ∙ whole) (sym none))
     | inr some ↦ (

@@ -1,16 +1,13 @@
 -- A time that is written is read again.
-use Rattle.std.proofs.Common.{◌≡◌, ℕ, ◌+◌, ◌*◌, ◌^◌, ◌<◌, ◌≤◌, inl, inr, Bool, true, false, cond, not, ◌&&◌, ◌==◌, List, [], ◌∷◌, ◌++◌, length, take, drop, Option, Some, None, MatchOption, option_map, option_and_then, ℤ, pos, ◌+ℤ◌, ◌-ℤ◌, ◌*ℤ◌, ◌≤ℤ◌, int_lt, unsigned_abs, ◌∙◌, ap, ap₂, arith, sym, refl, subst, eq-eqb, lt-ltb, nat_lt, append_assoc, if◌then◌else◌}
-use Rattle.std.proofs.Math.ListN.{drop_of_length-le}
+use Rattle.std.proofs.Common.{◌≡◌, ℕ, ◌+◌, ◌*◌, ◌^◌, ◌<◌, ◌≤◌, inl, inr, Bool, true, false, not, ◌&&◌, ◌==◌, List, [], ◌∷◌, ◌++◌, length, Option, Some, None, MatchOption, option_map, option_and_then, ℤ, pos, ◌+ℤ◌, ◌-ℤ◌, ◌*ℤ◌, ◌≤ℤ◌, int_lt, unsigned_abs, ◌∙◌, ap, ap₂, arith, sym, refl, subst, eq-eqb, lt-ltb, nat_lt, append_assoc, if◌then◌else◌}
 use Rattle.std.proofs.Math.Nat.{mod-eq_of_lt}
-use Rattle.std.proofs.Math.Seq.{drop-append-add}
-use Rattle.std.proofs.lemmas.Bool.{and_from, and_parts, cases_eq, ne_eqb}
+use Rattle.std.proofs.lemmas.Bool.{and_from, cases_eq, ne_eqb}
 use Rattle.std.proofs.lemmas.Bool.Decides.{nat_tests}
 use Rattle.std.proofs.lemmas.Int.{ints}
-use Rattle.std.proofs.lemmas.List.{take_all}
-use Rattle.std.proofs.lemmas.List.Folds.{list_all-append}
+use Rattle.std.proofs.lemmas.List.{append-nil}
 use Rattle.std.specs.Char.{is_ascii_digit}
 use Rattle.std.specs.Int.{int_div_euclid, int_rem_euclid}
-use Rattle.std.specs.List.{after_first, before_first, list_all, position_or_len}
+use Rattle.std.specs.List.{before_first, list_all}
 use Rattle.std.specs.Str.Parse.{digits_value}
 use Rattle.jiff_core.proofs.SignedLemmas.{int_rem_euclid-parts, signed_arith}
 use Rattle.jiff_core.specs.Date.{epoch_day}
@@ -23,6 +20,7 @@ use Rattle.bsi_kinds.specs.Texts.{last_digits, places_text}
 use Rattle.bsi_kinds.specs.Times.{clock_of, clock_text, from_first, is_clock_sign, is_zone_sign, minutes_of, moment_behind, moment_of, moment_on, moment_value, moved, offset_of, part_behind, places_of, seconds_behind, time_text, two_digits, Moment, SpellsTime, WritesTime}
 use Rattle.bsi_kinds.specs.declared.date.DateOrder.TheVariants.{YearFirst}
 use Rattle.bsi_kinds.specs.declared.time.TimeForm.{TimeForm}
+use Rattle.bsi_kinds.proofs.Cuts.{after_is, before_is, before_none, both_lack, digits_lack, from_is, from_none, Lacks}
 use Rattle.bsi_kinds.proofs.Days.{date_spells, part_text}
 use Rattle.bsi_kinds.proofs.Scans.{digit_range}
 use Rattle.bsi_kinds.proofs.Writing.{last_all, last_value, length_last}
@@ -38,59 +36,7 @@ number_split a some n seconds day clock part seconds_is day_is clock_is part_is 
     ap (λ z. z *ℤ pos a +ℤ pos part) (ap₂ (λ d c. d *ℤ pos 86400 +ℤ c) day_is clock_is ∙ divided seconds 86400 (omega arith))
     ∙ ap₂ (λ s p. s *ℤ pos a +ℤ p) seconds_is part_is ∙ divided n a some
 
--- ---- a text is cut at the first byte of a kind
-
-module _ (is : ℕ → Bool) where
-  -- no byte of a text is of the kind
-  abbrev Lacks : List ℕ → Type 0
-  Lacks xs = list_all (λ byte. not (is byte)) xs ≡ true
-
-  place : (xs rest : List ℕ) (y : ℕ) → Lacks xs → is y ≡ true → position_or_len is (xs ++ y ∷ rest) ≡ length xs
-  place [] rest y all here = ap (λ b. cond (not b) (1 + position_or_len is rest) 0) here
-  place (x ∷ xs) rest y all here =
-      let parts = and_parts (not (is x)) (list_all (λ byte. not (is byte)) xs) all in
-      let more = place xs rest y parts.1 here in
-      ap (λ b. cond b (1 + position_or_len is (xs ++ y ∷ rest)) 0) parts.0 ∙ omega (arith, more)
-
-  nowhere : (xs : List ℕ) → Lacks xs → position_or_len is xs ≡ length xs
-  nowhere [] all = refl
-  nowhere (x ∷ xs) all =
-      let parts = and_parts (not (is x)) (list_all (λ byte. not (is byte)) xs) all in
-      let more = nowhere xs parts.1 in
-      ap (λ b. cond b (1 + position_or_len is xs) 0) parts.0 ∙ omega (arith, more)
-
-  take_front : (xs ys : List ℕ) → take (length xs) (xs ++ ys) ≡ xs
-  take_front [] ys = refl
-  take_front (x ∷ xs) ys = ap (λ l. x ∷ l) (take_front xs ys)
-
-  drop_front : (xs ys : List ℕ) → drop (length xs) (xs ++ ys) ≡ ys
-  drop_front [] ys = refl
-  drop_front (x ∷ xs) ys = drop_front xs ys
-
-  before_is : (xs rest : List ℕ) (y : ℕ) → Lacks xs → is y ≡ true → before_first is (xs ++ y ∷ rest) ≡ xs
-  before_is xs rest y all here = ap (λ k. take k (xs ++ y ∷ rest)) (place xs rest y all here) ∙ take_front xs (y ∷ rest)
-
-  from_is : (xs rest : List ℕ) (y : ℕ) → Lacks xs → is y ≡ true → from_first is (xs ++ y ∷ rest) ≡ y ∷ rest
-  from_is xs rest y all here = ap (λ k. drop k (xs ++ y ∷ rest)) (place xs rest y all here) ∙ drop_front xs (y ∷ rest)
-
-  after_is : (xs rest : List ℕ) (y : ℕ) → Lacks xs → is y ≡ true → after_first is (xs ++ y ∷ rest) ≡ rest
-  after_is xs rest y all here = ap (λ k. drop (k + 1) (xs ++ y ∷ rest)) (place xs rest y all here) ∙ drop-append-add xs (y ∷ rest) 1
-
-  before_none : (xs : List ℕ) → Lacks xs → before_first is xs ≡ xs
-  before_none xs all = ap (λ k. take k xs) (nowhere xs all) ∙ take_all (length xs) xs (omega arith)
-
-  from_none : (xs : List ℕ) → Lacks xs → from_first is xs ≡ []
-  from_none xs all = ap (λ k. drop k xs) (nowhere xs all) ∙ drop_of_length-le xs (omega arith)
-
-  -- digits are of no such kind
-  digits_lack : ((byte : ℕ) → is_ascii_digit byte ≡ true → not (is byte) ≡ true) → (ds : List ℕ) → list_all is_ascii_digit ds ≡ true → Lacks ds
-  digits_lack other [] all = refl
-  digits_lack other (d ∷ ds) all =
-      let parts = and_parts (is_ascii_digit d) (list_all is_ascii_digit ds) all in
-      and_from _ _ (other d parts.0) (digits_lack other ds parts.1)
-
-  both_lack : (xs ys : List ℕ) → Lacks xs → Lacks ys → Lacks (xs ++ ys)
-  both_lack xs ys one two = list_all-append (λ byte. not (is byte)) xs ys ∙ and_from _ _ one two
+-- ---- what a clock spells
 
 no_colon : (byte : ℕ) → is_ascii_digit byte ≡ true → not (byte == 58) ≡ true
 no_colon byte digit = let range = digit_range byte digit in grind (arith, nat_tests)
@@ -100,8 +46,6 @@ no_clock_sign byte digit = let range = digit_range byte digit in grind (arith, n
 
 no_zone_sign : (byte : ℕ) → is_ascii_digit byte ≡ true → not (is_zone_sign byte) ≡ true
 no_zone_sign byte digit = let range = digit_range byte digit in grind (arith, nat_tests)
-
--- ---- what a clock spells
 
 two_spelled : (end n : ℕ) → n < end → end ≤ 100 → two_digits end (last_digits 2 n) ≡ Some n
 two_spelled end n low few =
@@ -155,10 +99,6 @@ clock_lacks t p part =
     (digits_lack is_zone_sign no_zone_sign (last_digits 2 t.second) (last_all 2 t.second))))
     (places_lack p part)
 
-append_none : (xs : List ℕ) → xs ++ [] ≡ xs
-append_none [] = refl
-append_none (x ∷ xs) = ap (λ l. x ∷ l) (append_none xs)
-
 abbrev zone_text : Bool → List ℕ
 zone_text utc = if utc then 90 ∷ [] else []
 
@@ -167,7 +107,7 @@ cut_zone : (utc : Bool) (xs : List ℕ) → Lacks is_zone_sign xs
     → (before_first is_zone_sign (xs ++ zone_text utc) ≡ xs) × (from_first is_zone_sign (xs ++ zone_text utc) ≡ zone_text utc)
 cut_zone true xs all = (before_is is_zone_sign xs [] 90 all refl, from_is is_zone_sign xs [] 90 all refl)
 cut_zone false xs all =
-    (ap (before_first is_zone_sign) (append_none xs) ∙ before_none is_zone_sign xs all, ap (from_first is_zone_sign) (append_none xs) ∙ from_none is_zone_sign xs all)
+    (ap (before_first is_zone_sign) (append-nil xs) ∙ before_none is_zone_sign xs all, ap (from_first is_zone_sign) (append-nil xs) ∙ from_none is_zone_sign xs all)
 
 no_offset : (utc : Bool) → offset_of utc (zone_text utc) ≡ Some (pos 0)
 no_offset true = refl
