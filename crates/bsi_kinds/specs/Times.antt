@@ -16,22 +16,23 @@ use Rattle.bsi_kinds.specs.declared.time.TimeForm.{TimeForm}
 use Rattle.bsi_kinds.specs.declared.time.TimeUnit.{TimeUnit}
 use Rattle.bsi_kinds.specs.declared.time.TimeUnit.TheVariants.{Seconds, Milliseconds, Microseconds}
 
--- the places of a second that a unit has
+-- how many digits behind the point of seconds a unit counts
 abbrev pub places_of : TimeUnit → ℕ
 places_of Seconds = 0
 places_of Milliseconds = 3
 places_of Microseconds = 6
 
--- whole seconds, and the digits behind the point of them
+-- seconds since midnight, or since 1970-01-01T00:00:00: whole ones, and the digits behind their point, if any
 pub record Moment : Type 0 where
   pub seconds : ℤ
   pub part : Digits
 
--- as a fraction of seconds
+-- as a fraction: 7 seconds and the digits 25 are 725 at 2 places
 abbrev pub moment_value : Moment → Decimal
 moment_value m =
     record { value = m.seconds *ℤ pos (10 ^ m.part.places) +ℤ pos m.part.value; places = m.part.places }
 
+-- no digits behind the point
 abbrev pub whole_moment : ℤ → Moment
 whole_moment seconds = record { seconds = seconds; part = record { value = 0; places = 0 } }
 
@@ -43,7 +44,7 @@ moved by m = record { seconds = m.seconds +ℤ by; part = m.part }
 abbrev pub two_digits : ℕ → Field → Option ℕ
 two_digits end text = option_and_then (λ n. if nat_lt n end then Some n else None) (part_of 2 2 text)
 
--- hours and minutes with a colon between them, as minutes: 10:30 is 630
+-- hours and minutes with a colon between the two, as minutes: 10:30 is 630
 abbrev pub minutes_of : Field → Option ℕ
 minutes_of text =
     option_and_then (λ hours. option_map (λ minutes. hours * 60 + minutes)
@@ -86,7 +87,7 @@ from_first is text = drop (position_or_len is text) text
 abbrev pub is_zone_sign : ℕ → Bool
 is_zone_sign byte = (byte == 90) || (byte == 43) || (byte == 45)
 
--- a clock on a day, and its zone
+-- a clock on a day, less its zone
 abbrev pub moment_on : Bool → ℤ → Field → Option Moment
 moment_on utc day text =
     option_and_then (λ offset. option_map (moved (day *ℤ pos 86400 -ℤ offset)) (clock_of (before_first is_zone_sign text)))
@@ -96,12 +97,12 @@ moment_on utc day text =
 abbrev pub is_clock_sign : ℕ → Bool
 is_clock_sign byte = (byte == 84) || (byte == 32)
 
--- what stands behind a date: its sign and a clock; nothing is midnight, without a zone alone
+-- what stands behind a date: T or a space, and a clock; nothing is the day's midnight, but not if a zone is wanted
 abbrev pub moment_behind : Bool → ℤ → Field → Option Moment
 moment_behind utc day [] = if utc then None else Some (whole_moment (day *ℤ pos 86400))
 moment_behind utc day (first ∷ rest) = moment_on utc day rest
 
--- a date and what stands behind it, as seconds since 1970-01-01T00:00:00
+-- a date, and what stands behind it
 abbrev pub moment_of : TimeForm → Field → Option Moment
 moment_of form text =
     option_and_then (λ day. moment_behind form.utc day (from_first is_clock_sign text))
@@ -115,19 +116,20 @@ time_of form text = option_map moment_value (moment_of form text)
 abbrev pub SpellsTime : TimeForm → Field → ℤ → Type 0
 SpellsTime form text n = MatchOption (time_of form text) ⊥ (StandsAt (places_of form.unit) n)
 
--- a moment at so many places
+-- ---- a moment at so many places
+
 abbrev pub scanned_time : ℕ → Moment → ScannedTime
 scanned_time places m = record { seconds = m.seconds; part = scanned places m.part }
 
--- how many units have begun at it
+-- how many units of so many places have begun
 abbrev pub units_at : ℕ → ScannedTime → ℤ
 units_at places t = t.seconds *ℤ pos (10 ^ places) +ℤ pos t.part.units
 
--- the first number that does not stand for less
+-- the first number that does not stand for an earlier moment
 abbrev pub first_at : ℕ → ScannedTime → ℤ
 first_at places t = if t.part.exact then units_at places t else units_at places t +ℤ pos 1
 
--- its seconds lie within a limit, and its units are less than a second
+-- the seconds lie within a limit, and the units are less than a second
 pub record IsWithinSeconds (most places : ℕ) (t : ScannedTime) : Type 0 where
   pub seconds : IsWithin most t.seconds
   pub part : t.part.units < 10 ^ places
@@ -135,6 +137,8 @@ pub record IsWithinSeconds (most places : ℕ) (t : ScannedTime) : Type 0 where
 -- the most that a date, a clock and a zone come to
 abbrev pub most_seconds : ℕ
 most_seconds = 400_000_000_000
+
+-- ---- numbers and their texts
 
 -- the day of a number
 abbrev pub day_of : TimeUnit → ℤ → ℤ
@@ -144,7 +148,7 @@ day_of unit n = int_div_euclid n (pos (86400 * 10 ^ places_of unit))
 abbrev pub IsTimeNumber : TimeUnit → ℤ → Type 0
 IsTimeNumber unit n = IsEpochDay (day_of unit n)
 
--- the number of a clock on a day, and so many units behind it
+-- the number of a clock on a day, and of so many units behind it
 abbrev pub number_at : TimeUnit → Date → Time → ℕ → ℤ
 number_at unit d t part = (epoch_day d *ℤ pos 86400 +ℤ pos (time_seconds t)) *ℤ pos (10 ^ places_of unit) +ℤ pos part
 
@@ -157,7 +161,7 @@ abbrev pub time_text : TimeForm → Date → Time → ℕ → Field
 time_text form d t part =
     date_text d ++ 84 ∷ (clock_text t ++ (places_text (places_of form.unit) part ++ (if form.utc then 90 ∷ [] else [])))
 
--- that text stands last
+-- the text of a date, a clock and units that come to the number stands last
 pub record WritesTime (form : TimeForm) (n : ℤ) (old new : Field) : Type 0 where
   pub date : Date
   pub time : Time

@@ -21,7 +21,7 @@ use jiff_core::civil::{Date, Time};
 /// The seconds of a day.
 const DAY: i64 = 86_400;
 
-/// What a number of a column of times counts.
+/// What the numbers of a column of times count.
 #[derive(Clone, Copy, Debug, PartialEq, Eq)]
 pub enum TimeUnit {
     /// Seconds.
@@ -35,7 +35,7 @@ pub enum TimeUnit {
 impl TimeUnit {
     ghost use Rattle.bsi_kinds.specs.Times.{places_of};
 
-    /// Returns how many places of a second a unit has.
+    /// Returns how many digits behind the point of seconds a unit counts.
     pub fn places(self) -> u32
         ensures places { result ≡ places_of self }
         ensures few { result ≤ 6 }
@@ -68,7 +68,8 @@ pub struct TimeForm {
     pub date: DateForm,
     /// The unit of the numbers.
     pub unit: TimeUnit,
-    /// Whether a zone stands behind each clock, so that numbers count from 1970-01-01T00:00:00 in UTC.
+    /// Whether a zone stands behind each clock, and numbers count from 1970-01-01T00:00:00 in UTC. Without zones they count
+    /// from that time of the local clock.
     pub utc: bool,
 }
 
@@ -81,8 +82,10 @@ pub(crate) struct ScannedTime {
     pub(crate) part: Scanned,
 }
 
-/// Reads a time as the number of units that stands for it. `None` stands for a text that is not written so, for a day
-/// that the calendar has not, also if it is one in UTC alone, and for a time between two units. It allocates no memory.
+/// Reads a time as the number of units that stands for it: a date by the form, the letter T or a space, hours and minutes,
+/// seconds with any number of digits behind a point, or none, and in UTC a zone (Z, +01:30). Without zones a date alone is
+/// its midnight. `None` stands for a text that is not written so, for a day that the calendar has not, for a time that its
+/// zone moves past the year 9999, and for a time between two units. It allocates no memory.
 pub fn read_time(form: TimeForm, text: &[u8]) -> Option<i64>
     ensures some { IfSome result (SpellsTime form text.now) }
     ensures within { IfSome result (IsTimeNumber form.unit) }
@@ -97,8 +100,8 @@ pub fn read_time(form: TimeForm, text: &[u8]) -> Option<i64>
     }
 }
 
-/// Brings a comparison with a time down to the numbers of a column, whatever digits the time has. `None` stands for a text
-/// that spells no time. It allocates no memory.
+/// Brings a comparison with a time down to the numbers of a column, also if the time lies between two units. `None` stands
+/// for a text that spells no time. It allocates no memory.
 pub fn compare_time(op: Op, form: TimeForm, text: &[u8]) -> Option<Comparison>
     ensures some { IfSome result (λ c. MatchOption (time_of form text.now) ⊥ (λ constant.
         ComparesAs decimal_order (decimal_at (places_of form.unit)) op constant c)) }
@@ -109,7 +112,8 @@ pub fn compare_time(op: Op, form: TimeForm, text: &[u8]) -> Option<Comparison>
     Some(bring_down(op, time.part.exact, from))
 }
 
-/// Appends the text of the time that a number stands for, with the year first, or a first part of it.
+/// Appends the text of the time that a number stands for, or a first part of it: 2026-01-31T10:30:00, a point and as many
+/// digits as the unit has places, and Z in UTC.
 pub fn write_time(form: TimeForm, number: i64, line: &mut Vec<u8>) -> Result<(), NoMemory>
     requires { IsTimeNumber form.unit number }
     ensures { OnOk result (WritesTime form number line.old.items line.new.items) }
@@ -169,7 +173,7 @@ pub fn a_time_text_spells_its_number()
         (written : WritesTime form n [] text) → pos 0 ≤ℤ written.date.year → SpellsTime form text n }
 {}
 
-/// Returns whether the calendar has the day of a second, from the year -9999 to 9999.
+/// Returns whether the calendar has the day of a second: its years are -9999 to 9999.
 fn has_date(seconds: i64) -> bool
     ensures { IsTrue result ↔ IsEpochDay (int_div_euclid seconds (pos 86400)) }
 {

@@ -2,7 +2,7 @@
 
 use bsi_kinds::{
     BooleanForm, DateForm, DateOrder, Dictionary, Kind, NoMemory, Op, TimeForm, TimeUnit,
-    compare_decimal, compare_time, read_date, read_decimal, read_time, write_time,
+    compare_decimal, compare_time, read_date, read_decimal, read_time,
 };
 use std::alloc::Global;
 
@@ -207,11 +207,12 @@ const CLOCKS: [(TimeForm, &str, &str); 5] = [
 ];
 
 fn clock_once(alloc: Global, form: TimeForm, text: &str) -> Result<Option<Vec<u8>>, NoMemory> {
-    let Some(number) = read_time(form, text.as_bytes()) else {
+    let kind = Kind::Time(form);
+    let Some(number) = kind.read(b'.', text.as_bytes()) else {
         return Ok(None);
     };
     let mut line = Vec::new(alloc);
-    write_time(form, number, &mut line)?;
+    kind.write(number, &mut line)?;
     Ok(Some(line))
 }
 
