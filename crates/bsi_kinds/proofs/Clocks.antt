@@ -9,9 +9,10 @@ use Rattle.std.specs.List.{before_first, list_all}
 use Rattle.std.specs.Str.Parse.{digits_value}
 use Rattle.bsi_kinds.specs.Dates.{date_number}
 use Rattle.bsi_kinds.specs.Decimals.{mantissa_of, scanned, units_of, Digits}
-use Rattle.bsi_kinds.specs.Times.{clock_of, from_first, is_clock_sign, is_zone_sign, minutes_of, moment_behind, moment_of, moment_on, moved, offset_of, part_behind, scanned_time, seconds_behind, two_digits, Moment}
+use Rattle.bsi_kinds.specs.Clocks.{clock_of, minutes_of, moved, offset_of, part_behind, scanned_time, seconds_behind, two_digits, Moment}
+use Rattle.bsi_kinds.specs.Times.{from_first, is_clock_sign, is_zone_sign, moment_behind, moment_of, moment_on}
 use Rattle.bsi_kinds.specs.declared.decimal.Scanned.{Scanned}
-use Rattle.bsi_kinds.specs.declared.time.ScannedTime.{ScannedTime}
+use Rattle.bsi_kinds.specs.declared.clock.ScannedTime.{ScannedTime}
 use Rattle.bsi_kinds.specs.declared.time.TimeForm.{TimeForm}
 use Rattle.bsi_kinds.proofs.Scaling.{ten_some}
 use Rattle.bsi_kinds.proofs.Scans.{digits_from, value_below}

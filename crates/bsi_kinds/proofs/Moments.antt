@@ -12,9 +12,10 @@ use Rattle.bsi_orders.specs.WholeNumbers.{signed_order}
 use Rattle.bsi_orders.specs.declared.op.Op.{Op}
 use Rattle.bsi_kinds.specs.Comparisons.{brought_down, past_numbers, ComparesAs}
 use Rattle.bsi_kinds.specs.Decimals.{decimal_at, decimal_order, is_whole, most_scanned, units_of, StandsAt}
-use Rattle.bsi_kinds.specs.Times.{day_of, first_at, moment_value, places_of, scanned_time, units_at, IsTimeNumber, Moment}
+use Rattle.bsi_kinds.specs.Clocks.{moment_value, scanned_time, Moment}
+use Rattle.bsi_kinds.specs.Times.{day_of, first_at, places_of, units_at, IsTimeNumber}
 use Rattle.bsi_kinds.specs.declared.comparison.Comparison.{Comparison}
-use Rattle.bsi_kinds.specs.declared.time.ScannedTime.{ScannedTime}
+use Rattle.bsi_kinds.specs.declared.clock.ScannedTime.{ScannedTime}
 use Rattle.bsi_kinds.specs.declared.time.TimeUnit.{TimeUnit}
 use Rattle.bsi_kinds.specs.declared.time.TimeUnit.TheVariants.{Seconds, Milliseconds, Microseconds}
 use Rattle.bsi_kinds.proofs.Comparing.{at_least, exact_agrees, inexact_agrees, less_than, more_than, times_add, AgreesAt}

@@ -17,7 +17,9 @@ use Rattle.jiff_core.specs.declared.civil.time.Time.{Time}
 use Rattle.bsi_kinds.specs.Dates.{date_number, date_text}
 use Rattle.bsi_kinds.specs.Decimals.{StandsAt}
 use Rattle.bsi_kinds.specs.Texts.{last_digits, places_text}
-use Rattle.bsi_kinds.specs.Times.{clock_of, clock_text, from_first, is_clock_sign, is_zone_sign, minutes_of, moment_behind, moment_of, moment_on, moment_value, moved, offset_of, part_behind, places_of, seconds_behind, time_text, two_digits, Moment, SpellsTime, WritesTime}
+use Rattle.bsi_kinds.specs.Clocks.{clock_of, minutes_of, moment_value, moved, offset_of, part_behind, seconds_behind, two_digits, Moment}
+use Rattle.bsi_kinds.specs.TimeTexts.{clock_text, time_text, WritesTime}
+use Rattle.bsi_kinds.specs.Times.{from_first, is_clock_sign, is_zone_sign, moment_behind, moment_of, moment_on, places_of, SpellsTime}
 use Rattle.bsi_kinds.specs.declared.date.DateOrder.TheVariants.{YearFirst}
 use Rattle.bsi_kinds.specs.declared.time.TimeForm.{TimeForm}
 use Rattle.bsi_kinds.proofs.Cuts.{after_is, before_is, before_none, both_lack, digits_lack, from_is, from_none, Lacks}

@@ -10,7 +10,8 @@ use Rattle.bsi_kinds.specs.Dates.{date_number, WritesDate}
 use Rattle.bsi_kinds.specs.Decimals.{decimal_at, decimal_entry, decimal_of, decimal_order, Decimal as Fraction, Field}
 use Rattle.bsi_kinds.specs.Dictionaries.{text_at, text_order}
 use Rattle.bsi_kinds.specs.Texts.{decimal_text}
-use Rattle.bsi_kinds.specs.Times.{places_of, time_of, IsTimeNumber, SpellsTime, WritesTime}
+use Rattle.bsi_kinds.specs.TimeTexts.{WritesTime}
+use Rattle.bsi_kinds.specs.Times.{places_of, time_of, IsTimeNumber, SpellsTime}
 use Rattle.bsi_kinds.specs.declared.comparison.Comparison.{Comparison}
 use Rattle.bsi_kinds.specs.declared.kind.Kind.{Kind}
 use Rattle.bsi_kinds.specs.declared.kind.Kind.TheVariants.{Boolean, Decimal, Date, Text, Time}

@@ -1,4 +1,5 @@
 pub mod Booleans
+pub mod Clocks
 pub mod Comparisons
 pub mod Dates
 pub mod Decimals
@@ -6,4 +7,5 @@ pub mod Dictionaries
 pub mod Kinds
 pub mod Predicates
 pub mod Texts
+pub mod TimeTexts
 pub mod Times

@@ -11,7 +11,8 @@ use crate::date::{DateForm, read_date, write_date};
 use crate::decimal::{compare_decimal, read_decimal};
 use crate::decimal_text::write_decimal;
 use crate::dictionary::Dictionary;
-use crate::time::{TimeForm, compare_time, read_time, write_time};
+use crate::time::{TimeForm, compare_time, read_time};
+use crate::time_text::write_time;
 use bsi_orders::Op;
 
 /// What the numbers of a column stand for. Whole numbers are decimals of no places.

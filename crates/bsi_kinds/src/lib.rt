@@ -3,6 +3,7 @@
 #![tactic(auto)]
 
 mod boolean;
+mod clock;
 mod comparison;
 mod date;
 mod decimal;
@@ -11,6 +12,7 @@ mod dictionary;
 mod kind;
 mod predicate;
 mod time;
+mod time_text;
 
 pub use boolean::{BooleanForm, read_boolean, write_boolean};
 pub use bsi_orders::Op;
@@ -24,6 +26,5 @@ pub use dictionary::{Dictionary, MAX_TEXTS};
 pub use kind::Kind;
 pub use predicate::a_lowered_predicate_holds_of_the_same_rows;
 pub use std::alloc::AllocError as NoMemory;
-pub use time::{
-    TimeForm, TimeUnit, a_time_text_spells_its_number, compare_time, read_time, write_time,
-};
+pub use time::{TimeForm, TimeUnit, compare_time, read_time};
+pub use time_text::{a_time_text_spells_its_number, write_time};

@@ -1,25 +1,22 @@
-//! Times: from the bytes of a field to units since 1970-01-01T00:00:00, and back.
+//! Times: from the bytes of a field to units since 1970-01-01T00:00:00.
 
-ghost use Rattle.std.specs.Prelude.{◌≡◌, ℕ, ℤ, pos, neg_ℤ, ◌<ℤ◌, ◌≤ℤ◌, ◌*ℤ◌, ◌<◌, ◌≤◌, ◌^◌, ◌++◌, [], List, None, OnOk, option_map, MatchOption, IfNone, IfSome, IsTrue, ◌↔◌};
+ghost use Rattle.std.specs.Prelude.{◌≡◌, ℤ, pos, ◌<ℤ◌, ◌≤ℤ◌, ◌≤◌, ◌^◌, ◌↔◌, None, option_map, MatchOption, IfNone, IfSome, IsTrue};
 ghost use Rattle.std.specs.Int.{int_div_euclid};
 ghost use Rattle.std.specs.List.{before_first, position};
 ghost use Rattle.jiff_core.specs.Calendar.{IsEpochDay, IsWithin};
-ghost use Rattle.jiff_core.specs.declared.civil.date.Date.{Date};
+ghost use Rattle.bsi_kinds.specs.Clocks.{scanned_time, IsWithinSeconds};
 ghost use Rattle.bsi_kinds.specs.Comparisons.{ComparesAs};
-ghost use Rattle.bsi_kinds.specs.Decimals.{decimal_at, decimal_order, scanned};
-ghost use Rattle.bsi_kinds.specs.declared.date.DateOrder.TheVariants.{YearFirst};
-ghost use Rattle.bsi_kinds.specs.Times.{clock_of, clock_text, first_at, from_first, is_clock_sign, is_zone_sign, minutes_of, moment_of, moment_on, offset_of, part_behind, places_of, scanned_time, seconds_behind, most_seconds, number_at, time_of, time_text, two_digits, units_at, whole_moment, zone_of, IsTimeNumber, IsWithinSeconds, SpellsTime, WritesTime};
+ghost use Rattle.bsi_kinds.specs.Decimals.{decimal_at, decimal_order};
+ghost use Rattle.bsi_kinds.specs.Times.{first_at, from_first, is_clock_sign, is_zone_sign, moment_of, moment_on, most_seconds, places_of, time_of, units_at, IsTimeNumber, SpellsTime};
 
-use crate::NoMemory;
+use crate::clock::{ScannedTime, read_offset, scan_clock, whole_seconds};
 use crate::comparison::{Comparison, bring_down};
-use crate::date::{DateForm, read_date, write_parts};
-use crate::decimal::{Scanned, read_part, scan_mantissa, split_at_byte};
-use crate::decimal_text::{write_last_digits, write_places};
+use crate::date::{DateForm, read_date};
 use bsi_orders::Op;
-use jiff_core::civil::{Date, Time};
+use jiff_core::civil::Date;
 
 /// The seconds of a day.
-const DAY: i64 = 86_400;
+pub(crate) const DAY: i64 = 86_400;
 
 /// What the numbers of a column of times count.
 #[derive(Clone, Copy, Debug, PartialEq, Eq)]
@@ -48,7 +45,7 @@ impl TimeUnit {
     }
 
     /// Returns how many units a second has.
-    fn per_second(self) -> i64
+    pub(crate) fn per_second(self) -> i64
         ensures units { result ≡ pos (10 ^ places_of self) }
         ensures some { pos 0 <ℤ result }
         ensures few { result ≤ℤ pos 1000000 }
@@ -71,15 +68,6 @@ pub struct TimeForm {
     /// Whether a zone stands behind each clock, and numbers count from 1970-01-01T00:00:00 in UTC. Without zones they count
     /// from that time of the local clock.
     pub utc: bool,
-}
-
-/// A time at so many places.
-#[derive(Clone, Copy, Debug, PartialEq, Eq)]
-pub(crate) struct ScannedTime {
-    /// Whole seconds.
-    pub(crate) seconds: i64,
-    /// What stands behind their point, in units.
-    pub(crate) part: Scanned,
 }
 
 /// Reads a time as the number of units that stands for it: a date by the form, the letter T or a space, hours and minutes,
@@ -111,67 +99,6 @@ pub fn compare_time(op: Op, form: TimeForm, text: &[u8]) -> Option<Comparison>
     let from = first_from(form.unit, time);
     Some(bring_down(op, time.part.exact, from))
 }
-
-/// Appends the text of the time that a number stands for, or a first part of it: 2026-01-31T10:30:00, a point and as many
-/// digits as the unit has places, and Z in UTC.
-pub fn write_time(form: TimeForm, number: i64, line: &mut Vec<u8>) -> Result<(), NoMemory>
-    requires { IsTimeNumber form.unit number }
-    ensures { OnOk result (WritesTime form number line.old.items line.new.items) }
-{
-    let (date, time, part) = split_number(form.unit, number);
-    write_moment(form, date, time, part, line)
-}
-
-/// Splits a number into a date, a clock, and the units behind its whole seconds.
-fn split_number(unit: TimeUnit, number: i64) -> (Date, Time, u64)
-    requires { IsTimeNumber unit number }
-    ensures number { number_at unit result.0 result.1 result.2 ≡ number }
-    ensures small { result.2 < 10 ^ places_of unit }
-{
-    let second = unit.per_second();
-    let seconds = number.div_euclid(second);
-    let date = Date::from_unix_epoch_day(seconds.div_euclid(DAY)).unwrap();
-    let time = Time::from_second(seconds.rem_euclid(DAY) as u32, 0);
-    (date, time, number.rem_euclid(second) as u64)
-}
-
-/// Appends a date, a clock, and the units behind its whole seconds, or a first part of them.
-fn write_moment(
-    form: TimeForm,
-    date: Date,
-    time: Time,
-    part: u64,
-    line: &mut Vec<u8>,
-) -> Result<(), NoMemory>
-    ensures { OnOk result (line.new.items ≡ line.old.items ++ time_text form date time part) }
-{
-    write_parts(date, line)?;
-    line.push(b'T')?;
-    write_clock(time, line)?;
-    write_places(form.unit.places(), part, line)?;
-    if form.utc {
-        line.push(b'Z')?;
-    }
-    Ok(())
-}
-
-/// Appends hours, minutes and seconds, or a first part of them.
-fn write_clock(time: Time, line: &mut Vec<u8>) -> Result<(), NoMemory>
-    ensures { OnOk result (line.new.items ≡ line.old.items ++ clock_text time) }
-{
-    write_last_digits(2, u64::from(time.hour), line)?;
-    line.push(b':')?;
-    write_last_digits(2, u64::from(time.minute), line)?;
-    line.push(b':')?;
-    write_last_digits(2, u64::from(time.second), line)
-}
-
-/// States that the text of a time from the year 0 on spells just its number, in the form with the year first and a minus
-/// sign between two numbers of the date.
-pub fn a_time_text_spells_its_number()
-    ensures { (form : TimeForm) → (n : ℤ) → (text : List ℕ) → form.date ≡ record { order = YearFirst; sign = 45 } →
-        (written : WritesTime form n [] text) → pos 0 ≤ℤ written.date.year → SpellsTime form text n }
-{}
 
 /// Returns whether the calendar has the day of a second: its years are -9999 to 9999.
 fn has_date(seconds: i64) -> bool
@@ -226,111 +153,6 @@ fn scan_on_day(form: TimeForm, day: i64, text: &[u8]) -> Option<ScannedTime>
         seconds: time.seconds + (day * DAY - offset),
         part: time.part,
     })
-}
-
-/// Returns a time of whole seconds.
-fn whole_seconds(seconds: i64) -> ScannedTime
-    ensures value { (places : ℕ) → result ≡ scanned_time places (whole_moment seconds) }
-    ensures seconds { result.seconds ≡ seconds }
-    ensures part { result.part.units ≡ 0 }
-{
-    ScannedTime {
-        seconds,
-        part: Scanned {
-            units: 0,
-            exact: true,
-        },
-    }
-}
-
-/// Reads the seconds that are taken off a clock.
-fn read_offset(utc: bool, zone: &[u8]) -> Option<i64>
-    ensures value { result ≡ offset_of utc zone.now }
-    ensures few { IfSome result (IsWithin 86400) }
-{
-    if utc {
-        return read_zone(zone);
-    }
-    if zone.is_empty() { Some(0) } else { None }
-}
-
-/// Reads the seconds that a zone is ahead of UTC.
-fn read_zone(zone: &[u8]) -> Option<i64>
-    ensures value { result ≡ zone_of zone.now }
-    ensures few { IfSome result (IsWithin 86400) }
-{
-    match zone {
-        [b'-', ahead @ ..] => Some(-i64::from(read_minutes(ahead)?) * 60),
-        [b'+', ahead @ ..] => Some(i64::from(read_minutes(ahead)?) * 60),
-        [b'Z'] => Some(0),
-        _ => None,
-    }
-}
-
-/// Scans a clock as seconds since midnight.
-fn scan_clock(places: u32, text: &[u8]) -> Option<ScannedTime>
-    requires { places ≤ 6 }
-    ensures value { result ≡ option_map (scanned_time places) (clock_of text.now) }
-    ensures few { IfSome result (IsWithinSeconds 86400 places) }
-{
-    let (minutes, behind) = text.split_at(text.len().min(5));
-    scan_seconds(places, read_minutes(minutes)?, behind)
-}
-
-/// Scans what stands behind hours and minutes.
-fn scan_seconds(places: u32, minutes: u16, text: &[u8]) -> Option<ScannedTime>
-    requires places { places ≤ 6 }
-    requires minutes { minutes < 1440 }
-    ensures value { result ≡ option_map (scanned_time places) (seconds_behind minutes text.now) }
-    ensures few { IfSome result (IsWithinSeconds 86400 places) }
-{
-    let minutes = i64::from(minutes);
-    match text {
-        [] => Some(whole_seconds(minutes * 60)),
-        [b':', rest @ ..] => {
-            let (seconds, behind) = rest.split_at(rest.len().min(2));
-            let seconds = minutes * 60 + i64::from(read_two_digits(60, seconds)?);
-            let part = scan_part(places, behind)?;
-            Some(ScannedTime { seconds, part })
-        }
-        _ => None,
-    }
-}
-
-/// Scans what stands behind whole seconds.
-fn scan_part(places: u32, text: &[u8]) -> Option<Scanned>
-    requires { places ≤ 6 }
-    ensures value { result ≡ option_map (scanned places) (part_behind text.now) }
-    ensures few { IfSome result (λ part. part.units < 10 ^ places) }
-{
-    match text {
-        [] => Some(Scanned {
-            units: 0,
-            exact: true,
-        }),
-        [b'.', ..] => scan_mantissa(b'.', places, text),
-        _ => None,
-    }
-}
-
-/// Reads hours and minutes, as minutes.
-fn read_minutes(text: &[u8]) -> Option<u16>
-    ensures value { result ≡ minutes_of text.now }
-    ensures few { IfSome result (λ minutes. minutes < 1440) }
-{
-    let (hours, minutes) = split_at_byte(b':', text);
-    let hours = read_two_digits(24, hours)?;
-    let minutes = read_two_digits(60, minutes)?;
-    Some(hours * 60 + minutes)
-}
-
-/// Reads a number of two digits.
-fn read_two_digits(end: u16, text: &[u8]) -> Option<u16>
-    ensures value { result ≡ two_digits end text.now }
-    ensures small { IfSome result (λ n. n < end) }
-{
-    let number = read_part(2, 2, text)?;
-    if number < end { Some(number) } else { None }
 }
 
 /// Splits a text before the letter T or the space behind a date.

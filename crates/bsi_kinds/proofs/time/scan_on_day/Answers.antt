@@ -1,6 +1,7 @@
 use Rattle.std.proofs.Common.{◌<◌, ◌^◌, ℕ, arith, ap, option_map, subst, ◌∙◌}
 use Rattle.std.proofs.lemmas.Int.{ints}
-use Rattle.bsi_kinds.specs.Times.{clock_of, places_of, scanned_time}
+use Rattle.bsi_kinds.specs.Clocks.{clock_of, scanned_time}
+use Rattle.bsi_kinds.specs.Times.{places_of}
 use Rattle.bsi_kinds.proofs.Clocks.{day_found}
 use Rattle.bsi_kinds.proofs.time.scan_on_day.Goals as goal
 

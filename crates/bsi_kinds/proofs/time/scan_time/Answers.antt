@@ -1,7 +1,8 @@
 use Rattle.std.proofs.Common.{◌-◌, length, take, drop, arith, ap, option_map, FitsSigned, ◌∙◌}
 use Rattle.std.proofs.lemmas.Int.{ints, to_z-of_z}
 use Rattle.std.specs.Int.{w64}
-use Rattle.bsi_kinds.specs.Times.{moment_on, places_of, scanned_time}
+use Rattle.bsi_kinds.specs.Clocks.{scanned_time}
+use Rattle.bsi_kinds.specs.Times.{moment_on, places_of}
 use Rattle.bsi_kinds.proofs.Clocks.{time_found}
 use Rattle.bsi_kinds.proofs.Scaling.{ten_some}
 use Rattle.bsi_kinds.proofs.time.scan_time.Goals as goal

@@ -6,7 +6,7 @@ use Rattle.bsi_kinds.specs.Times.{places_of}
 use Rattle.bsi_kinds.proofs.Days.{at_ok}
 use Rattle.bsi_kinds.proofs.Scaling.{ten_some}
 use Rattle.bsi_kinds.proofs.TimeTexts.{number_split}
-use Rattle.bsi_kinds.proofs.time.split_number.Goals as goal
+use Rattle.bsi_kinds.proofs.time_text.split_number.Goals as goal
 
 pub returns-clause-number : goal.returns-clause-number
 returns-clause-number c =

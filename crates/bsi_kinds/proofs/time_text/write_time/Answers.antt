@@ -2,7 +2,7 @@ use Rattle.std.proofs.Common.{◌∙◌}
 use Rattle.std.specs.Int.{w64}
 use Rattle.std.proofs.lemmas.Int.{to_z-of_z}
 use Rattle.std.proofs.lemmas.Result.{IfOk-weaker}
-use Rattle.bsi_kinds.proofs.time.write_time.Goals as goal
+use Rattle.bsi_kinds.proofs.time_text.write_time.Goals as goal
 
 pub returns : goal.returns
 returns c =

@@ -1,5 +1,5 @@
 use Rattle.bsi_kinds.proofs.TimeTexts.{time_spells}
-use Rattle.bsi_kinds.proofs.time.a_time_text_spells_its_number.Goals as goal
+use Rattle.bsi_kinds.proofs.time_text.a_time_text_spells_its_number.Goals as goal
 
 pub returns : goal.returns
 returns c = time_spells

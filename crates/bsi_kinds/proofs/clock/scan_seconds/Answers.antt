@@ -2,7 +2,7 @@ use Rattle.std.proofs.Common.{arith}
 use Rattle.std.proofs.lemmas.Int.{ints}
 use Rattle.bsi_kinds.proofs.Clocks.{seconds_found}
 use Rattle.bsi_kinds.proofs.Scaling.{ten_some}
-use Rattle.bsi_kinds.proofs.time.scan_seconds.Goals as goal
+use Rattle.bsi_kinds.proofs.clock.scan_seconds.Goals as goal
 
 pub returns-in-empty-clause-few : goal.returns-in-empty-clause-few
 returns-in-empty-clause-few c =

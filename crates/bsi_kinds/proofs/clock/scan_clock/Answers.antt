@@ -1,5 +1,5 @@
 use Rattle.bsi_kinds.proofs.Clocks.{clock_found}
-use Rattle.bsi_kinds.proofs.time.scan_clock.Goals as goal
+use Rattle.bsi_kinds.proofs.clock.scan_clock.Goals as goal
 
 pub returns-clause-value : goal.returns-clause-value
 returns-clause-value c =

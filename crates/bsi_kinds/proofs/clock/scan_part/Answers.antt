@@ -1,7 +1,7 @@
 use Rattle.std.proofs.Common.{arith}
 use Rattle.bsi_kinds.proofs.Clocks.{part_small}
 use Rattle.bsi_kinds.proofs.Scaling.{ten_some}
-use Rattle.bsi_kinds.proofs.time.scan_part.Goals as goal
+use Rattle.bsi_kinds.proofs.clock.scan_part.Goals as goal
 
 pub returns-in-empty-clause-few : goal.returns-in-empty-clause-few
 returns-in-empty-clause-few c = ten_some c.args.places

@@ -1,0 +1,122 @@
+//! Clocks and zones: from the bytes of a field to seconds.
+
+ghost use Rattle.std.specs.Prelude.{◌≡◌, ℕ, ◌<◌, ◌≤◌, ◌^◌, option_map, IfSome};
+ghost use Rattle.jiff_core.specs.Calendar.{IsWithin};
+ghost use Rattle.bsi_kinds.specs.Clocks.{clock_of, minutes_of, offset_of, part_behind, scanned_time, seconds_behind, two_digits, whole_moment, zone_of, IsWithinSeconds};
+ghost use Rattle.bsi_kinds.specs.Decimals.{scanned};
+
+use crate::decimal::{Scanned, read_part, scan_mantissa, split_at_byte};
+
+/// A time at so many places.
+#[derive(Clone, Copy, Debug, PartialEq, Eq)]
+pub(crate) struct ScannedTime {
+    /// Whole seconds.
+    pub(crate) seconds: i64,
+    /// What stands behind their point, in units.
+    pub(crate) part: Scanned,
+}
+
+/// Scans a clock as seconds since midnight.
+pub(crate) fn scan_clock(places: u32, text: &[u8]) -> Option<ScannedTime>
+    requires { places ≤ 6 }
+    ensures value { result ≡ option_map (scanned_time places) (clock_of text.now) }
+    ensures few { IfSome result (IsWithinSeconds 86400 places) }
+{
+    let (minutes, behind) = text.split_at(text.len().min(5));
+    scan_seconds(places, read_minutes(minutes)?, behind)
+}
+
+/// Scans what stands behind hours and minutes.
+fn scan_seconds(places: u32, minutes: u16, text: &[u8]) -> Option<ScannedTime>
+    requires places { places ≤ 6 }
+    requires minutes { minutes < 1440 }
+    ensures value { result ≡ option_map (scanned_time places) (seconds_behind minutes text.now) }
+    ensures few { IfSome result (IsWithinSeconds 86400 places) }
+{
+    let minutes = i64::from(minutes);
+    match text {
+        [] => Some(whole_seconds(minutes * 60)),
+        [b':', rest @ ..] => {
+            let (seconds, behind) = rest.split_at(rest.len().min(2));
+            let seconds = minutes * 60 + i64::from(read_two_digits(60, seconds)?);
+            let part = scan_part(places, behind)?;
+            Some(ScannedTime { seconds, part })
+        }
+        _ => None,
+    }
+}
+
+/// Scans what stands behind whole seconds.
+fn scan_part(places: u32, text: &[u8]) -> Option<Scanned>
+    requires { places ≤ 6 }
+    ensures value { result ≡ option_map (scanned places) (part_behind text.now) }
+    ensures few { IfSome result (λ part. part.units < 10 ^ places) }
+{
+    match text {
+        [] => Some(Scanned {
+            units: 0,
+            exact: true,
+        }),
+        [b'.', ..] => scan_mantissa(b'.', places, text),
+        _ => None,
+    }
+}
+
+/// Returns a time of whole seconds.
+pub(crate) fn whole_seconds(seconds: i64) -> ScannedTime
+    ensures value { (places : ℕ) → result ≡ scanned_time places (whole_moment seconds) }
+    ensures seconds { result.seconds ≡ seconds }
+    ensures part { result.part.units ≡ 0 }
+{
+    ScannedTime {
+        seconds,
+        part: Scanned {
+            units: 0,
+            exact: true,
+        },
+    }
+}
+
+/// Reads the seconds that are taken off a clock.
+pub(crate) fn read_offset(utc: bool, zone: &[u8]) -> Option<i64>
+    ensures value { result ≡ offset_of utc zone.now }
+    ensures few { IfSome result (IsWithin 86400) }
+{
+    if utc {
+        return read_zone(zone);
+    }
+    if zone.is_empty() { Some(0) } else { None }
+}
+
+/// Reads the seconds that a zone is ahead of UTC.
+fn read_zone(zone: &[u8]) -> Option<i64>
+    ensures value { result ≡ zone_of zone.now }
+    ensures few { IfSome result (IsWithin 86400) }
+{
+    match zone {
+        [b'-', ahead @ ..] => Some(-i64::from(read_minutes(ahead)?) * 60),
+        [b'+', ahead @ ..] => Some(i64::from(read_minutes(ahead)?) * 60),
+        [b'Z'] => Some(0),
+        _ => None,
+    }
+}
+
+/// Reads hours and minutes, as minutes.
+fn read_minutes(text: &[u8]) -> Option<u16>
+    ensures value { result ≡ minutes_of text.now }
+    ensures few { IfSome result (λ minutes. minutes < 1440) }
+{
+    let (hours, minutes) = split_at_byte(b':', text);
+    let hours = read_two_digits(24, hours)?;
+    let minutes = read_two_digits(60, minutes)?;
+    Some(hours * 60 + minutes)
+}
+
+/// Reads a number of two digits.
+fn read_two_digits(end: u16, text: &[u8]) -> Option<u16>
+    ensures value { result ≡ two_digits end text.now }
+    ensures small { IfSome result (λ n. n < end) }
+{
+    let number = read_part(2, 2, text)?;
+    if number < end { Some(number) } else { None }
+}
