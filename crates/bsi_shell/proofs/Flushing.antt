@@ -24,3 +24,8 @@ names_more (CannotOpen path) follows is = follows path is
 names_more (CannotWrite path) follows is = follows path is
 names_more (Unusable path why) follows is = follows path is
 names_more (Run fault) follows is = tt
+
+-- what follows from three facts of a fault
+pub all_three : {T E : Type 0} {A B C Q : E → Type 0} (r : Result T E) → ((e : E) → A e → B e → C e → Q e) → IfErr r A → IfErr r B → IfErr r C → IfErr r Q
+all_three (Ok x) follows a b c = tt
+all_three (Err e) follows a b c = follows e a b c

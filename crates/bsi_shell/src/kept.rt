@@ -1,7 +1,7 @@
 //! The commands over a kept index.
 ghost use Rattle.std.specs.Prelude.{◌≡◌, ◌≤◌, IfErr, IsOk, OnOk, false};
 ghost use Rattle.std.specs.Io.KnownBytes.{Keeps};
-ghost use Rattle.bsi_shell.specs.Kept.{HasAddedEither, HasAskedEither, HasEnded, HasSavedRows, HasToldStore, IsFlushed, LeavesAdd, LeavesAsk, LeavesSave, LeavesShow};
+ghost use Rattle.bsi_shell.specs.Kept.{HasAddedRows, HasAskedEither, HasEnded, HasSavedRows, HasToldStore, IsFlushed, LeavesAdd, LeavesAsk, LeavesSave, LeavesShow};
 ghost use Rattle.bsi_shell.specs.FaultLines.{IsTold};
 ghost use Rattle.bsi_store.specs.Asked.{HasShown};
 ghost use Rattle.bsi_store.specs.Faults.{store_fault_line};
@@ -30,9 +30,10 @@ pub(crate) fn answer_save<
     requires { G.STOPS ≡ false }
     ensures status { result.status ≤ 1 }
     ensures saved { result.status ≡ 0 →
-        IsFlushed (HasSavedRows S.remaining S.contents) (O.contents output.old) (O.contents output.new) }
+        IsFlushed (HasSavedRows S.remaining S.contents paths.now)
+        (O.contents output.old) (O.contents output.new) }
     ensures told { result.status ≡ 1 →
-        HasToldStore (LeavesSave S.remaining paths.now) (HasSavedRows S.remaining S.contents)
+        HasToldStore (LeavesSave S.remaining S.contents paths.now) (HasSavedRows S.remaining S.contents paths.now)
         (O.contents output.old) (O.contents output.new) result.told (F.contents faults.old) (F.contents faults.new) }
     ensures quiet { result.status ≡ 0 → F.contents faults.new ≡ F.contents faults.old }
 {
@@ -52,9 +53,10 @@ pub(crate) fn answer_add<
     requires { G.STOPS ≡ false }
     ensures status { result.status ≤ 1 }
     ensures added { result.status ≡ 0 →
-        IsFlushed (HasAddedEither S.remaining S.contents) (O.contents output.old) (O.contents output.new) }
+        IsFlushed (HasAddedRows S.remaining S.contents paths.now)
+        (O.contents output.old) (O.contents output.new) }
     ensures told { result.status ≡ 1 →
-        HasToldStore (LeavesAdd S.remaining paths.now) (HasAddedEither S.remaining S.contents)
+        HasToldStore (LeavesAdd S.remaining S.contents paths.now) (HasAddedRows S.remaining S.contents paths.now)
         (O.contents output.old) (O.contents output.new) result.told (F.contents faults.old) (F.contents faults.new) }
     ensures quiet { result.status ≡ 0 → F.contents faults.new ≡ F.contents faults.old }
 {
@@ -73,9 +75,11 @@ pub(crate) fn answer_ask<
 >(rt: &R, paths: &AskPaths<'a>, input: I, output: &mut O, faults: &mut F) -> CommandEnd
     ensures status { result.status ≤ 1 }
     ensures asked { result.status ≡ 0 →
-        IsFlushed (HasAskedEither S.remaining (I.remaining input)) (O.contents output.old) (O.contents output.new) }
+        IsFlushed (HasAskedEither S.remaining (I.remaining input) paths.now)
+        (O.contents output.old) (O.contents output.new) }
     ensures told { result.status ≡ 1 →
-        HasToldStore (LeavesAsk S.remaining (I.remaining input) paths.now) (HasAskedEither S.remaining (I.remaining input))
+        HasToldStore (LeavesAsk S.remaining (I.remaining input) paths.now)
+        (HasAskedEither S.remaining (I.remaining input) paths.now)
         (O.contents output.old) (O.contents output.new) result.told (F.contents faults.old) (F.contents faults.new) }
     ensures quiet { result.status ≡ 0 → F.contents faults.new ≡ F.contents faults.old }
 {
@@ -111,7 +115,7 @@ fn ask_either<
     I: Read + Drop,
     O: Write,
 >(rt: &R, paths: &AskPaths<'a>, input: I, output: &mut O) -> Result<(), StoreFault<'a>>
-    ensures asked { OnOk result (HasAskedEither S.remaining (I.remaining input)
+    ensures asked { OnOk result (HasAskedEither S.remaining (I.remaining input) paths.now
         (O.contents output.old) (O.contents output.new)) }
     ensures fault { IfErr result (λ fault. LeavesAsk S.remaining (I.remaining input) paths.now fault
         (O.contents output.old) (O.contents output.new)) }

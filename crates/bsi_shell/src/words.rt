@@ -4,7 +4,7 @@ ghost use Rattle.bsi_shell.specs.Checks.{HasChecked, HasToldCheck};
 ghost use Rattle.bsi_shell.specs.Commands.{subcommand_of};
 ghost use Rattle.bsi_shell.specs.FaultLines.{usage_of, IsTold};
 ghost use Rattle.bsi_shell.specs.FileRuns.{HasRunOver, HasToldFault};
-ghost use Rattle.bsi_shell.specs.Kept.{HasAddedEither, HasAskedEither, HasFailedAdd, HasFailedAsk, HasFailedSave, HasFailedShow, HasSavedRows, IsFlushed};
+ghost use Rattle.bsi_shell.specs.Kept.{HasAddedRows, HasAskedEither, HasDone, HasFailedAdd, HasFailedAsk, HasFailedSave, HasFailedShow, HasSavedRows, IsFlushed};
 ghost use Rattle.bsi_store.specs.Asked.{HasShown};
 ghost use Rattle.bsi_shell.specs.ScriptRuns.{HasToldScript, LeavesScript};
 ghost use Rattle.bsi_reading.specs.Texts.{IfKnown, IsAnswered, IsBegun};
@@ -85,14 +85,14 @@ pub fn run_words<
         HasToldCheck S.remaining (O.contents output.old) (O.contents output.new) result.told
         (F.contents faults.old) (F.contents faults.new) }
 
-    // Where it is a command over a kept index, it has done this after status 0. After status 1 `faults` has the line of a
-    // fault, as above: which fault of which path, and for questions which first part of the lines is out.
+    // Where it is a command over a kept index, it has done this by some paths after status 0. After status 1 `faults` has
+    // the line of a fault, as above: which fault of which of these paths, and which first part of the lines is out.
     ensures saved { result.status ≡ 0 → subcommand_of words.items ≡ Subcommand.Save →
-        IsFlushed (HasSavedRows S.remaining S.contents) (O.contents output.old) (O.contents output.new) }
+        HasDone (HasSavedRows S.remaining S.contents) (O.contents output.old) (O.contents output.new) }
     ensures added { result.status ≡ 0 → subcommand_of words.items ≡ Subcommand.Add →
-        IsFlushed (HasAddedEither S.remaining S.contents) (O.contents output.old) (O.contents output.new) }
+        HasDone (HasAddedRows S.remaining S.contents) (O.contents output.old) (O.contents output.new) }
     ensures asked { result.status ≡ 0 → subcommand_of words.items ≡ Subcommand.Ask →
-        IsFlushed (HasAskedEither S.remaining (I.remaining input))
+        HasDone (HasAskedEither S.remaining (I.remaining input))
         (O.contents output.old) (O.contents output.new) }
     ensures shown { result.status ≡ 0 → subcommand_of words.items ≡ Subcommand.Show →
         IsFlushed (HasShown S.remaining) (O.contents output.old) (O.contents output.new) }

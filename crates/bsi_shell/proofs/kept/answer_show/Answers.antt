@@ -1,6 +1,5 @@
-use Rattle.bsi_asks.proofs.Passing.{if_err_both}
 use Rattle.bsi_shell.specs.Kept.{LeavesShow}
-use Rattle.bsi_shell.proofs.Flushing.{left_of, on_ok_is}
+use Rattle.bsi_shell.proofs.Flushing.{all_three, left_of, on_ok_is}
 use Rattle.bsi_shell.proofs.kept.answer_show.Goals as goal
 
 -- the command met no fault, and the output was flushed
@@ -19,7 +18,7 @@ returns-clause-told g c = λ one.
     record {
       fault = ended.fault;
       middle = g.O.Write.contents c.show_index-run.new.output;
-      left = left_of (λ fault. LeavesShow g.S.Read.remaining c.args.path fault (g.O.Write.contents c.args.output.now) (g.O.Write.contents c.show_index-run.new.output)) run ended.fault (if_err_both run (λ fault named met. record { named = named; met = met }) c.show_index-run.ensures.named c.show_index-run.ensures.fault)
+      left = left_of (λ fault. LeavesShow g.S.Read.remaining c.args.path fault (g.O.Write.contents c.args.output.now) (g.O.Write.contents c.show_index-run.new.output)) run ended.fault (all_three run (λ fault named met part. record { named = named; met = met; part = part }) c.show_index-run.ensures.named c.show_index-run.ensures.fault c.show_index-run.ensures.part)
           c.show_index-run.ensures.shown ended.is;
       kept = c.end_by.ensures.kept;
       line = ended.line;

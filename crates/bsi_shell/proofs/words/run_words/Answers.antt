@@ -73,3 +73,13 @@ returns-in-Ask-clause-unasked g c = λ one command. inl (c.in-Ask.paths, c.answe
 
 pub returns-in-Show-clause-unshown : goal.returns-in-Show-clause-unshown
 returns-in-Show-clause-unshown g c = λ one command. inl (c.in-Show.path, c.answer_show.ensures.told one)
+
+-- and what it did by them
+pub returns-in-Save-clause-saved : goal.returns-in-Save-clause-saved
+returns-in-Save-clause-saved g c = λ zero command. (c.in-Save.paths, c.answer_save.ensures.saved zero)
+
+pub returns-in-Add-clause-added : goal.returns-in-Add-clause-added
+returns-in-Add-clause-added g c = λ zero command. (c.in-Add.paths, c.answer_add.ensures.added zero)
+
+pub returns-in-Ask-clause-asked : goal.returns-in-Ask-clause-asked
+returns-in-Ask-clause-asked g c = λ zero command. (c.in-Ask.paths, c.answer_ask.ensures.asked zero)
