@@ -54,6 +54,6 @@ pub trait Marking: Drop {
         ensures { IfOk result (λ rows. rows.bits ≡ map (marks (first base + j))
             (numbers_in places.now)) };
 
-    /// Base 2 has a bitmap, and the bitmap of a digit tells it from each lower one.
+    /// All digits but 0 have a bitmap, and that of a digit tells it from each lower one.
     ghost sound: { IsMarking first marks };
 }

@@ -15,7 +15,7 @@ use crate::marking::Marking;
 use bsi_bits::Bits;
 use bsi_words::RankedRows;
 
-/// The reads of a component, which `Encoding` says more of: each does what its namesake there does.
+/// The reads of a component in an encoding of its own. `Encoding` says more of each.
 pub trait Reads: Marking {
     /// Writes for each row whether its digit is `d`.
     fn eq_into(component: &Component<Self>, d: u32, out: &mut Bits)
