@@ -15,8 +15,6 @@ ghost use Rattle.bsi_rows.specs.Refusals.{index_refusal, row_refusal, rows_refus
 ghost use Rattle.bsi_rows.specs.Numbering.{number_within};
 ghost use Rattle.bsi_rows.specs.RowBlocks.{entries_of, fed_as, no_block_rows, HaveSameLimits};
 ghost use Rattle.bsi_rows.specs.Rows.{column_of, feeders_of, holds, row_entries};
-ghost use Rattle.bsi_columns.specs.Places.{bits_each};
-ghost use Rattle.bsi_table.specs.Bitmaps.{bitmaps_of};
 ghost use Rattle.bsi_table.specs.Index.{table_of};
 ghost use Rattle.bsi_table.specs.Kept.{fed_rows, AreKept, IsInForm};
 
@@ -478,16 +476,6 @@ impl Index {
         ensures offset { result.now.offset ≡ (column_at self.now.schema.columns c).offset }
     {
         &self.columns[c as usize]
-    }
-
-    /// Copies the bitmaps of column `c`: the not-null bitmap, and then each binary place, the least first; under bases
-    /// those of the least significant digits first.
-    pub fn bitmaps(&self, c: u32) -> Result<Vec<Bits>, NoMemory>
-        requires { c < length self.now.schema.columns }
-        ensures { IfOk result (λ made. bits_each made.items
-            ≡ bitmaps_of self.now.schema self.now.rows c) }
-    {
-        self.column(c).stored().bitmaps(*self.columns.allocator())
     }
 
     /// Lends the feeder of each row.
