@@ -105,6 +105,27 @@ static void of_segments(void) {
     bsi_close(&index);
 }
 
+static void of_many_segments(void) {
+    enum { MANY = 1100, SEGMENT = 256 };
+    static const char small[] = "column,x,slices,4\nlimit,2000\n";
+    static uint8_t many[MANY * SEGMENT];
+    bsi_index one = {0}, all = {0};
+    uint64_t bad, row, rows = 0, whole = 0;
+    size_t len = 0, column;
+    int64_t nine = 9;
+    bsi_column columns[1] = {{&nine, 1, NULL, 0}};
+    bsi_answer sum = {0};
+    bool is_saved = bsi_open(&one, (const uint8_t *)small, sizeof small - 1, 1, &bad) == BSI_OK;
+    is_saved = is_saved && bsi_append(&one, 0, columns, 1, &row, &column) == BSI_OK;
+    check(is_saved && bsi_save(&one, notes, 0, many, SEGMENT, &len) == BSI_OK, "save: an index of one row");
+    bsi_close(&one);
+    for (size_t k = 1; k < MANY; k++) memcpy(many + k * len, many, len);
+    check(open_bytes(&all, many, MANY * len, &whole) == BSI_OK && whole == MANY * len, "open: 1,100 segments");
+    bsi_rows(&all, &rows);
+    check(rows == MANY && ask(&all, "sum x all", &sum, NULL, 0) == BSI_OK && sum.low == 9 * MANY, "open: the rows of all");
+    bsi_close(&all);
+}
+
 static void of_each_byte(void) {
     long wrong = 0;
     for (size_t len = 0; len < size; len++) {
@@ -185,6 +206,7 @@ int main(void) {
     bsi_close(&index);
     of_opening();
     of_segments();
+    of_many_segments();
     of_each_byte();
     of_false_counts();
     of_the_file_for_good();

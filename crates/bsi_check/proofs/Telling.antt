@@ -1,11 +1,12 @@
 -- Reasons that are added one after another.
-use Rattle.std.proofs.Common.{◌≡◌, ℕ, zero, suc, ◌+◌, ◌<◌, ◌≤◌, Bool, true, false, ◌&&◌, List, [], ◌∷◌, ◌++◌, length, map, nat_eq, nat_le, refl, sym, ap, subst, ◌∙◌, arith, append_assoc, length-append, codes, Option, None, Some, Result, Ok, Err}
-use Rattle.std.specs.Prelude.{IfOk, OnOk}
+use Rattle.std.proofs.Common.{◌≡◌, ℕ, zero, suc, ◌+◌, ◌<◌, ◌≤◌, Bool, true, false, ◌&&◌, List, [], ◌∷◌, ◌++◌, length, map, nat_eq, nat_le, refl, sym, ap, subst, ◌∙◌, arith, append_assoc, get_or, length-append, codes, Option, None, Some, Result, Ok, Err}
+use Rattle.std.specs.Prelude.{All, IfOk, OnOk}
 use Rattle.std.specs.Bool.{if◌then◌else◌}
 use Rattle.std.specs.List.{concat}
 use Rattle.std.proofs.lemmas.Bool.{le-leb, leb-true, lt-leb}
 use Rattle.std.proofs.lemmas.Bool.Decides.{Decides-eqb}
 use Rattle.std.proofs.lemmas.List.{append-nil, map-append}
+use Rattle.std.proofs.lemmas.List.Elements.{All-append, All-map, All-push}
 use Rattle.std.proofs.lemmas.List.Folds.{concat-append}
 use Rattle.bsi_reading.specs.declared.rows.SourceFault.{SourceFault}
 use Rattle.bsi_reading.specs.declared.rows.SourceFault.TheVariants as source
@@ -17,7 +18,7 @@ use Rattle.bsi_schema.specs.Columns.{Declared}
 use Rattle.bsi_check.specs.Reports.{AreAsksFound}
 use Rattle.bsi_check.specs.declared.named.NamedFile.{NamedFile}
 use Rattle.bsi_check.specs.Checks.{has_good_asks, is_clean}
-use Rattle.bsi_check.specs.Reasons.{bad_lines, fault_why, first_bad, max_told, reason_line, HasTold, HasToldOne, HasToldSome, TellsAsks, TellsBad, TellsFile, TellsFirst, TellsOneUnless, TellsUnless, TellsUnread}
+use Rattle.bsi_check.specs.Reasons.{bad_lines, fault_why, first_bad, is_line_end, max_told, one_line, reason_line, HasTold, HasToldOne, HasToldSome, IsOneLine, TellsAsks, TellsBad, TellsFile, TellsFirst, TellsOneUnless, TellsUnless, TellsUnread}
 
 -- ---- of one file
 
@@ -27,13 +28,36 @@ lines_of path whys = concat (map (reason_line path) whys)
 lines_both : (path : List ℕ) (whys more : List (List ℕ)) → lines_of path (whys ++ more) ≡ lines_of path whys ++ lines_of path more
 lines_both path whys more = ap concat (map-append (reason_line path) whys more) ∙ concat-append (map (reason_line path) whys) (map (reason_line path) more)
 
+-- a text on one line has no line end
+one_line_is : (text : List ℕ) → IsOneLine (one_line text)
+one_line_is text = All-map (λ byte. is_line_end byte ≡ false) (λ byte. if is_line_end byte then 32 else byte) text (λ k d lt. by (get_or text k d))
+  where
+    by : (byte : ℕ) → is_line_end (if is_line_end byte then 32 else byte) ≡ false
+    by byte = cases (is_line_end byte) refl
+      where
+        cases : (b : Bool) → is_line_end byte ≡ b → is_line_end (if is_line_end byte then 32 else byte) ≡ false
+        cases true e = ap (λ b. is_line_end (if b then 32 else byte)) e
+        cases false e = ap (λ b. is_line_end (if b then 32 else byte)) e ∙ e
+
+-- one reason is one of one line
+all_one : (why : List ℕ) → IsOneLine why → All IsOneLine (why ∷ [])
+all_one why is = All-push IsOneLine [] why (λ k d lt. absurd (omega arith)) is
+
+-- its line was added
+pub told_one : {T E : Type 0} (r : Result T E) (path why a b : List ℕ) → OnOk r (b ≡ a ++ reason_line path (one_line why)) → OnOk r (HasTold path (one_line why ∷ []) a b)
+told_one (Ok x) path why a b is =
+    (all_one (one_line why) (one_line_is why), is ∙ ap (λ xs. a ++ xs) (sym (append-nil (reason_line path (one_line why)))))
+told_one (Err e) path why a b is = tt
+
 pub told_none : (path bytes : List ℕ) → HasTold path [] bytes bytes
-told_none path bytes = sym (append-nil bytes)
+told_none path bytes = ((λ k d lt. absurd (omega arith)), sym (append-nil bytes))
 
 pub told_more : (path : List ℕ) (whys more : List (List ℕ)) (a b c : List ℕ) → HasTold path whys a b → HasTold path more b c → HasTold path (whys ++ more) a c
-told_more path whys more a b c one two =
-    two ∙ (ap (λ xs. xs ++ lines_of path more) one
-    ∙ (append_assoc a (lines_of path whys) (lines_of path more) ∙ ap (λ xs. a ++ xs) (sym (lines_both path whys more))))
+told_more path whys more a b c one two = (
+  All-append IsOneLine whys more one.0 two.0,
+  two.1 ∙ (ap (λ xs. xs ++ lines_of path more) one.1
+      ∙ (append_assoc a (lines_of path whys) (lines_of path more) ∙ ap (λ xs. a ++ xs) (sym (lines_both path whys more)))),
+)
 
 one_long : (path why : List ℕ) → 0 < length (reason_line path why)
 one_long path why = omega (arith, length-append (path ++ codes ":" ++ why) (codes "\n"))
@@ -45,7 +69,7 @@ lines_long path (why ∷ whys) =
 
 -- each reason takes a byte at least
 pub told_long : (path : List ℕ) (whys : List (List ℕ)) (a b : List ℕ) → HasTold path whys a b → length a + length whys ≤ length b
-told_long path whys a b told = omega (arith, ap length told, length-append a (lines_of path whys), lines_long path whys)
+told_long path whys a b told = omega (arith, ap length told.1, length-append a (lines_of path whys), lines_long path whys)
 
 -- ---- of bad records
 
@@ -127,7 +151,7 @@ bad_more path bad a b told = by (nat_eq bad 0) refl
     by true e = none bad ((Decides-eqb bad 0).0 e) told
       where
         empty : (whys : List (List ℕ)) → length whys ≡ 0 → HasTold path whys a b → b ≡ a
-        empty [] few is = is ∙ append-nil a
+        empty [] few is = is.1 ∙ append-nil a
         empty (why ∷ whys) few is = absurd (omega arith)
 
         none : (n : ℕ) → n ≡ 0 → TellsBad path n a b → b ≡ a

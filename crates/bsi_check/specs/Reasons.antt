@@ -1,5 +1,5 @@
 -- The reasons that a check tells, a line each.
-use Rattle.std.specs.Prelude.{◌≡◌, ◌≢◌, ℕ, suc, ◌<◌, Bool, true, false, if◌then◌else◌, nat_le, List, [], ◌∷◌, ◌++◌, length, map, Option, None, Some, IfSome, codes}
+use Rattle.std.specs.Prelude.{◌≡◌, ◌≢◌, ℕ, suc, ◌<◌, Bool, true, false, if◌then◌else◌, ◌||◌, nat_eq, nat_le, All, List, [], ◌∷◌, ◌++◌, length, map, Option, None, Some, IfSome, codes}
 use Rattle.std.specs.List.{concat}
 use Rattle.bsi_records.specs.declared.setups.DeclaredTable.{DeclaredTable}
 use Rattle.bsi_reading.specs.FaultTexts.{source_fault_text}
@@ -13,13 +13,25 @@ use Rattle.bsi_check.specs.declared.found.AsksFound.TheVariants as asks
 use Rattle.bsi_check.specs.declared.found.FileFound.{FileFound}
 use Rattle.bsi_check.specs.declared.found.FileFound.TheVariants.{Counted, NoHeader, Unread}
 
+-- a line feed or a carriage return
+abbrev pub is_line_end : ℕ → Bool
+is_line_end byte = nat_eq byte 10 || nat_eq byte 13
+
+-- a text in which no line ends
+abbrev pub IsOneLine : List ℕ → Type 0
+IsOneLine text = All (λ byte. is_line_end byte ≡ false) text
+
+-- a text on one line: a space stands for each line end
+abbrev pub one_line : List ℕ → List ℕ
+one_line text = map (λ byte. if is_line_end byte then 32 else byte) text
+
 -- the line of a reason: the path of its file, a colon, and what is wrong
 abbrev pub reason_line : List ℕ → List ℕ → List ℕ
 reason_line path why = path ++ codes ":" ++ why ++ codes "\n"
 
--- these reasons of one file were added to a text
+-- these reasons of one file, of one line each, were added to a text
 abbrev pub HasTold : List ℕ → List (List ℕ) → List ℕ → List ℕ → Type 0
-HasTold path whys before after = after ≡ before ++ concat (map (reason_line path) whys)
+HasTold path whys before after = All IsOneLine whys × (after ≡ before ++ concat (map (reason_line path) whys))
 
 -- one reason was
 abbrev pub HasToldOne : List ℕ → List ℕ → List ℕ → Type 0

@@ -1,6 +1,6 @@
 //! The lines of reasons.
-ghost use Rattle.std.specs.Prelude.{◌∷◌, ◌++◌, [], codes, OnOk};
-ghost use Rattle.bsi_check.specs.Reasons.{HasTold, HasToldOne};
+ghost use Rattle.std.specs.Prelude.{◌≡◌, ◌∷◌, ◌++◌, [], codes, if◌then◌else◌, OnOk};
+ghost use Rattle.bsi_check.specs.Reasons.{is_line_end, one_line, reason_line, HasTold, HasToldOne};
 
 use crate::NoMemory;
 use bsi_reasons::{count_line_feeds, count_lone_returns};
@@ -10,15 +10,44 @@ use std::alloc::Global;
 /// The most reasons that are told of one file.
 pub(crate) const MAX_TOLD: u64 = 100;
 
-/// Adds the line of a reason: the path of its file, a colon, and what is wrong.
+/// Adds the line of a reason: the path of its file, a colon, and what is wrong, with a space for each line end.
 fn tell_why(reasons: &mut Vec<u8>, path: &str, why: &str) -> Result<(), NoMemory>
     ensures { OnOk result
-        (HasTold path.now (why.now ∷ []) reasons.old.items reasons.new.items) }
+        (HasTold path.now (one_line why.now ∷ []) reasons.old.items reasons.new.items) }
+{
+    push_line(reasons, path, why)
+}
+
+/// Adds the bytes of this line.
+fn push_line(reasons: &mut Vec<u8>, path: &str, why: &str) -> Result<(), NoMemory>
+    ensures { OnOk result
+        (reasons.new.items ≡ reasons.old.items ++ reason_line path.now (one_line why.now)) }
 {
     reasons.extend_from_slice(path.as_bytes())?;
     reasons.extend_from_slice(b":")?;
-    reasons.extend_from_slice(why.as_bytes())?;
+    push_on_line(reasons, why)?;
     reasons.extend_from_slice(b"\n")
+}
+
+/// Adds a text, with a space for each line end.
+fn push_on_line(line: &mut Vec<u8>, text: &str) -> Result<(), NoMemory>
+    ensures { OnOk result (line.new.items ≡ line.old.items ++ one_line text.now) }
+{
+    let bytes = text.as_bytes();
+    'bytes: for byte in bytes {
+        line.push(keep_on_line(*byte))?;
+    }
+    Ok(())
+}
+
+/// Returns a byte of a line, or a space for a line end.
+fn keep_on_line(byte: u8) -> u8
+    ensures { result ≡ (if is_line_end byte then 32 else byte) }
+{
+    match byte {
+        b'\n' | b'\r' => b' ',
+        _ => byte,
+    }
 }
 
 /// Adds the line of a reason that is about a whole file.
@@ -29,7 +58,7 @@ pub(crate) fn tell(
     text: &str,
 ) -> Result<(), NoMemory>
     ensures { OnOk result
-        (HasTold path.now ((codes " " ++ text.now) ∷ []) reasons.old.items reasons.new.items) }
+        (HasTold path.now (one_line (codes " " ++ text.now) ∷ []) reasons.old.items reasons.new.items) }
 {
     let why = format!(in alloc; " {text}")?;
     tell_why(reasons, path, why.as_str())
