@@ -22,7 +22,7 @@ use Rattle.bsi_reading.proofs.FirstRecords.{first_all, first_more, first_none, H
 use Rattle.bsi_schema.specs.Columns.{Declared}
 use Rattle.bsi_rows.specs.Rows.{FedRow}
 use Rattle.bsi_asks.specs.AskLines.{IsAskLine}
-use Rattle.bsi_asks.specs.declared.wording.Wording.TheVariants.{Queries}
+use Rattle.bsi_records.specs.declared.grammar.Grammar.TheVariants.{Script}
 use Rattle.bsi_asks.specs.Faults.{is_late, text_fault}
 use Rattle.bsi_asks.specs.declared.faults.FilesFault.{FilesFault}
 use Rattle.bsi_asks.specs.declared.faults.FilesFault.TheVariants.{Read, TooLong, NoMemory, Write}
@@ -152,7 +152,7 @@ module _ (Is : List Field → List ℕ → Type 0) {R : Type 0} (rem : R → Opt
 -- ---- the lines of the feeders stand before them
 
 module _ (schema : Declared) (rows : List FedRow) (counts : List FedCounts) (bytes : List ℕ) (before middle after : Option (List ℕ)) where
-  pub headed_all : Appends before middle (concat (fed_lines 0 counts)) → WritesAll (AreMatched (IsAskLine Queries schema rows)) bytes middle after
+  pub headed_all : Appends before middle (concat (fed_lines 0 counts)) → WritesAll (AreMatched (IsAskLine Script schema rows)) bytes middle after
       → WritesAll (AreLines schema rows counts) bytes before after
   headed_all written all = record {
     records = all.records;
@@ -165,7 +165,7 @@ module _ (schema : Declared) (rows : List FedRow) (counts : List FedCounts) (byt
   }
 
   pub headed_part : (fault : FilesFault) → Appends before middle (concat (fed_lines 0 counts))
-      → WritesFirst (AreMatched (IsAskLine Queries schema rows)) bytes fault middle after → WritesFirst (AreLines schema rows counts) bytes fault before after
+      → WritesFirst (AreMatched (IsAskLine Script schema rows)) bytes fault middle after → WritesFirst (AreLines schema rows counts) bytes fault before after
   headed_part fault written part = record {
     records = part.records;
     lines = fed_lines 0 counts ++ part.lines;

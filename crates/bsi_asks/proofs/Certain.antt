@@ -24,8 +24,12 @@ use Rattle.bsi_reading.specs.SchemaTexts.{table_declared, Declares, IsSchemaText
 use Rattle.bsi_reading.specs.Texts.{AreAllRecords}
 use Rattle.bsi_reading.proofs.Determined.{same_selected, same_total}
 use Rattle.bsi_reading.proofs.Named.{table_named}
-use Rattle.bsi_asks.specs.AskLines.{IsAskLine, IsArrangedAnswer, IsArrangedReply, IsQueryLine}
-use Rattle.bsi_asks.specs.declared.wording.Wording.TheVariants.{Queries}
+use Rattle.bsi_records.specs.Events.{IsQuery}
+use Rattle.bsi_rows.specs.declared.question.Question.{Question}
+use Rattle.bsi_rows.specs.declared.question.Question.TheVariants as question
+use Rattle.bsi_asks.specs.AskLines.{IsAskLine, IsArrangedAnswer, IsArrangedReply, IsQuestionLine}
+use Rattle.bsi_asks.proofs.Showing.{its_query}
+use Rattle.bsi_records.specs.declared.grammar.Grammar.TheVariants.{Script}
 use Rattle.bsi_asks.specs.Matching.{AreMatched}
 use Rattle.bsi_asks.specs.Mixes.{file_by_file}
 use Rattle.bsi_asks.specs.RowFiles.{file_counts, file_rows, FedCounts, IsRowFile, RowFile}
@@ -124,22 +128,25 @@ module _ (schema : Declared) (rows : List FedRow) where
     listed (value_answer m) (value_answer n) one two = plain (value_answer m) (value_answer n) one two
 
   module _ (named : AreNamed schema.columns) where
-    query_line : (fields : List Field) (a b : List ℕ) → IsQueryLine Queries schema rows fields a → IsQueryLine Queries schema rows fields b → a ≢ no_memory_line → b ≢ no_memory_line → a ≡ b
-    query_line fields a b (inl x) (inl y) found_a found_b = x.line_is ∙ sym y.line_is
-    query_line fields a b (inl x) (inr y) found_a found_b = absurd (x.none y.query y.asked)
-    query_line fields a b (inr x) (inl y) found_a found_b = absurd (y.none x.query x.asked)
-    query_line fields a b (inr x) (inr y) found_a found_b =
-        let first = shown x.query x.reply (query_is_there schema fields x.query x.asked) x.lawful (λ line. found_a (x.line_is ∙ line)) in
-        let second = shown y.query y.reply (query_is_there schema fields y.query y.asked) y.lawful (λ line. found_b (y.line_is ∙ line)) in
-        let alike = same_query schema named fields x.query y.query x.asked y.asked in
-        x.line_is ∙ (ap ask_line first.1 ∙ (listed x.query y.query alike.0 alike.1 first.0 second.0 first.2 second.2 ∙ (sym (ap ask_line second.1) ∙ sym y.line_is)))
+    one_query : (fields : List Field) (a b : List ℕ) (p q : Query) → IsQuery schema fields p → IsQuery schema fields q → IsQuestionLine schema rows (question.Total p) a
+        → IsQuestionLine schema rows (question.Total q) b → a ≢ no_memory_line → b ≢ no_memory_line → a ≡ b
+    one_query fields a b p q asks_p asks_q x y found_a found_b =
+        let first = shown p x.0 (query_is_there schema fields p asks_p) x.1 (λ line. found_a (x.2 ∙ line)) in
+        let second = shown q y.0 (query_is_there schema fields q asks_q) y.1 (λ line. found_b (y.2 ∙ line)) in
+        let alike = same_query schema named fields p q asks_p asks_q in
+        x.2 ∙ (ap ask_line first.1 ∙ (listed p q alike.0 alike.1 first.0 second.0 first.2 second.2 ∙ (sym (ap ask_line second.1) ∙ sym y.2)))
 
-    one_line : (fields : List Field) (a b : List ℕ) → IsAskLine Queries schema rows fields a → IsAskLine Queries schema rows fields b → a ≢ no_memory_line → b ≢ no_memory_line → a ≡ b
-    one_line fields a b (inl x) y found_a found_b = absurd x.asked
-    one_line fields a b (inr x) (inl y) found_a found_b = absurd y.asked
-    one_line fields a b (inr x) (inr y) found_a found_b = query_line fields a b x.1 y.1 found_a found_b
+    one_line : (fields : List Field) (a b : List ℕ) → IsAskLine Script schema rows fields a → IsAskLine Script schema rows fields b → a ≢ no_memory_line → b ≢ no_memory_line → a ≡ b
+    one_line fields a b (inl x) (inl y) found_a found_b = x.line_is ∙ sym y.line_is
+    one_line fields a b (inl x) (inr y) found_a found_b = absurd (x.none y.asked y.is)
+    one_line fields a b (inr x) (inl y) found_a found_b = absurd (y.none x.asked x.is)
+    one_line fields a b (inr x) (inr y) found_a found_b =
+        let p = its_query schema fields x.asked x.is in
+        let q = its_query schema fields y.asked y.is in
+        one_query fields a b p.0 q.0 p.1 q.1 (subst (λ (asked : Question). IsQuestionLine schema rows asked a) p.2 x.answered)
+        (subst (λ (asked : Question). IsQuestionLine schema rows asked b) q.2 y.answered) found_a found_b
 
-    each_line : (records : List (List Field)) (a b : List (List ℕ)) → AreMatched (IsAskLine Queries schema rows) records a → AreMatched (IsAskLine Queries schema rows) records b
+    each_line : (records : List (List Field)) (a b : List (List ℕ)) → AreMatched (IsAskLine Script schema rows) records a → AreMatched (IsAskLine Script schema rows) records b
         → All IsFound a → All IsFound b → a ≡ b
     each_line [] [] [] one two found_a found_b = refl
     each_line [] (x ∷ a) b one two found_a found_b = absurd one

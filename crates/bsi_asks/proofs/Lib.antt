@@ -8,7 +8,6 @@ pub mod Passing
 mod Perms
 mod Places
 mod ReportTexts
-mod Reporting
 mod Rising
 mod Selecting
 pub mod Showing

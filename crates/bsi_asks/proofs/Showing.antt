@@ -1,5 +1,5 @@
 -- Answers as their lines show them.
-use Rattle.std.proofs.Common.{◌≡◌, ℕ, zero, suc, ◌+◌, List, [], ◌∷◌, Result, Ok, Err, refl, ap, sym, ◌∙◌, inl, inr, map, arith, slice_index_or}
+use Rattle.std.proofs.Common.{◌≡◌, ℕ, zero, suc, ◌+◌, List, [], ◌∷◌, Result, Ok, Err, subst, refl, ap, sym, ◌∙◌, inl, inr, map, arith, slice_index_or}
 use Rattle.bsi_rows.specs.Runs.{rows_from}
 use Rattle.bsi_records.specs.Numbers.{Field}
 use Rattle.bsi_schema.specs.Columns.{Declared}
@@ -8,8 +8,12 @@ use Rattle.bsi_rows.specs.declared.errors.AskError.{AskError}
 use Rattle.bsi_rows.specs.declared.errors.AskError.TheVariants as ask
 use Rattle.bsi_rows.specs.declared.query.Answer.{Answer}
 use Rattle.bsi_rows.specs.declared.query.Query.{Query}
-use Rattle.bsi_asks.specs.AskLines.{IsAskLine, IsArrangedReply, IsQueryLine}
-use Rattle.bsi_asks.specs.declared.wording.Wording.TheVariants.{Queries}
+use Rattle.bsi_rows.specs.declared.question.Question.{Question}
+use Rattle.bsi_rows.specs.declared.question.Question.TheVariants as question
+use Rattle.bsi_records.specs.Events.{IsQuery}
+use Rattle.bsi_records.specs.Questions.{IsQuestion}
+use Rattle.bsi_asks.specs.AskLines.{IsAskLine, IsArrangedReply, IsQuestionLine}
+use Rattle.bsi_records.specs.declared.grammar.Grammar.TheVariants.{Script}
 use Rattle.bsi_asks.specs.Matching.{AreMatched}
 use Rattle.bsi_asks.specs.Mixes.{file_by_file, AreAlike, IsMixOf}
 use Rattle.bsi_asks.specs.RowFiles.{file_at, FedCounts, RowFile}
@@ -23,22 +27,28 @@ reply_too schema a b alike query (Ok answer) is = (is.0, shown_too a b alike que
 reply_too schema a b alike query (Err ask.NoMemory) is = is
 reply_too schema a b alike query (Err (ask.BadColumn c)) is = is
 
-query_too : (schema : Declared) (a b : List FedRow) → AreAlike a b → (fields : List Field) (line : List ℕ) → IsQueryLine Queries schema a fields line → IsQueryLine Queries schema b fields line
-query_too schema a b alike fields line (inl none) = inl none
-query_too schema a b alike fields line (inr asks) = inr (record {
-  query = asks.query;
-  reply = asks.reply;
-  asked = asks.asked;
-  lawful = reply_too schema a b alike asks.query asks.reply asks.lawful;
-  line_is = asks.line_is;
-})
+-- what a script asks is a query
+pub its_query : (schema : Declared) (fields : List Field) (asked : Question) → IsQuestion Script schema fields asked
+    → (query : Query) × IsQuery schema fields query × (asked ≡ question.Total query)
+its_query schema fields (question.Total query) is = (query, is, refl)
+its_query schema fields (question.Groups query by) is = absurd is
+its_query schema fields (question.Top end c most pred) is = absurd is
+its_query schema fields (question.Distinct c pred) is = absurd is
+its_query schema fields (question.Quantile share c pred) is = absurd is
 
-line_too : (schema : Declared) (a b : List FedRow) → AreAlike a b → (fields : List Field) (line : List ℕ) → IsAskLine Queries schema a fields line → IsAskLine Queries schema b fields line
-line_too schema a b alike fields line (inl report) = absurd report.asked
-line_too schema a b alike fields line (inr is) = inr (is.0, query_too schema a b alike fields line is.1)
+line_too : (schema : Declared) (a b : List FedRow) → AreAlike a b → (fields : List Field) (line : List ℕ) → IsAskLine Script schema a fields line → IsAskLine Script schema b fields line
+line_too schema a b alike fields line (inl none) = inl none
+line_too schema a b alike fields line (inr asks) =
+    let it = its_query schema fields asks.asked asks.is in
+    let of_query : IsQuestionLine schema a (question.Total it.0) line = subst (λ (asked : Question). IsQuestionLine schema a asked line) it.2 asks.answered in
+    inr (record {
+      asked = question.Total it.0;
+      is = it.1;
+      answered = (of_query.0, reply_too schema a b alike it.0 of_query.0 of_query.1, of_query.2);
+    })
 
-each_too : (schema : Declared) (a b : List FedRow) → AreAlike a b → (records : List (List Field)) (lines : List (List ℕ)) → AreMatched (IsAskLine Queries schema a) records lines
-    → AreMatched (IsAskLine Queries schema b) records lines
+each_too : (schema : Declared) (a b : List FedRow) → AreAlike a b → (records : List (List Field)) (lines : List (List ℕ)) → AreMatched (IsAskLine Script schema a) records lines
+    → AreMatched (IsAskLine Script schema b) records lines
 each_too schema a b alike [] [] are = tt
 each_too schema a b alike [] (line ∷ lines) are = absurd are
 each_too schema a b alike (fields ∷ records) [] are = absurd are

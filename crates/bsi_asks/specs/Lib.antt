@@ -4,8 +4,6 @@ pub mod Faults
 pub mod Matching
 pub mod Mixes
 pub mod ReportLines
-pub mod Reports
 pub mod RowFiles
 pub mod Runs
-pub mod Wordings
 pub mod Writing

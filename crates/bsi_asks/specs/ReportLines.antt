@@ -2,25 +2,18 @@
 use Rattle.std.specs.Prelude.{◌≡◌, ◌<◌, ◌≤◌, ℕ, ℤ, All, List, [], ◌∷◌, ◌++◌, Option, Some, None, Result, Ok, Err, codes, decimal, length, slice_index, slice_index_or}
 use Rattle.std.specs.Fmt.{signed_decimal}
 use Rattle.std.specs.List.{flat_map}
-use Rattle.std.specs.Ordering.{int_eq}
-use Rattle.std.specs.Set.{distinct_count}
 use Rattle.bsi_groups.specs.Groups.{missing_grouped, selected_by, AreGroups, Grouped, IsGroupRefusal}
-use Rattle.bsi_groups.specs.Quantiles.{IsQuantileOf}
-use Rattle.bsi_groups.specs.Replies.{selected, selected_numbers, IsReplyOn}
-use Rattle.bsi_groups.specs.Tops.{AreTop}
 use Rattle.bsi_groups.specs.declared.grouping.GroupError.{GroupError}
 use Rattle.bsi_groups.specs.declared.grouping.GroupError.TheVariants as group
 use Rattle.bsi_groups.specs.declared.tops.TopRow.{TopRow}
 use Rattle.bsi_records.specs.Lines.{ask_line, bad_line, no_memory_line}
 use Rattle.bsi_rows.specs.Numbering.{number_within}
-use Rattle.bsi_rows.specs.Rows.{column_of, feeders_of, FedRow}
+use Rattle.bsi_rows.specs.Rows.{FedRow}
 use Rattle.bsi_rows.specs.declared.errors.AskError.{AskError}
 use Rattle.bsi_rows.specs.declared.query.Answer.{Answer}
 use Rattle.bsi_rows.specs.declared.query.Answer.TheVariants.{Count, Sum, Value, Rows}
 use Rattle.bsi_rows.specs.declared.query.Query.{Query}
 use Rattle.bsi_schema.specs.Columns.{Declared}
-use Rattle.bsi_asks.specs.declared.reports.Report.{Report}
-use Rattle.bsi_asks.specs.declared.reports.Report.TheVariants.{Groups, Top, Distinct, Quantile}
 
 -- the most groups that are listed
 abbrev pub max_groups : ℕ
@@ -84,20 +77,3 @@ IsGrouped schema rows query by (Ok groups) =
     (missing_grouped (length schema.columns) query by ≡ None) × AreGroups query.total (selected_by query rows) by rows groups
     × (length groups ≤ max_groups)
 IsGrouped schema rows query by (Err why) = IsGroupRefusal schema rows query by max_groups why
-
--- the line has the reply to this report over these rows
-abbrev pub IsReportLine : Declared → List FedRow → Report → List ℕ → Type 0
-IsReportLine schema rows (Groups query by) line =
-    (reply : Result (List Grouped) GroupError) × IsGrouped schema rows query by.items reply × (line ≡ groups_line reply)
-IsReportLine schema rows (Top end c most pred) line =
-    (reply : Result (List TopRow) AskError)
-    × IsReplyOn schema c pred (λ listed. AreTop end most (selected pred rows) (column_of rows c) listed) reply
-    × (line ≡ top_line (feeders_of rows) reply)
-IsReportLine schema rows (Distinct c pred) line =
-    (reply : Result ℕ AskError)
-    × IsReplyOn schema c pred (λ count. count ≡ distinct_count int_eq (selected_numbers c pred rows)) reply
-    × (line ≡ count_line reply)
-IsReportLine schema rows (Quantile share c pred) line =
-    (reply : Result (Option ℤ) AskError)
-    × IsReplyOn schema c pred (IsQuantileOf share (selected_numbers c pred rows)) reply
-    × (line ≡ value_line reply)

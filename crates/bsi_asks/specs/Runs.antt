@@ -6,7 +6,7 @@ use Rattle.bsi_schema.specs.Columns.{Declared}
 use Rattle.bsi_rows.specs.Rows.{FedRow}
 use Rattle.bsi_reading.specs.SchemaTexts.{IsSchemaText}
 use Rattle.bsi_asks.specs.AskLines.{IsAskLine}
-use Rattle.bsi_asks.specs.declared.wording.Wording.TheVariants.{Queries}
+use Rattle.bsi_records.specs.declared.grammar.Grammar.TheVariants.{Script}
 use Rattle.bsi_asks.specs.Matching.{AreMatched}
 use Rattle.bsi_asks.specs.Mixes.{file_by_file, IsMixOf}
 use Rattle.bsi_asks.specs.RowFiles.{file_counts, file_rows, FedCounts, IsRowFile, RowFile}
@@ -20,7 +20,7 @@ fed_lines n (counts ∷ more) = fed_line n counts.accepted counts.bad ∷ fed_li
 pub record AreLines (schema : Declared) (rows : List FedRow) (counts : List FedCounts) (records : List (List Field))
     (lines : List (List ℕ)) : Type 0 where
   pub answers : List (List ℕ)
-  pub each : AreMatched (IsAskLine Queries schema rows) records answers
+  pub each : AreMatched (IsAskLine Script schema rows) records answers
   pub lines_are : lines ≡ fed_lines 0 counts ++ answers
 
 -- the good rows of files of these bytes, mixed in some way and within the limit, and what each file gave

@@ -7,23 +7,24 @@ ghost use Rattle.csv.specs.Reading.{reader_state, source_of};
 ghost use Rattle.csv.specs.Records.{fields_of};
 ghost use Rattle.csv.specs.declared.parser.State.TheVariants as st;
 ghost use Rattle.bsi_records.specs.Lines.{fed_line};
+ghost use Rattle.bsi_records.specs.Reading.{texts};
 ghost use Rattle.bsi_reading.specs.Texts.{FromText};
 ghost use Rattle.bsi_asks.specs.RowFiles.{fed_counts};
 ghost use Rattle.bsi_asks.specs.Faults.{is_late};
 ghost use Rattle.bsi_rows.specs.Answers.{IsAnswer};
 ghost use Rattle.bsi_rows.specs.Rows.{FedRow};
 ghost use Rattle.bsi_rows.specs.declared.query.Query.{Query};
-ghost use Rattle.bsi_asks.specs.AskLines.{IsArrangedAnswer, IsAskLine, IsQueryLine};
+ghost use Rattle.bsi_asks.specs.AskLines.{IsArrangedAnswer, IsAskLine};
 ghost use Rattle.bsi_asks.specs.Matching.{AreMatched};
 ghost use Rattle.bsi_asks.specs.Runs.{fed_lines};
 ghost use Rattle.bsi_asks.specs.Writing.{AreOut, WritesAll, WritesFirst};
 ghost use Rattle.bsi_rows.specs.Table.{max_feeders};
 
-use crate::report_lines::tell_report;
-use crate::{Fed, FilesFault, NoMemory, Which, Wording, file_number};
+use crate::report_lines::write_question;
+use crate::{Fed, FilesFault, NoMemory, Which, file_number};
 use bsi_reading::{RecordSource, write_bytes};
-use bsi_records::{write_bad, write_fed, write_reply};
-use bsi_rows::{Reply, arrange};
+use bsi_records::{Grammar, QuestionError, lend_fields, read_question, write_bad, write_fed};
+use bsi_rows::arrange;
 use bsi_table::{Answer, Index};
 use csv::ByteRecord;
 use std::alloc::Global;
@@ -34,21 +35,21 @@ use std::io::{Read, Write};
 pub fn answer_asks<A: Read + Drop, W: Write>(
     alloc: Global,
     table: &Index,
-    wording: Wording,
+    grammar: Grammar,
     asks: A,
     writer: &mut W,
 ) -> Result<(), FilesFault>
     ensures late { IfErr result (λ fault. is_late fault ≡ true) }
     ensures ok { OnOk result (IfSome (A.remaining asks) (λ bytes.
-        WritesAll (AreMatched (IsAskLine wording table.now.schema table.now.rows)) bytes
+        WritesAll (AreMatched (IsAskLine grammar table.now.schema table.now.rows)) bytes
         (W.contents writer.old) (W.contents writer.new))) }
     ensures part { IfErr result (λ fault. IfSome (A.remaining asks) (λ bytes.
-        WritesFirst (AreMatched (IsAskLine wording table.now.schema table.now.rows)) bytes fault
+        WritesFirst (AreMatched (IsAskLine grammar table.now.schema table.now.rows)) bytes fault
         (W.contents writer.old) (W.contents writer.new))) }
 {
     let mut line = Vec::new(alloc);
     let mut records = RecordSource::new(alloc, asks);
-    answer_records(alloc, table, wording, &mut records, &mut line, writer)
+    answer_records(alloc, table, grammar, &mut records, &mut line, writer)
 }
 
 /// Writes a line for each of at most 64 feeders, in their order. After a fault some first lines stand, whole unless the
@@ -82,7 +83,7 @@ fn tell(feeder: u32, end: &Fed, line: &mut Vec<u8>) -> Result<(), NoMemory>
 fn answer_records<A: Read + Drop, W: Write>(
     alloc: Global,
     table: &Index,
-    wording: Wording,
+    grammar: Grammar,
     records: &mut RecordSource<A>,
     line: &mut Vec<u8>,
     writer: &mut W,
@@ -91,10 +92,10 @@ fn answer_records<A: Read + Drop, W: Write>(
     requires start { reader_state records.old.input ≡ st.StartRecord }
     ensures late { IfErr result (λ fault. is_late fault ≡ true) }
     ensures ok { OnOk result (FromText (source_of A.remaining records.old.input) (λ bytes.
-        WritesAll (AreMatched (IsAskLine wording table.now.schema table.now.rows)) bytes
+        WritesAll (AreMatched (IsAskLine grammar table.now.schema table.now.rows)) bytes
         (W.contents writer.old) (W.contents writer.new))) }
     ensures part { IfErr result (λ fault. FromText (source_of A.remaining records.old.input)
-        (λ bytes. WritesFirst (AreMatched (IsAskLine wording table.now.schema table.now.rows)) bytes fault
+        (λ bytes. WritesFirst (AreMatched (IsAskLine grammar table.now.schema table.now.rows)) bytes fault
         (W.contents writer.old) (W.contents writer.new))) }
 {
     let mut fields = ByteRecord::new(alloc);
@@ -105,7 +106,7 @@ fn answer_records<A: Read + Drop, W: Write>(
             Ok(false) => return Ok(()),
             Err(fault) => return Err(FilesFault::of_text(Which::AsksFile, fault)),
         }
-        answer(alloc, table, wording, &fields, line)?;
+        answer(alloc, table, grammar, &fields, line)?;
         write_bytes(writer, line.as_slice())?;
     }
     // No text has so many records, so the loop has returned.
@@ -116,42 +117,39 @@ fn answer_records<A: Read + Drop, W: Write>(
 fn answer(
     alloc: Global,
     table: &Index,
-    wording: Wording,
+    grammar: Grammar,
     fields: &ByteRecord,
     line: &mut Vec<u8>,
 ) -> Result<(), FilesFault>
     ensures late { IfErr result (λ fault. is_late fault ≡ true) }
     ensures short { IfErr result (λ fault. fault ≢ FilesFault.TooLong Which.AsksFile) }
     ensures line { OnOk result
-        (IsAskLine wording table.now.schema table.now.rows (fields_of fields.now) line.new.items) }
+        (IsAskLine grammar table.now.schema table.now.rows (fields_of fields.now) line.new.items) }
 {
-    if let Some(report) = wording.read_report(alloc, table.schema(), fields)? {
-        tell_report(alloc, table, &report, line)?;
-        return Ok(());
-    }
-    answer_query(alloc, table, wording, fields, line)?;
+    let fields = lend_fields(alloc, fields)?;
+    answer_fields(alloc, table, grammar, &fields, line)?;
     Ok(())
 }
 
-/// Makes `line` the line that answers a record that asks for no report.
-fn answer_query(
+/// Makes `line` the line that answers the fields of a record.
+fn answer_fields(
     alloc: Global,
     table: &Index,
-    wording: Wording,
-    fields: &ByteRecord,
+    grammar: Grammar,
+    fields: &[&[u8]],
     line: &mut Vec<u8>,
 ) -> Result<(), NoMemory>
-    ensures { OnOk result (IsQueryLine wording table.now.schema table.now.rows
-        (fields_of fields.now) line.new.items) }
+    ensures { OnOk result
+        (IsAskLine grammar table.now.schema table.now.rows (texts fields.now) line.new.items) }
 {
-    line.clear();
-    let Some(query) = wording.read(alloc, table.schema(), fields)? else {
-        return write_bad(line);
-    };
-    let reply = table
-        .ask(&query)
-        .map(|answer| arrange_answer(alloc, answer));
-    write_reply(&Reply::Answered(reply), line)
+    match read_question(alloc, table.schema(), grammar, fields) {
+        Ok(question) => write_question(alloc, table, &question, line),
+        Err(QuestionError::Stopped(_)) => {
+            line.clear();
+            write_bad(line)
+        }
+        Err(QuestionError::NoMemory) => Err(NoMemory),
+    }
 }
 
 /// Arranges the rows of an answer in order of feeder, and then of their numbers.

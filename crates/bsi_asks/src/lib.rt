@@ -7,13 +7,10 @@ mod faults;
 mod fed;
 pub mod laws;
 mod report_lines;
-mod reports;
-mod wording;
 
 pub use asks::{answer_asks, arrange_answer, tell_feds};
+pub use bsi_records::Grammar;
 pub use faults::{FaultText, FilesFault, MAX_FAULT_TEXT, Which};
 pub use fed::{Fed, file_number};
 pub use report_lines::MAX_GROUPS;
-pub use reports::{Report, read_report};
 pub use std::alloc::AllocError as NoMemory;
-pub use wording::Wording;

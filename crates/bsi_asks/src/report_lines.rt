@@ -1,16 +1,18 @@
-//! The lines that answer reports.
+//! The lines that answer questions.
 
 ghost use Rattle.std.specs.Prelude.{◌≡◌, ◌<◌, ◌++◌, OnOk, Ok, Err, length};
 ghost use Rattle.std.specs.List.{flat_map};
 ghost use Rattle.bsi_records.specs.Lines.{ask_line};
 ghost use Rattle.bsi_rows.specs.Rows.{feeders_of};
-ghost use Rattle.bsi_asks.specs.ReportLines.{count_line, entries_text, entry_text, group_text, groups_line, row_text, top_line, value_line, value_text, AreWithin, IsReportLine};
+ghost use Rattle.bsi_asks.specs.ReportLines.{count_line, entries_text, entry_text, group_text, groups_line, row_text, top_line, value_line, value_text, AreWithin};
+ghost use Rattle.bsi_asks.specs.AskLines.{IsQuestionLine};
+ghost use Rattle.bsi_rows.specs.declared.question.Question.TheVariants.{Total};
 
 use crate::NoMemory;
-use crate::reports::Report;
+use crate::asks::arrange_answer;
 use bsi_groups::{Group, GroupError, Groups, TopRow, distinct, group_by, quantile, top};
 use bsi_records::{write_bad, write_reply};
-use bsi_rows::{AskError, Reply};
+use bsi_rows::{AskError, Query, Question, Reply};
 use bsi_table::{Answer, Index};
 use itoa::{Buffer, Integer};
 use std::alloc::Global;
@@ -18,29 +20,47 @@ use std::alloc::Global;
 /// The most groups that a report lists.
 pub const MAX_GROUPS: usize = 65_536;
 
-/// Makes `line` the line that answers a report over the rows of an index.
-pub(crate) fn tell_report(
+/// Makes `line` the line that answers a question over the rows of an index.
+pub(crate) fn write_question(
     alloc: Global,
     table: &Index,
-    report: &Report,
+    question: &Question,
     line: &mut Vec<u8>,
 ) -> Result<(), NoMemory>
     ensures { OnOk result
-        (IsReportLine table.now.schema table.now.rows report.now line.new.items) }
+        (IsQuestionLine table.now.schema table.now.rows question.now line.new.items) }
 {
     line.clear();
-    match report {
-        Report::Groups(query, by) => match group_by(alloc, table, query, by, MAX_GROUPS) {
+    match question {
+        Question::Total(query) => write_total(alloc, table, query, line),
+        Question::Groups(query, by) => match group_by(alloc, table, query, by, MAX_GROUPS) {
             Ok(groups) => write_groups(&groups, line),
             Err(refused) => write_no_groups(refused, line),
         },
-        Report::Top(end, c, most, pred) => match top(alloc, table, *c, *most as usize, *end, pred) {
-            Ok(rows) => write_top(&rows, table, line),
-            Err(refused) => write_refused(refused, line),
-        },
-        Report::Distinct(c, pred) => write_count(distinct(alloc, table, *c, pred), line),
-        Report::Quantile(share, c, pred) => write_found(quantile(table, *c, *share, pred), line),
+        Question::Top(end, c, most, pred) => {
+            match top(alloc, table, *c, *most as usize, *end, pred) {
+                Ok(rows) => write_top(&rows, table, line),
+                Err(refused) => write_refused(refused, line),
+            }
+        }
+        Question::Distinct(c, pred) => write_count(distinct(alloc, table, *c, pred), line),
+        Question::Quantile(share, c, pred) => write_found(quantile(table, *c, *share, pred), line),
     }
+}
+
+/// Makes `line` the line of a total.
+fn write_total(
+    alloc: Global,
+    table: &Index,
+    query: &Query,
+    line: &mut Vec<u8>,
+) -> Result<(), NoMemory>
+    ensures { OnOk result
+        (IsQuestionLine table.now.schema table.now.rows (Total query.now) line.new.items) }
+{
+    line.clear();
+    let reply = table.ask(query).map(|answer| arrange_answer(alloc, answer));
+    write_reply(&Reply::Answered(reply), line)
 }
 
 /// Appends the line of a refusal.

@@ -4,22 +4,17 @@ use Rattle.std.specs.Prelude.{Option, is_some}
 use Rattle.std.specs.List.{flat_map, range_with_len}
 use Rattle.std.proofs.lemmas.List.{map-append}
 use Rattle.std.proofs.lemmas.List.FromFn.{length-map-range_with_len, map-range_with_len_more}
-use Rattle.bsi_bits.specs.BitList.{BitList}
 use Rattle.bsi_components.specs.PlaceNumbers.{place_count}
 use Rattle.bsi_digits.specs.Digits.{digit_of}
 use Rattle.bsi_orders.specs.Rows.{number_or_zero}
 use Rattle.bsi_words.specs.Places.{has_place}
 use Rattle.bsi_columns.specs.ComponentPlaces.{component_bitmaps, digit_bitmaps}
-use Rattle.bsi_columns.specs.Places.{bits_each, bitmaps_by, digit_places, places_under, slice_places}
+use Rattle.bsi_columns.specs.Places.{bitmaps_by, digit_places, places_under, slice_places}
 use Rattle.bsi_columns.proofs.PieceLists.{map-pieces, pieces_more, pieces_same}
 
 -- of which entries a test holds
 abbrev pub rows_of_test : List (Option ℕ) → (ℕ → Bool) → List Bool
 rows_of_test entries test = map (λ e. test (number_or_zero e)) entries
-
--- one bitmap more
-pub bits-push : (old new : List BitList) (last : BitList) → new ≡ old ++ last ∷ [] → bits_each new ≡ bits_each old ++ last.bits ∷ []
-bits-push old new last is = ap bits_each is ∙ map-append (λ vector. vector.bits) old (last ∷ [])
 
 -- as many slices as the width
 pub length-slice_places : (w : ℕ) → length (slice_places w) ≡ w

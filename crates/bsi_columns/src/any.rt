@@ -10,19 +10,16 @@ ghost use Rattle.bsi_slices.specs.Blocks.{AreNumbersFrom};
 ghost use Rattle.bsi_slices.specs.Related.{KeepsRelatedRows};
 ghost use Rattle.bsi_slices.specs.Spans.{KeepsRows};
 ghost use Rattle.bsi_columns.specs.AnyRows.{any_entries, any_form, any_room, size_in_form, AnyForm};
-ghost use Rattle.bsi_columns.specs.Places.{bits_each, column_bitmaps};
 ghost use Rattle.bsi_orders.specs.Orders.{values_at};
 ghost use Rattle.bsi_orders.specs.Rows.{selects};
 ghost use Rattle.bsi_orders.specs.Totals.{IsGreatestOf, IsLeastOf};
 
-use crate::bitmaps::bitmaps_of_slices;
 use crate::{
     Column, Decomposed, EqualityComponent, MAX_SPAN_WORDS, NoMemory, Op, RangeComponent, Relating,
     Slices,
 };
 use bsi_bits::{Bits, MAX_BLOCK};
 use bsi_words::spans::drop_in;
-use std::alloc::Global;
 
 mod related;
 
@@ -90,21 +87,6 @@ impl AnyColumn {
         ensures { KeepsRows is_none (any_entries self.now) at span.old span.new }
     {
         drop_in(self.not_null(), at, span);
-    }
-}
-
-impl AnyColumn {
-    /// Copies the bitmaps of the column: the not-null bitmap, and then each binary place, the least first; under bases
-    /// those of the least significant digits first.
-    pub fn bitmaps(&self, alloc: Global) -> Result<Vec<Bits>, NoMemory>
-        ensures { IfOk result (λ made. bits_each made.items
-            ≡ column_bitmaps (any_form self.now) (any_entries self.now)) }
-    {
-        match self {
-            AnyColumn::Slices(column) => bitmaps_of_slices(alloc, column),
-            AnyColumn::Equality(column) => column.bitmaps(alloc),
-            AnyColumn::Range(column) => column.bitmaps(alloc),
-        }
     }
 }
 

@@ -1,19 +1,18 @@
-//! Columns as bitmaps, and back: the not-null bitmap, and then a bitmap for each binary place.
+//! Columns that are made of their bitmaps: the not-null bitmap, and then a bitmap for each binary place.
 
-ghost use Rattle.std.specs.Prelude.{◌≡◌, ◌≢◌, ℕ, ◌+◌, ◌*◌, ◌<◌, ◌≤◌, ◌^◌, ◌++◌, List, length, map, take, drop, IfNone, IfOk, IfSome, OnOk};
+ghost use Rattle.std.specs.Prelude.{◌≡◌, ◌≢◌, ℕ, ◌+◌, ◌*◌, ◌<◌, ◌≤◌, ◌^◌, List, length, map, take, drop, IfNone, IfOk, IfSome, OnOk};
 ghost use Rattle.bsi_bits.specs.BitLists.{bits_at};
 ghost use Rattle.bsi_digits.specs.Digits.{max_bases, product, IsBaseList};
 ghost use Rattle.bsi_words.specs.Places.{max_digit_places, max_places};
-ghost use Rattle.bsi_columns.specs.ComponentPlaces.{component_bitmaps, digit_bitmaps};
+ghost use Rattle.bsi_columns.specs.ComponentPlaces.{component_bitmaps};
 ghost use Rattle.bsi_columns.specs.Decomposed.{AreDigitsBelow};
 ghost use Rattle.bsi_columns.specs.Places.{bits_each, bitmaps_by, places_under, slice_places, AreOfNone};
 
-use crate::{BinaryPlaces, Column, Decomposed, NoMemory, Slices};
+use crate::{BinaryPlaces, Decomposed, NoMemory, Slices};
 use bsi_bits::Bits;
 use bsi_components::place_count;
 use bsi_digits::Bases;
 use bsi_words::nulls::are_clear_at_nulls;
-use std::alloc::Global;
 use std::mem::replace;
 
 /// Returns how many binary places the digits under these bases take, at most 630.
@@ -26,19 +25,6 @@ pub fn count_places(bases: &Bases) -> usize
         count += place_count(bases.base(i));
     }
     count
-}
-
-/// Copies the bitmaps of a column of slices: the not-null bitmap, and then each slice, the least place first.
-pub(crate) fn bitmaps_of_slices(alloc: Global, column: &Slices) -> Result<Vec<Bits>, NoMemory>
-    ensures { IfOk result (λ made. bits_each made.items
-        ≡ bitmaps_by (slice_places column.now.width) column.now.entries) }
-{
-    let mut bitmaps = Vec::new(alloc);
-    bitmaps.push(column.not_null().copy()?)?;
-    'slices: for k in 0..column.width() {
-        bitmaps.push(column.slice(k).copy()?)?;
-    }
-    Ok(bitmaps)
 }
 
 /// Makes the column of slices that has these bitmaps, the not-null bitmap first, or none if no column has them. It
@@ -59,20 +45,6 @@ pub fn slices_from_bitmaps(width: u32, mut bitmaps: Vec<Bits>) -> Option<Slices>
 }
 
 impl<E: BinaryPlaces> Decomposed<E> {
-    /// Copies the bitmaps of the column: the not-null bitmap, and then the binary places of each component, that of the
-    /// least significant digits first, the least place first.
-    pub fn bitmaps(&self, alloc: Global) -> Result<Vec<Bits>, NoMemory>
-        ensures { IfOk result (λ made. bits_each made.items
-            ≡ bitmaps_by (places_under self.now.bases) self.now.entries) }
-    {
-        let mut bitmaps = Vec::new(alloc);
-        bitmaps.push(self.not_null().copy()?)?;
-        'components: for i in 0..self.bases().len() {
-            push_places(alloc, self.component(i), &mut bitmaps)?;
-        }
-        Ok(bitmaps)
-    }
-
     /// Makes the column under these bases that has these bitmaps, the not-null bitmap first, or none if no column has
     /// them.
     pub fn from_bitmaps(
@@ -97,23 +69,6 @@ impl<E: BinaryPlaces> Decomposed<E> {
         };
         Ok(Some(Decomposed::from_components(bases, components, not_null)))
     }
-}
-
-/// Appends the binary places of a component's digits, the least first.
-fn push_places<E: BinaryPlaces>(
-    alloc: Global,
-    component: &E,
-    bitmaps: &mut Vec<Bits>,
-) -> Result<(), NoMemory>
-    ensures { OnOk result (bits_each bitmaps.new.items ≡ bits_each bitmaps.old.items
-        ++ digit_bitmaps (E.base_of component.now) (E.digits component.now)) }
-{
-    'places: for k in 0..place_count(component.base()) {
-        let mut place = Bits::filled(alloc, component.len(), false)?;
-        component.place_into(k, &mut place);
-        bitmaps.push(place)?;
-    }
-    Ok(())
 }
 
 /// Makes the component of each base of the binary places of its digits, or none if a digit is not below its base.

@@ -1,55 +1,12 @@
 -- The digits that bitmaps hold are those that they were made of.
-use Rattle.std.proofs.Common.{◌≡◌, ℕ, zero, suc, ◌+◌, ◌<◌, ◌≤◌, Bool, true, false, cond, List, [], ◌∷◌, ◌++◌, length, map, get_or, inl, inr, ap, sym, ◌∙◌, refl, arith}
+use Rattle.std.proofs.Common.{◌≡◌, ℕ, zero, suc, ◌+◌, ◌<◌, Bool, false, List, [], ◌∷◌, ◌++◌, length, map, get_or, inl, inr, ap, sym, ◌∙◌, arith}
 use Rattle.std.proofs.lemmas.List.{length-map, get_or-map, map-append, get_or_past}
 use Rattle.std.proofs.lemmas.List.FromFn.{fill_by_all}
-use Rattle.std.proofs.lemmas.Bool.{cases_eq, cases_lt}
+use Rattle.std.proofs.lemmas.Bool.{cases_lt}
 use Rattle.bsi_bits.specs.BitList.{BitList}
 use Rattle.bsi_words.specs.Places.{IsEncoded}
-use Rattle.bsi_components.specs.Bitmaps.{row, first_set, digits_by}
+use Rattle.bsi_components.specs.Bitmaps.{row, digits_by}
 use Rattle.bsi_bits.specs.BitLists.{bits_at, no_bits}
-
--- bits that are those of a test from a place on
-pub record AreTests (test : ℕ → Bool) (at : ℕ) (bits : List Bool) : Type 0 where
-  pub each : (i : ℕ) → i < length bits → get_or bits i false ≡ test (at + i)
-
-rest_tests : (test : ℕ → Bool) (at : ℕ) (bit : Bool) (bits : List Bool) → AreTests test at (bit ∷ bits) → AreTests test (at + 1) bits
-rest_tests test at bit bits tests = record {
-  each = λ i below.
-      let next : at + suc i ≡ at + 1 + i = omega arith in
-      tests.each (suc i) (omega arith) ∙ ap test next;
-}
-
-head_test : (test : ℕ → Bool) (at : ℕ) (bit : Bool) (bits : List Bool) → AreTests test at (bit ∷ bits) → bit ≡ test at
-head_test test at bit bits tests = let start : at + 0 ≡ at = omega arith in tests.each 0 (omega arith) ∙ ap test start
-
--- the first bit that is set stands where the test first holds
-pub first_set_is : (test : ℕ → Bool) (d none : ℕ) → ((e : ℕ) → e < d → test e ≡ false) → test d ≡ true → (bits : List Bool) (at : ℕ) → at ≤ d → AreTests test at bits → (at + length bits ≤ d → none ≡ d) → first_set none at bits ≡ d
-first_set_is test d none before here [] at from tests past = past (omega arith)
-first_set_is test d none before here (bit ∷ bits) at from tests past =
-    let bit_is = head_test test at bit bits tests in
-    elim (cases_eq at d) [
-      | inl same ↦
-          ap (λ b. cond b at (first_set none (at + 1) bits)) (bit_is ∙ ap test same ∙ here) ∙ same
-      | inr apart ↦
-          ap (λ b. cond b at (first_set none (at + 1) bits)) (bit_is ∙ before at (omega arith))
-          ∙ first_set_is test d none before here bits (at + 1) (omega arith) (rest_tests test at bit bits tests) (λ beyond. past (omega arith))
-    ]
-
--- the first bit that is set stands no sooner than the test may hold
-pub first_set_from : (test : ℕ → Bool) (d none : ℕ) → ((e : ℕ) → e < d → test e ≡ false) → d ≤ none → (bits : List Bool) (at : ℕ) → AreTests test at bits → d ≤ first_set none at bits
-first_set_from test d none before most [] at tests = most
-first_set_from test d none before most (true ∷ bits) at tests = elim (cases_lt at d) [
-  | inl early ↦ let wrong : true ≡ false = head_test test at true bits tests ∙ before at early in absurd (cc)
-  | inr from ↦ from
-]
-first_set_from test d none before most (false ∷ bits) at tests = first_set_from test d none before most bits (at + 1) (rest_tests test at false bits tests)
-
--- no bit is set where the test holds nowhere from there on
-pub none_set_is : (test : ℕ → Bool) (none : ℕ) (bits : List Bool) (at : ℕ) → ((e : ℕ) → at ≤ e → test e ≡ false) → AreTests test at bits → first_set none at bits ≡ none
-none_set_is test none [] at off tests = refl
-none_set_is test none (bit ∷ bits) at off tests =
-    ap (λ b. cond b at (first_set none (at + 1) bits)) (head_test test at bit bits tests ∙ off at (omega arith))
-    ∙ none_set_is test none bits (at + 1) (λ e above. off e (omega arith)) (rest_tests test at bit bits tests)
 
 module _ (holds : ℕ → ℕ → Bool) (rs : List BitList) (ds : List ℕ) (encoded : IsEncoded holds rs ds) where
   -- each bitmap has a bit for each digit
@@ -57,14 +14,11 @@ module _ (holds : ℕ → ℕ → Bool) (rs : List BitList) (ds : List ℕ) (enc
   length-bits_at j below = ap length (encoded.each j below) ∙ length-map ds (holds j)
 
   -- a row's bits are those of its digit
-  pub row_bits : (k at : ℕ) (test : ℕ → Bool) → k < length ds → ((j : ℕ) → holds j (get_or ds k 0) ≡ test (at + j)) → AreTests test at (row rs k)
-  row_bits k at test within same = record {
-    each = λ j below.
-        let in_rs : j < length rs = omega (arith, length-map rs (λ (b : BitList). get_or b.bits k false)) in
-        get_or-map (λ (b : BitList). get_or b.bits k false) rs j no_bits false in_rs
-        ∙ ap (λ bits. get_or bits k false) (encoded.each j in_rs)
-        ∙ get_or-map (holds j) ds k 0 false within ∙ same j;
-  }
+  pub row_bits : (k : ℕ) → k < length ds → (j : ℕ) → j < length rs → get_or (row rs k) j false ≡ holds j (get_or ds k 0)
+  row_bits k within j below =
+      get_or-map (λ (b : BitList). get_or b.bits k false) rs j no_bits false below
+      ∙ ap (λ bits. get_or bits k false) (encoded.each j below)
+      ∙ get_or-map (holds j) ds k 0 false within
 
   -- digits that are found by their rows are those of the bitmaps
   pub digits_are : (digit : List Bool → ℕ) → 0 < length rs → ((k : ℕ) → k < length ds → digit (row rs k) ≡ get_or ds k 0) → ds ≡ digits_by digit rs
@@ -98,3 +52,7 @@ below_more [] block base new old k = elim (cases_lt k (length block)) [
 ]
 below_more (v ∷ ds) block base new old zero = old zero
 below_more (v ∷ ds) block base new old (suc k) = below_more ds block base new (λ i. old (suc i)) k
+
+pub one_below : (d base : ℕ) → d < base → (k : ℕ) → k < 1 → get_or (d ∷ []) k 0 < base
+one_below d base below zero within = below
+one_below d base below (suc k) within = absurd (omega arith)

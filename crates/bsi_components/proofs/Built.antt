@@ -1,6 +1,6 @@
 -- Components whose bitmaps are made of the binary places of their digits.
 use Rattle.std.proofs.Common.{◌≡◌, ℕ, ◌+◌, ◌-◌, ◌^◌, ◌<◌, ◌≤◌, Bool, true, false, List, ◌++◌, length, get_or, map, inl, inr, ap, sym, ◌∙◌, refl, arith, length-append}
-use Rattle.std.specs.Prelude.{◌==◌, nat_le, nat_lt, if◌then◌else◌}
+use Rattle.std.specs.Prelude.{nat_lt, if◌then◌else◌}
 use Rattle.std.proofs.lemmas.Bool.{cases_lt}
 use Rattle.std.proofs.lemmas.Bool.Decides.{nat_tests}
 use Rattle.bsi_bits.specs.BitList.{BitList}
@@ -10,8 +10,7 @@ use Rattle.bsi_words.specs.Places.{has_place, then_places, IsEncoded}
 use Rattle.bsi_words.proofs.DigitMaps.{map_same}
 use Rattle.bsi_words.proofs.PlaceBitmaps.{own_test, place_test, count_made}
 use Rattle.bsi_components.specs.Bitmaps.{kept_places}
-use Rattle.bsi_components.specs.Equality.{first_stored, IsEquality}
-use Rattle.bsi_components.specs.Range.{IsRange}
+use Rattle.bsi_components.specs.Marked.{IsMarked}
 use Rattle.bsi_components.proofs.BitmapDigits.{length-bits_at}
 use Rattle.bsi_components.proofs.PlaceNumbers.{bits_left, bits_right}
 
@@ -66,33 +65,19 @@ module _ (own kept : ℕ) (holds : ℕ → ℕ → Bool) (made places : List Bit
       length-bits_at (then_places own holds) (behind kept made places) ns built j below
       ∙ sym (length-bits_at (then_places own holds) (behind kept made places) ns built 0 (omega (arith, some, built_long)))
 
--- a range encoded component
-pub range_built : (base kept : ℕ) (made places : List BitList) (ns : List ℕ) → IsBase base → IsKeptCount base kept → length made ≡ base - 1
-    → ((j : ℕ) → j < base - 1 → bits_at made j ≡ map (λ v. nat_le v j) ns) → IsEncoded has_place places ns → (0 < kept → kept ≡ length places)
-    → ((k : ℕ) → get_or ns k 0 < base) → IsRange base (behind kept made places) ns
-range_built base kept made places ns is_base count long bits encoded many below =
-    let n = built_long (base - 1) kept (λ j v. nat_le v j) made places ns long bits encoded many in
-    record {
-      count = count_made base (base - 1) kept (length (behind kept made places)) n count.few count.enough count.some;
-      many = n ∙ ap (λ k. base - 1 + k) count.kept_is;
-      least = is_base.0;
-      most = is_base.1;
-      below = below;
-      encoded = built (base - 1) kept (λ j v. nat_le v j) made places ns long bits encoded many;
-    }
-
--- an equality encoded component
-pub equality_built : (base kept : ℕ) (made places : List BitList) (ns : List ℕ) → IsBase base → IsKeptCount base kept → length made ≡ base - first_stored base
-    → ((j : ℕ) → j < base - first_stored base → bits_at made j ≡ map (λ v. v == first_stored base + j) ns) → IsEncoded has_place places ns → (0 < kept → kept ≡ length places)
-    → ((k : ℕ) → get_or ns k 0 < base) → IsEquality base (behind kept made places) ns
-equality_built base kept made places ns is_base count long bits encoded many below =
-    let own = base - first_stored base in
-    let n = built_long own kept (λ j v. v == first_stored base + j) made places ns long bits encoded many in
+-- a component of bitmaps
+pub marked_built : (first : ℕ → ℕ) (marks : ℕ → ℕ → Bool) (base kept : ℕ) (made places : List BitList) (ns : List ℕ) → IsBase base → IsKeptCount base kept → length made ≡ base - first base
+    → ((j : ℕ) → j < base - first base → bits_at made j ≡ map (marks (first base + j)) ns) → IsEncoded has_place places ns → (0 < kept → kept ≡ length places)
+    → ((k : ℕ) → get_or ns k 0 < base) → IsMarked first marks base (behind kept made places) ns
+marked_built first marks base kept made places ns is_base count long bits encoded many below =
+    let own = base - first base in
+    let holds : ℕ → ℕ → Bool = λ j v. marks (first base + j) v in
+    let n = built_long own kept holds made places ns long bits encoded many in
     record {
       count = count_made base own kept (length (behind kept made places)) n count.few count.enough count.some;
       many = n ∙ ap (λ k. own + k) count.kept_is;
       least = is_base.0;
       most = is_base.1;
       below = below;
-      encoded = built own kept (λ j v. v == first_stored base + j) made places ns long bits encoded many;
+      encoded = built own kept holds made places ns long bits encoded many;
     }

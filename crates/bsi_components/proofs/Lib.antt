@@ -3,13 +3,12 @@ pub mod Built
 pub mod DigitCounts
 pub mod DigitOrders
 pub mod EndRows
-pub mod EqualityDigits
 pub mod EqualityReads
 pub mod FoundDigits
+pub mod MarkedDigits
 pub mod PlaceCounts
 pub mod PlaceNumbers
 pub mod PlaceReads
-pub mod RangeDigits
 pub mod RangeReads
 pub mod RankSearch
 pub mod WordDigits

@@ -203,11 +203,11 @@ module _ (d n : ℕ) (ns : List ℕ) (small : d < 2 ^ n) (below : (k : ℕ) → 
       fits : (v : ℕ) → v ≤ 2 ^ n - 1 → v < 2 ^ n
       fits v most = omega (arith, pow_pos n)
 
--- rows that are not above the constant are at most it
-pub upto_are : (d : ℕ) (ns : List ℕ) → map not (map (nat_lt d) ns) ≡ map (λ v. nat_le v d) ns
-upto_are d ns = map_map not (nat_lt d) ns ∙ map_same (λ v. not (nat_lt d v)) (λ v. nat_le v d) (λ v. turned d v) ns
+-- rows that are not above the constant are below the next one
+pub upto_are : (d : ℕ) (ns : List ℕ) → map not (map (nat_lt d) ns) ≡ map (λ v. nat_lt v (1 + d)) ns
+upto_are d ns = map_map not (nat_lt d) ns ∙ map_same (λ v. not (nat_lt d v)) (λ v. nat_lt v (1 + d)) (λ v. turned d v) ns
   where
-    turned : (d v : ℕ) → not (nat_lt d v) ≡ nat_le v d
+    turned : (d v : ℕ) → not (nat_lt d v) ≡ nat_lt v (1 + d)
     turned d v = grind (arith, nat_tests)
 
 -- a place of the constant, as it is read

@@ -2,6 +2,6 @@ pub mod Bitmaps
 pub mod Component
 pub mod EndDigits
 pub mod Equality
-pub mod Range
+pub mod Marked
 pub mod PlaceNumbers
 pub mod Ranks

@@ -9,10 +9,10 @@ ghost use Rattle.bsi_bits.specs.BitList.{without};
 ghost use Rattle.bsi_bits.specs.BitLists.{bits_at};
 ghost use Rattle.bsi_digits.specs.Digits.{IsBase};
 ghost use Rattle.bsi_words.specs.Places.{has_place, max_digit_places, min_base_with_places};
-ghost use Rattle.bsi_components.specs.Equality.{first_stored};
 ghost use Rattle.bsi_components.specs.PlaceNumbers.{numbers_in, place_count, AreLevel, HasPast};
 
 use crate::NoMemory;
+use crate::marking::Marking;
 use bsi_bits::Bits;
 use std::alloc::Global;
 
@@ -44,7 +44,7 @@ fn step_equal(rows: &mut Bits, place: &Bits, is_one: bool)
 }
 
 /// Returns for each row whether its number is above `d`.
-fn rows_above(alloc: Global, places: &[Bits], d: u32) -> Result<Bits, NoMemory>
+pub(crate) fn rows_above(alloc: Global, places: &[Bits], d: u32) -> Result<Bits, NoMemory>
     requires level { AreLevel places.now }
     requires few { length places.now ≤ max_digit_places }
     requires below { d < 2 ^ length places.now }
@@ -58,7 +58,7 @@ fn rows_above(alloc: Global, places: &[Bits], d: u32) -> Result<Bits, NoMemory>
 }
 
 /// Returns for each row whether its number is `d`.
-fn rows_equal(alloc: Global, places: &[Bits], d: u32) -> Result<Bits, NoMemory>
+pub(crate) fn rows_equal(alloc: Global, places: &[Bits], d: u32) -> Result<Bits, NoMemory>
     requires level { AreLevel places.now }
     requires few { length places.now ≤ max_digit_places }
     requires below { d < 2 ^ length places.now }
@@ -85,9 +85,8 @@ pub(crate) fn are_below(alloc: Global, places: &[Bits], base: u32) -> Result<boo
     Ok(past.count() == 0)
 }
 
-/// Makes the bitmaps of a range encoding: bitmap j says of each row whether its number is at most j. There is room for
-/// `more` further ones.
-pub(crate) fn range_bitmaps(
+/// Makes the bitmaps of an encoding, with room for `more` further ones.
+pub(crate) fn make_bitmaps<M: Marking>(
     alloc: Global,
     places: &[Bits],
     base: u32,
@@ -98,43 +97,15 @@ pub(crate) fn range_bitmaps(
     requires few { length places.now ≤ max_digit_places }
     requires enough { base ≤ 2 ^ length places.now }
     requires little { more ≤ max_digit_places }
-    ensures count { IfOk result (λ made. length made.items ≡ base - 1) }
-    ensures room { IfOk result (λ made. vec_capacity made ≡ base - 1 + more) }
-    ensures bits { IfOk result (λ made. (j : ℕ) → j < base - 1 →
-        bits_at made.items j ≡ map (λ v. nat_le v j) (numbers_in places.now)) }
+    ensures count { IfOk result (λ made. length made.items ≡ base - M.first base) }
+    ensures room { IfOk result (λ made. vec_capacity made ≡ base - M.first base + more) }
+    ensures bits { IfOk result (λ made. (j : ℕ) → j < base - M.first base →
+        bits_at made.items j ≡ map (M.marks (M.first base + j)) (numbers_in places.now)) }
 {
-    let mut made = Vec::with_capacity(alloc, base as usize - 1 + more)?;
-    'digits: for j in 0..base - 1 {
-        let mut rows = rows_above(alloc, places, j)?;
-        rows.flip();
-        made.push_reserved(rows);
-    }
-    Ok(made)
-}
-
-/// Makes the bitmaps of an equality encoding: bitmap j says of each row whether its number is `first + j`. There is
-/// room for `more` further ones.
-pub(crate) fn equality_bitmaps(
-    alloc: Global,
-    places: &[Bits],
-    first: u32,
-    base: u32,
-    more: usize,
-) -> Result<Vec<Bits>, NoMemory>
-    requires base { IsBase base }
-    requires first { first ≤ base }
-    requires level { AreLevel places.now }
-    requires few { length places.now ≤ max_digit_places }
-    requires enough { base ≤ 2 ^ length places.now }
-    requires little { more ≤ max_digit_places }
-    ensures count { IfOk result (λ made. length made.items ≡ base - first) }
-    ensures room { IfOk result (λ made. vec_capacity made ≡ base - first + more) }
-    ensures bits { IfOk result (λ made. (j : ℕ) → j < base - first →
-        bits_at made.items j ≡ map (λ v. v == first + j) (numbers_in places.now)) }
-{
-    let mut made = Vec::with_capacity(alloc, (base - first) as usize + more)?;
-    'digits: for d in first..base {
-        made.push_reserved(rows_equal(alloc, places, d)?);
+    let count = base - M::first_stored(base);
+    let mut made = Vec::with_capacity(alloc, count as usize + more)?;
+    'digits: for j in 0..count {
+        made.push_reserved(M::make_bitmap(alloc, places, base, j)?);
     }
     Ok(made)
 }

@@ -4,100 +4,64 @@
 //! behind the bitmaps: whichever are fewest. A sum counts these places, and a rank goes down them. Under base 2 or 3,
 //! which has none, a rank is counted one digit after another.
 
-ghost use Rattle.std.specs.Prelude.{◌≡◌, ◌≢◌, ℕ, ◌+◌, ◌-◌, ◌*◌, ◌^◌, ◌<◌, ◌≤◌, ◌==◌, ◌&&◌, ◌||◌, not, ◌++◌, length, map, slice_index, IsTrue, IsFalse};
-ghost use Rattle.bsi_bits.specs.BitList.{max_block, word_count};
-ghost use Rattle.bsi_bits.specs.BitLists.{bits_at};
+ghost use Rattle.std.specs.Prelude.{◌≡◌, ◌≢◌, ℕ, ◌+◌, ◌*◌, ◌<◌, ◌≤◌, ◌==◌, ◌&&◌, ◌||◌, not, length, map, slice_index, IsTrue, IsFalse};
+ghost use Rattle.bsi_bits.specs.BitList.{word_count};
 ghost use Rattle.bsi_bits.specs.Packed.{bit_of};
-ghost use Rattle.bsi_digits.specs.Digits.{max_base};
-ghost use Rattle.bsi_words.specs.Places.{at_most_from, has_place, max_digit_places, then_places, IsCount, IsEncoded};
-ghost use Rattle.bsi_components.specs.Bitmaps.{kept_places};
-ghost use Rattle.bsi_components.specs.Equality.{first_stored, is_among};
+ghost use Rattle.bsi_words.specs.Places.{at_most_from};
+ghost use Rattle.bsi_components.specs.Equality.{is_among};
 
-use crate::encoding::Encoding;
-use bsi_bits::{Bitmaps, Bits};
-use bsi_words::marks::{MAX_MARK_WORDS, MAX_SPREAD_WORDS, mark_digits};
+use crate::NoMemory;
+use crate::building::rows_equal;
+use crate::component::Component;
+use crate::marking::Marking;
+use bsi_bits::Bits;
+use bsi_words::marks::mark_digits;
 use bsi_words::spans::{add_in, add_missing, drop_in, keep_in};
-use std::marker::Model;
+use std::alloc::Global;
 
-mod binary_places;
 mod counts;
-mod encoding;
 mod ends;
+mod reads;
 
-/// A component of a base from 2 to 1,024 that stores a bitmap for each digit. Under base 2 it stores that of digit 1
-/// alone. From base 4 on it also stores the digits in binary, a bit vector for each place.
+/// Equality encoding: the bitmap of a digit has the rows of this digit. Base 2 has that of digit 1 alone.
 #[derive(Drop)]
-pub struct EqualityComponent {
-    base: u32,
-    bitmaps: Bitmaps,
-}
+pub enum Equality {}
 
-// Clauses see the base, the digits and for how many more there is room.
-impl Model for EqualityComponent {
-    ghost use Rattle.bsi_components.specs.Component.{Component};
-    ghost use Rattle.bsi_components.specs.Equality.{equality_digits, IsEquality};
+/// A component that stores a bitmap for each digit.
+pub type EqualityComponent = Component<Equality>;
 
-    ghost Value = { Component };
+impl Marking for Equality {
+    ghost use Rattle.std.specs.Prelude.{◌==◌};
+    ghost use Rattle.std.proofs.Common.{arith};
+    ghost use Rattle.std.proofs.lemmas.Bool.Decides.{nat_tests};
+    ghost use Rattle.bsi_components.specs.Equality.{first_stored};
 
-    ghost view = { λ c. record {
-      base = c.base;
-      digits = equality_digits c.base c.bitmaps.vectors;
-      room = c.bitmaps.room;
-    } };
+    ghost first = { first_stored };
 
-    ghost invariant = { λ c. IsEquality c.base c.bitmaps.vectors
-        (equality_digits c.base c.bitmaps.vectors) };
-}
+    ghost marks = { λ d v. v == d };
 
-/// Returns the first digit that has a bitmap.
-fn first_stored(base: u32) -> u32
-    ensures { result ≡ first_stored base }
-{
-    if base == 2 { 1 } else { 0 }
-}
-
-/// Appends a block of digits below a base to the vectors, of which the first is the bitmap of digit `first`. There is a
-/// word for each vector, and one for each digit before `first`, all 0.
-fn push_marked(bitmaps: &mut Bitmaps, first: u32, base: u32, block: &[u32], words: &mut [u64])
-    requires long { length words.old ≡ first + length bitmaps.old.vectors }
-    requires clear { (j : ℕ) → slice_index words.old j ≡ 0 }
-    requires within { first ≤ base }
-    requires places { IsCount base (base - first) (length bitmaps.old.vectors) }
-    requires few { length block.now ≤ max_block }
-    requires room { length block.now ≤ bitmaps.old.room }
-    requires below { (k : ℕ) → k < length block.now → slice_index block.now k < base }
-    ensures count { length bitmaps.new.vectors ≡ length bitmaps.old.vectors }
-    ensures bits { (j : ℕ) → j < length bitmaps.old.vectors →
-        bits_at bitmaps.new.vectors j ≡ bits_at bitmaps.old.vectors j
-        ++ map (then_places (base - first) (λ i v. v == first + i) j) block.now }
-    ensures room { bitmaps.new.room + length block.now ≡ bitmaps.old.room }
-{
-    mark_digits(block, base as usize, words);
-    bitmaps.push_words(&words[first as usize..], block.len() as u64);
-}
-
-/// Appends a block of digits below a base to the vectors, of which the first is the bitmap of digit `first`.
-fn push_block(bitmaps: &mut Bitmaps, first: u32, base: u32, block: &[u32])
-    requires within { first ≤ base }
-    requires small { base ≤ max_base }
-    requires places { IsCount base (base - first) (length bitmaps.old.vectors) }
-    requires few { length block.now ≤ max_block }
-    requires room { length block.now ≤ bitmaps.old.room }
-    requires below { (k : ℕ) → k < length block.now → slice_index block.now k < base }
-    ensures count { length bitmaps.new.vectors ≡ length bitmaps.old.vectors }
-    ensures bits { (j : ℕ) → j < length bitmaps.old.vectors →
-        bits_at bitmaps.new.vectors j ≡ bits_at bitmaps.old.vectors j
-        ++ map (then_places (base - first) (λ i v. v == first + i) j) block.now }
-    ensures room { bitmaps.new.room + length block.now ≡ bitmaps.old.room }
-{
-    let count = first as usize + bitmaps.as_slice().len();
-    if count <= MAX_SPREAD_WORDS {
-        let mut words = [0; MAX_SPREAD_WORDS];
-        push_marked(bitmaps, first, base, block, &mut words[..count]);
-    } else {
-        let mut words = [0; MAX_MARK_WORDS];
-        push_marked(bitmaps, first, base, block, &mut words[..count]);
+    fn first_stored(base: u32) -> u32 {
+        if base == 2 { 1 } else { 0 }
     }
+
+    fn places_of(base: u32, digit: u32) -> (usize, usize) {
+        // Under base 2 the digit 0 has no bitmap.
+        let to = (digit + 1 - Self::first_stored(base)) as usize;
+        (to.saturating_sub(1), to)
+    }
+
+    fn mark_block(block: &[u32], base: u32, words: &mut [u64]) {
+        mark_digits(block, base as usize, words);
+    }
+
+    fn make_bitmap(alloc: Global, places: &[Bits], base: u32, j: u32) -> Result<Bits, NoMemory> {
+        rows_equal(alloc, places, Self::first_stored(base) + j)
+    }
+
+    ghost sound = { record {
+      low = λ base. Prim.grind (arith, nat_tests);
+      tells = λ v w below. Prim.grind (arith, nat_tests);
+    } };
 }
 
 impl EqualityComponent {
@@ -107,7 +71,7 @@ impl EqualityComponent {
         requires stored { self.now.base ≡ 2 → j ≡ 1 }
         ensures { result.now.bits ≡ map (λ v. v == j) self.now.digits }
     {
-        &self.bitmaps.as_slice()[(j - first_stored(self.base)) as usize]
+        self.bitmap_of(j)
     }
 
     /// Returns whether the digit `d` has a bitmap: under base 2 digit 1 alone has one.
@@ -117,20 +81,7 @@ impl EqualityComponent {
         ensures none { IsFalse result → (self.now.base ≡ 2) × (d ≡ 0) }
         ensures few { IsFalse result → (k : ℕ) → slice_index self.now.digits k ≤ 1 }
     {
-        d >= first_stored(self.base())
-    }
-
-    /// Lends the bit vectors of the binary places of the digits, the least first, if any are stored.
-    fn places(&self) -> &[Bits]
-        ensures places { IsEncoded has_place result.now self.now.digits }
-        ensures many { length result.now ≡ kept_places self.now.base }
-        ensures few { length result.now ≤ max_digit_places }
-        ensures enough { 0 < length result.now → self.now.base ≤ 2 ^ length result.now }
-        ensures below { 0 < length result.now → (k : ℕ) →
-            slice_index self.now.digits k < 2 ^ length result.now }
-        ensures digits { (k : ℕ) → slice_index self.now.digits k < self.now.base }
-    {
-        &self.bitmaps.as_slice()[(self.base - first_stored(self.base)) as usize..]
+        d >= Equality::first_stored(self.own_base())
     }
 
     /// Writes for each row whether its digit is from `from` on and below `to`.
@@ -156,7 +107,7 @@ impl EqualityComponent {
             bit_of span.new p ≡ at_most_from (bit_of span.old p)
             (slice_index self.now.digits (64 * at + p)) d }
     {
-        let base = self.base();
+        let base = self.own_base();
         if base == 2 {
             if d == 0 {
                 drop_in(self.bitmap(1), at, span);

@@ -4,15 +4,21 @@
 mod answers;
 mod binary_places;
 mod building;
+mod component;
 mod encoding;
 mod equality;
+mod marking;
 mod places;
 mod range;
+mod reads;
 
 pub use binary_places::BinaryPlaces;
 pub use bsi_words::RankedRows;
+pub use component::Component;
 pub use encoding::Encoding;
-pub use equality::EqualityComponent;
+pub use equality::{Equality, EqualityComponent};
+pub use marking::Marking;
 pub use places::place_count;
-pub use range::RangeComponent;
+pub use range::{Range, RangeComponent};
+pub use reads::Reads;
 pub use std::alloc::AllocError as NoMemory;

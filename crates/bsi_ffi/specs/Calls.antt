@@ -6,7 +6,8 @@ use Rattle.bsi_bits.specs.Packed.{bit_of, end_of_u64}
 use Rattle.bsi_groups.specs.Replies.{selected}
 use Rattle.bsi_records.specs.Numbers.{Field}
 use Rattle.bsi_records.specs.Predicates.{IsPredicate}
-use Rattle.bsi_records.specs.Questions.{IsQuestion}
+use Rattle.bsi_records.specs.Questions.{IsQueryIn}
+use Rattle.bsi_records.specs.declared.grammar.Grammar.TheVariants.{Index}
 use Rattle.bsi_rows.specs.Answers.{IsAnswer}
 use Rattle.bsi_rows.specs.RowBlocks.{max_block_rows}
 use Rattle.bsi_rows.specs.Table.{max_feeders, no_rows, with_rows, Table}
@@ -180,12 +181,12 @@ LeavesRest answer before places = drop (places_of answer) places ≡ drop (place
 -- of a query that the fields ask, and of its answer over the rows, this is so
 abbrev pub IsAsked : Table → List Field → (Answer → Type 0) → Type 0
 IsAsked table fields Is =
-    (query : Query) × (reply : Answer) × IsQuestion table.schema fields query × IsAnswer query table.rows reply × Is reply
+    (query : Query) × (reply : Answer) × IsQueryIn Index table.schema fields query × IsAnswer query table.rows reply × Is reply
 
 abbrev pub IsReplied : Opened → List Field → FlatAnswer → List Place → Ending → Type 0
 IsReplied opened fields answer places (Ok done) =
     IsAsked opened.table fields (λ reply. IsWritten reply answer places)
-IsReplied opened fields answer places (Err BadQuery) = (query : Query) → IsQuestion opened.table.schema fields query → ⊥
+IsReplied opened fields answer places (Err BadQuery) = (query : Query) → IsQueryIn Index opened.table.schema fields query → ⊥
 IsReplied opened fields answer places (Err NoRoom) =
     IsAsked opened.table fields (λ reply. IsShort reply answer places)
 IsReplied opened fields answer places (Err NoMemory) = Unit {0}

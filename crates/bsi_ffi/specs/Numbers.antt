@@ -3,7 +3,8 @@ use Rattle.std.specs.Prelude.{◌≡◌, ◌⊎◌, ℕ, ℤ, ◌<◌, ◌≤◌
 use Rattle.std.specs.List.{AllZip}
 use Rattle.std.specs.Ordering.{int_eq}
 use Rattle.std.specs.Set.{distinct_count}
-use Rattle.bsi_groups.specs.Quantiles.{share_of, IsQuantileOf, Share}
+use Rattle.bsi_groups.specs.Quantiles.{IsQuantileOf}
+use Rattle.bsi_rows.specs.Shares.{share_of, Share}
 use Rattle.bsi_groups.specs.Replies.{selected_numbers, AreRanked}
 use Rattle.bsi_records.specs.Numbers.{Field}
 use Rattle.bsi_records.specs.Predicates.{IsPredicate}

@@ -3,8 +3,8 @@ use Rattle.std.specs.Prelude.{◌≡◌, ℕ, Bool, true, false, List, Option, O
 use Rattle.std.specs.List.{AllZip}
 use Rattle.bsi_groups.specs.Replies.{selected}
 use Rattle.bsi_groups.specs.Tops.{AreTop}
-use Rattle.bsi_groups.specs.declared.tops.End.{End}
-use Rattle.bsi_groups.specs.declared.tops.End.TheVariants.{Greatest, Least}
+use Rattle.bsi_rows.specs.declared.question.End.{End}
+use Rattle.bsi_rows.specs.declared.question.End.TheVariants.{Greatest, Least}
 use Rattle.bsi_groups.specs.declared.tops.TopRow.{TopRow}
 use Rattle.bsi_records.specs.Numbers.{Field}
 use Rattle.bsi_rows.specs.Rows.{column_of}

@@ -5,9 +5,8 @@ ghost use Rattle.bsi_ffi.specs.Calls.{as_pairs, IsReplied, IsShort, IsWritten, L
 
 use crate::opened::Opened;
 use crate::refusal::Refusal;
-use bsi_records::read_question;
+use crate::selection::read_query;
 use bsi_table::{Answer, AskError};
-use csv::ByteRecord;
 use std::alloc::Global;
 
 /// The kind of a count.
@@ -67,8 +66,7 @@ pub(crate) fn reply(
     ensures rest { OnOk result (LeavesRest answer.new places.old places.new) }
 {
     let index = opened.index();
-    let fields = ByteRecord::from_fields(alloc, fields)?;
-    let Some(query) = read_question(alloc, index.schema(), &fields, 0)? else {
+    let Some(query) = read_query(alloc, index.schema(), fields)? else {
         return Err(Refusal::BadQuery);
     };
     match index.ask(&query) {

@@ -1,10 +1,11 @@
 //! Rows of columns that go into an index, block by block.
 
-ghost use Rattle.std.specs.Prelude.{◌≡◌, ◌+◌, ◌%◌, ◌<◌, ◌≤◌, length, true, IfErr, OnErr, OnOk};
+ghost use Rattle.std.specs.Prelude.{◌≡◌, ◌+◌, ◌%◌, ◌<◌, ◌≤◌, length, replicate, true, IfErr, OnErr, OnOk};
 ghost use Rattle.bsi_ffi.specs.Calls.{with_first, AreAppendable, AppendsColumns, IsRowsRefusal};
 ghost use Rattle.bsi_ffi.specs.Columns.{are_columns, given_rows, row_count, AreTaken};
 ghost use Rattle.bsi_rows.specs.RowBlocks.{max_block_rows};
-ghost use Rattle.bsi_rows.specs.Table.{with_rows};
+ghost use Rattle.bsi_rows.specs.Rows.{feeders_of};
+ghost use Rattle.bsi_rows.specs.Table.{with_rows, AreFitting};
 ghost use Rattle.bsi_table.specs.Index.{table_of};
 
 use crate::columns::{GivenColumn, are_columns, count_rows, first_unlike, not_null_word};
@@ -12,9 +13,27 @@ use crate::fitting::first_misfit;
 use crate::refusal::Refusal;
 use bsi_table::{Block, Index, MAX_BLOCK_ROWS, NoMemory};
 
+/// Gives the block so many rows of a feeder, for their columns to be written. Those that it has stay, if they are as many.
+fn size_block(feeder: u32, count: usize, block: &mut Block)
+    requires fed { feeder < block.old.feeders }
+    requires from { feeders_of block.old.rows ≡ replicate (length block.old.rows) feeder }
+    requires few { count ≤ max_block_rows }
+    ensures schema { block.new.schema ≡ block.old.schema }
+    ensures feeders { block.new.feeders ≡ block.old.feeders }
+    ensures from { feeders_of block.new.rows ≡ replicate count feeder }
+    ensures fitting { AreFitting block.new.schema.columns block.new.rows }
+{
+    if block.len() == count {
+        return;
+    }
+    block.clear();
+    block.push_nulls(feeder, count);
+}
+
 /// Fills the block with 1 to 64 rows of a feeder, from row `from` on, a multiple of 64, column by column. Each fits.
 fn fill_block(feeder: u32, columns: &[GivenColumn], from: usize, count: usize, block: &mut Block)
     requires fed { feeder < block.old.feeders }
+    requires fed_before { feeders_of block.old.rows ≡ replicate (length block.old.rows) feeder }
     requires even { are_columns (length block.old.schema.columns) columns.now ≡ true }
     requires taken { AreTaken block.old.schema.columns columns.now (row_count columns.now) }
     requires within { from + count ≤ row_count columns.now }
@@ -24,8 +43,7 @@ fn fill_block(feeder: u32, columns: &[GivenColumn], from: usize, count: usize, b
     ensures feeders { block.new.feeders ≡ block.old.feeders }
     ensures rows { block.new.rows ≡ given_rows feeder columns.now from count }
 {
-    block.clear();
-    block.push_nulls(feeder, count);
+    size_block(feeder, count, block);
     'columns: for (c, column) in columns.iter().enumerate() {
         let not_null = not_null_word(column, from, count);
         block.write_column(c, &column.values[from..from + count], not_null);
@@ -49,8 +67,10 @@ fn append_block(
     requires few { (0 < count) × (count ≤ max_block_rows) }
     requires schema { block.old.schema ≡ index.old.schema }
     requires feeders { block.old.feeders ≡ index.old.feeders }
+    requires fed_before { feeders_of block.old.rows ≡ replicate (length block.old.rows) feeder }
     ensures schema { block.new.schema ≡ block.old.schema }
     ensures feeders { block.new.feeders ≡ block.old.feeders }
+    ensures from { feeders_of block.new.rows ≡ replicate (length block.new.rows) feeder }
     ensures appended { OnOk result
         (table_of index.new
         ≡ with_rows (table_of index.old) (given_rows feeder columns.now from count)) }

@@ -25,6 +25,22 @@ use crate::tops::{FlatRow, end_of, reply_top};
 use bsi_table::MAX_FEEDERS;
 use std::alloc::Global;
 
+/// Asks the index that a handle holds, or returns that it is closed. What holds the index is out of the handle meanwhile,
+/// since nothing lends what a handle of C owns.
+macro_rules! ask_held {
+    ($alloc:expr, $index:expr, $opened:ident => $ending:expr) => {{
+        let Some(state) = take($index, $alloc) else {
+            return Err(Refusal::Closed);
+        };
+        let ending = match state.opened() {
+            Some($opened) => $ending,
+            None => Err(Refusal::Closed),
+        };
+        put($index, state);
+        ending
+    }};
+}
+
 /// Returns whether a handle holds an index.
 fn is_open(alloc: Global, index: &mut Handle) -> bool
     ensures kept { index.new.held.value ≡ index.old.held.value }
@@ -121,15 +137,7 @@ pub fn ask(
     ensures unfilled { OnErr result (places.new ≡ places.old) }
     ensures rest { OnOk result (LeavesRest answer.new places.old places.new) }
 {
-    let Some(state) = take(index, alloc) else {
-        return Err(Refusal::Closed);
-    };
-    let ending = match state.opened() {
-        Some(opened) => reply(alloc, opened, fields, answer, places),
-        None => Err(Refusal::Closed),
-    };
-    put(index, state);
-    ending
+    ask_held!(alloc, index, opened => reply(alloc, opened, fields, answer, places))
 }
 
 /// Puts the rows that the query of the fields selects in groups by their entry in the column of this name, and writes
@@ -149,15 +157,7 @@ pub fn group(
     ensures unfilled { OnErr result (groups.new ≡ groups.old) }
     ensures rest { OnOk result (drop count.new groups.new ≡ drop count.new groups.old) }
 {
-    let Some(state) = take(index, alloc) else {
-        return Err(Refusal::Closed);
-    };
-    let ending = match state.opened() {
-        Some(opened) => reply_groups(alloc, opened, fields, name, groups, count),
-        None => Err(Refusal::Closed),
-    };
-    put(index, state);
-    ending
+    ask_held!(alloc, index, opened => reply_groups(alloc, opened, fields, name, groups, count))
 }
 
 /// Puts the rows that the query of the fields selects in groups by their entries in the columns of these names, and
@@ -178,15 +178,11 @@ pub fn group_pairs(
     ensures unfilled { OnErr result (pairs.new ≡ pairs.old) }
     ensures rest { OnOk result (drop count.new pairs.new ≡ drop count.new pairs.old) }
 {
-    let Some(state) = take(index, alloc) else {
-        return Err(Refusal::Closed);
-    };
-    let ending = match state.opened() {
-        Some(opened) => reply_pairs(alloc, opened, fields, first, second, pairs, count),
-        None => Err(Refusal::Closed),
-    };
-    put(index, state);
-    ending
+    ask_held!(
+        alloc,
+        index,
+        opened => reply_pairs(alloc, opened, fields, first, second, pairs, count)
+    )
 }
 
 /// Writes how many different numbers the column of this name has at the rows of the predicate that the fields spell.
@@ -202,15 +198,7 @@ pub fn different(
     ensures kept { index.new.held.value ≡ index.old.held.value }
     ensures left { OnErr result (count.new ≡ count.old) }
 {
-    let Some(state) = take(index, alloc) else {
-        return Err(Refusal::Closed);
-    };
-    let ending = match state.opened() {
-        Some(opened) => count_different(alloc, opened, fields, name, count),
-        None => Err(Refusal::Closed),
-    };
-    put(index, state);
-    ending
+    ask_held!(alloc, index, opened => count_different(alloc, opened, fields, name, count))
 }
 
 /// Writes the numbers of some ranks among those that the column of this name has at such rows.
@@ -229,15 +217,7 @@ pub fn ranked(
     ensures rest { OnOk result (drop (length wanted.now) numbers.new
         ≡ drop (length wanted.now) numbers.old) }
 {
-    let Some(state) = take(index, alloc) else {
-        return Err(Refusal::Closed);
-    };
-    let ending = match state.opened() {
-        Some(opened) => reply_ranks(alloc, opened, fields, name, wanted, numbers),
-        None => Err(Refusal::Closed),
-    };
-    put(index, state);
-    ending
+    ask_held!(alloc, index, opened => reply_ranks(alloc, opened, fields, name, wanted, numbers))
 }
 
 /// Writes the number at the end of `part` parts of `whole` of those that the column of this name has at such rows.
@@ -255,15 +235,11 @@ pub fn quantile(
     ensures kept { index.new.held.value ≡ index.old.held.value }
     ensures left { OnErr result (number.new ≡ number.old) }
 {
-    let Some(state) = take(index, alloc) else {
-        return Err(Refusal::Closed);
-    };
-    let ending = match state.opened() {
-        Some(opened) => reply_quantile(alloc, opened, fields, name, part, whole, number),
-        None => Err(Refusal::Closed),
-    };
-    put(index, state);
-    ending
+    ask_held!(
+        alloc,
+        index,
+        opened => reply_quantile(alloc, opened, fields, name, part, whole, number)
+    )
 }
 
 /// Writes the rows with the greatest numbers, or the least, that the column of this name has at such rows, the first ones
@@ -284,15 +260,11 @@ pub fn first_rows(
     ensures unfilled { OnErr result (rows.new ≡ rows.old) }
     ensures rest { OnOk result (drop count.new rows.new ≡ drop count.new rows.old) }
 {
-    let Some(state) = take(index, alloc) else {
-        return Err(Refusal::Closed);
-    };
-    let ending = match state.opened() {
-        Some(opened) => reply_top(alloc, opened, fields, name, end_of(least), rows, count),
-        None => Err(Refusal::Closed),
-    };
-    put(index, state);
-    ending
+    ask_held!(
+        alloc,
+        index,
+        opened => reply_top(alloc, opened, fields, name, end_of(least), rows, count)
+    )
 }
 
 /// Writes which rows the predicate selects that the fields spell.
@@ -308,15 +280,7 @@ pub fn select(
     ensures left { OnErr result (words.new ≡ words.old) }
     ensures rest { OnOk result (LeavesWords (opened_in index.old.held.value) words.old words.new) }
 {
-    let Some(state) = take(index, alloc) else {
-        return Err(Refusal::Closed);
-    };
-    let ending = match state.opened() {
-        Some(opened) => write_mask(alloc, opened, fields, words),
-        None => Err(Refusal::Closed),
-    };
-    put(index, state);
-    ending
+    ask_held!(alloc, index, opened => write_mask(alloc, opened, fields, words))
 }
 
 /// Writes the number of rows.
@@ -325,18 +289,10 @@ pub fn count(alloc: Global, index: &mut Handle, rows: &mut u64) -> Result<(), Re
     ensures kept { index.new.held.value ≡ index.old.held.value }
     ensures left { OnErr result (rows.new ≡ rows.old) }
 {
-    let Some(state) = take(index, alloc) else {
-        return Err(Refusal::Closed);
-    };
-    let ending = match state.opened() {
-        Some(opened) => {
-            *rows = opened.index().len();
-            Ok(())
-        }
-        None => Err(Refusal::Closed),
-    };
-    put(index, state);
-    ending
+    ask_held!(alloc, index, opened => {
+        *rows = opened.index().len();
+        Ok(())
+    })
 }
 
 /// Writes how many bytes the index keeps of its rows.
@@ -345,18 +301,10 @@ pub fn measure(alloc: Global, index: &mut Handle, bytes: &mut u64) -> Result<(),
     ensures kept { index.new.held.value ≡ index.old.held.value }
     ensures left { OnErr result (bytes.new ≡ bytes.old) }
 {
-    let Some(state) = take(index, alloc) else {
-        return Err(Refusal::Closed);
-    };
-    let ending = match state.opened() {
-        Some(opened) => {
-            *bytes = kept_bytes(opened.index());
-            Ok(())
-        }
-        None => Err(Refusal::Closed),
-    };
-    put(index, state);
-    ending
+    ask_held!(alloc, index, opened => {
+        *bytes = kept_bytes(opened.index());
+        Ok(())
+    })
 }
 
 /// Writes the schema text, if there is room, and its length.
@@ -372,15 +320,7 @@ pub fn describe(
     ensures unfilled { OnErr result (text.new ≡ text.old) }
     ensures rest { OnOk result (drop size.new text.new ≡ drop size.new text.old) }
 {
-    let Some(state) = take(index, alloc) else {
-        return Err(Refusal::Closed);
-    };
-    let ending = match state.opened() {
-        Some(opened) => opened.describe(text, size),
-        None => Err(Refusal::Closed),
-    };
-    put(index, state);
-    ending
+    ask_held!(alloc, index, opened => opened.describe(text, size))
 }
 
 /// Writes the bytes that keep the index and these notes, if there is room, and how many they are.
@@ -398,15 +338,7 @@ pub fn save(
     ensures unfilled { OnErr result (bytes.new ≡ bytes.old) }
     ensures rest { OnOk result (drop size.new bytes.new ≡ drop size.new bytes.old) }
 {
-    let Some(state) = take(index, alloc) else {
-        return Err(Refusal::Closed);
-    };
-    let ending = match state.opened() {
-        Some(opened) => keep(alloc, opened, notes, bytes, size),
-        None => Err(Refusal::Closed),
-    };
-    put(index, state);
-    ending
+    ask_held!(alloc, index, opened => keep(alloc, opened, notes, bytes, size))
 }
 
 /// Opens a closed handle, with the index that all bytes keep, and writes the notes and their length. It writes how many

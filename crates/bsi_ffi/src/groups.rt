@@ -7,10 +7,9 @@ ghost use Rattle.bsi_ffi.specs.Groups.{IsFlat, IsFlatEntry, IsFlatGroup, IsGroup
 use crate::answers::{FlatAnswer, Place, write};
 use crate::opened::Opened;
 use crate::refusal::Refusal;
+use crate::selection::read_query;
 use bsi_groups::{GroupError, Groups, group_by};
-use bsi_records::read_question;
 use bsi_table::Answer;
-use csv::ByteRecord;
 use std::alloc::Global;
 
 /// An answer before it is written.
@@ -52,8 +51,7 @@ pub(crate) fn reply_groups(
     ensures rest { OnOk result (drop count.new groups.new ≡ drop count.new groups.old) }
 {
     let index = opened.index();
-    let fields = ByteRecord::from_fields(alloc, fields)?;
-    let Some(query) = read_question(alloc, index.schema(), &fields, 0)? else {
+    let Some(query) = read_query(alloc, index.schema(), fields)? else {
         return Err(Refusal::BadQuery);
     };
     let Some(by) = index.schema().find(name) else {

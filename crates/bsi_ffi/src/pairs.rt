@@ -9,10 +9,9 @@ use crate::answers::FlatAnswer;
 use crate::groups::flat_answer;
 use crate::opened::Opened;
 use crate::refusal::Refusal;
+use crate::selection::read_query;
 use bsi_groups::{GroupError, Groups, group_by};
-use bsi_records::read_question;
 use bsi_table::Answer;
-use csv::ByteRecord;
 use std::alloc::Global;
 
 /// A row's entry in a column, or the number of a rank.
@@ -53,8 +52,7 @@ pub(crate) fn reply_pairs(
     ensures rest { OnOk result (drop count.new pairs.new ≡ drop count.new pairs.old) }
 {
     let index = opened.index();
-    let fields = ByteRecord::from_fields(alloc, fields)?;
-    let Some(query) = read_question(alloc, index.schema(), &fields, 0)? else {
+    let Some(query) = read_query(alloc, index.schema(), fields)? else {
         return Err(Refusal::BadQuery);
     };
     let Some(one) = index.schema().find(first) else {

@@ -1,17 +1,19 @@
-//! Which rows a predicate selects, as words.
+//! Queries and predicates of fields, and which rows a predicate selects, as words.
 
 ghost use Rattle.std.specs.Prelude.{◌≡◌, ◌<◌, ◌≤◌, ℕ, drop, false, length, map, slice_index_or, take, Some, IfErr, IfOk, OnErr, OnOk};
 ghost use Rattle.bsi_bits.specs.BitList.{word_count};
 ghost use Rattle.bsi_bits.specs.Packed.{bit_of};
 ghost use Rattle.bsi_records.specs.Predicates.{IsPredicate};
+ghost use Rattle.bsi_records.specs.Questions.{IsQueryIn};
 ghost use Rattle.bsi_records.specs.Reading.{IsReadAs};
+ghost use Rattle.bsi_records.specs.declared.grammar.Grammar.TheVariants.{Index};
 ghost use Rattle.bsi_ffi.specs.Calls.{IsMasked, LeavesWords};
 
 use crate::opened::Opened;
 use crate::refusal::Refusal;
 use bsi_bits::Bits;
-use bsi_table::{AskError, NoMemory, Pred, Schema};
-use csv::ByteRecord;
+use bsi_records::{Grammar, QuestionError, read_query_in};
+use bsi_table::{AskError, NoMemory, Pred, Query, Schema};
 use std::alloc::Global;
 
 /// Writes which rows the predicate selects that the fields spell.
@@ -46,8 +48,27 @@ pub(crate) fn read_predicate(
     ensures { IfOk result
         (IsReadAs (IsPredicate schema.now (map (λ f. f.now) fields.now))) }
 {
-    let fields = ByteRecord::from_fields(alloc, fields)?;
-    bsi_records::read_predicate(alloc, schema, &fields, 0)
+    match bsi_records::read_predicate(alloc, schema, fields) {
+        Ok(pred) => Ok(Some(pred)),
+        Err(QuestionError::Stopped(_)) => Ok(None),
+        Err(QuestionError::NoMemory) => Err(NoMemory),
+    }
+}
+
+/// Reads the query that the fields ask.
+pub(crate) fn read_query(
+    alloc: Global,
+    schema: &Schema,
+    fields: &[&[u8]],
+) -> Result<Option<Query>, NoMemory>
+    ensures { IfOk result
+        (IsReadAs (IsQueryIn Index schema.now (map (λ f. f.now) fields.now))) }
+{
+    match read_query_in(alloc, schema, Grammar::Index, fields) {
+        Ok(query) => Ok(Some(query)),
+        Err(QuestionError::Stopped(_)) => Ok(None),
+        Err(QuestionError::NoMemory) => Err(NoMemory),
+    }
 }
 
 /// Writes the words of a bitmap, if there is room for these.

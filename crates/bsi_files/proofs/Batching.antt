@@ -21,13 +21,15 @@ use Rattle.bsi_rows.specs.declared.query.Query.{Query}
 use Rattle.bsi_schema.specs.Columns.{Declared}
 use Rattle.bsi_asks.proofs.Asking.{out_after, out_all, stands_all, stands_more, stands_part, StandsAt}
 use Rattle.bsi_asks.proofs.Passing.{emptied}
+use Rattle.bsi_rows.specs.declared.question.Question.TheVariants as question
+use Rattle.bsi_asks.proofs.Showing.{its_query}
 use Rattle.bsi_asks.specs.AskLines.{IsAskLine}
 use Rattle.bsi_asks.specs.Matching.{AreMatched}
 use Rattle.bsi_asks.specs.Writing.{AreOut, WritesAll, WritesFirst}
 use Rattle.bsi_asks.specs.declared.faults.FilesFault.{FilesFault}
 use Rattle.bsi_asks.specs.declared.faults.FilesFault.TheVariants.{NoMemory, TooLong, Write}
 use Rattle.bsi_asks.specs.declared.faults.Which.TheVariants.{AsksFile}
-use Rattle.bsi_asks.specs.declared.wording.Wording.TheVariants.{Queries}
+use Rattle.bsi_records.specs.declared.grammar.Grammar.TheVariants.{Script}
 use Rattle.bsi_files.specs.Batches.{AreFirstReplies, GivesQueries, HasGiven, IsTold, StopsInBatch, TakesAsk, TakesBatch, TakesQuery, TellsAll, TellsFirst}
 use Rattle.bsi_files.specs.declared.batches.Behind.{Behind}
 use Rattle.bsi_files.specs.declared.batches.Behind.TheVariants.{Bad, End, More}
@@ -109,12 +111,12 @@ matched_append Is (x ∷ xs) xs' (y ∷ ys) ys' first last = (first.0, matched_a
 
 module _ (schema : Declared) (rows : List FedRow) where
   line_of : (fields : List Field) (query : Query) (line : List ℕ) → IsQuery schema fields query → IsTold schema rows query line
-      → IsAskLine Queries schema rows fields line
+      → IsAskLine Script schema rows fields line
   line_of fields query line asked told =
-      inr (λ report asks. asks, inr (record { query = query; reply = told.0; asked = asked; lawful = told.1; line_is = told.2 }))
+      inr (record { asked = question.Total query; is = asked; answered = told })
 
   lines_of : (records : List (List Field)) (queries : List Query) (lines : List (List ℕ)) → AreMatched (IsQuery schema) records queries
-      → AreMatched (IsTold schema rows) queries lines → AreMatched (IsAskLine Queries schema rows) records lines
+      → AreMatched (IsTold schema rows) queries lines → AreMatched (IsAskLine Script schema rows) records lines
   lines_of [] [] [] asked told = tt
   lines_of [] [] (line ∷ lines) asked told = absurd told
   lines_of [] (query ∷ queries) lines asked told = absurd asked
@@ -136,11 +138,11 @@ take_few (suc count) (x ∷ xs) = let few = take_few count xs in omega (arith, f
 
 module _ (schema : Declared) (rows : List FedRow) {R : Type 0} (rem : R → Option (List ℕ)) (bytes : List ℕ) (old : RecordSource R)
     (before now after : Option (List ℕ))
-    (stands : StandsAt (IsAskLine Queries schema rows) bytes (reader_state old.input) (source_of rem old.input) old.taken before now)
+    (stands : StandsAt (IsAskLine Script schema rows) bytes (reader_state old.input) (source_of rem old.input) old.taken before now)
     (queries : List Query) (at : Reader R) (taken : ℕ) (given : HasGiven rem schema old queries at taken) where
   -- the lines of the batch were written too
   pub batch_stands : TellsAll (IsTold schema rows) queries now after
-      → StandsAt (IsAskLine Queries schema rows) bytes (reader_state at) (source_of rem at) taken before after
+      → StandsAt (IsAskLine Script schema rows) bytes (reader_state at) (source_of rem at) taken before after
   batch_stands tells =
       let on = records_on rem schema bytes old.input at queries stands.records given.gives stands.begun in
       record {
@@ -148,7 +150,7 @@ module _ (schema : Declared) (rows : List FedRow) {R : Type 0} (rem : R → Opti
         lines = stands.lines ++ tells.lines;
         begun = on.1;
         many = omega (arith, length-append stands.records on.0, stands.many, on.3, given.counted);
-        each = matched_append (IsAskLine Queries schema rows) stands.records on.0 stands.lines tells.lines stands.each
+        each = matched_append (IsAskLine Script schema rows) stands.records on.0 stands.lines tells.lines stands.each
             (lines_of schema rows on.0 queries tells.lines on.2 tells.each);
         written = subst (Appends before after) (sym (concat-append stands.lines tells.lines))
             (appends-more before now after (concat stands.lines) (concat tells.lines) stands.written tells.written);
@@ -156,7 +158,7 @@ module _ (schema : Declared) (rows : List FedRow) {R : Type 0} (rem : R → Opti
 
   -- lines of its first queries were, before a fault
   pub batch_part : (fault : FilesFault) → TellsFirst (IsTold schema rows) queries now after fault
-      → WritesFirst (AreMatched (IsAskLine Queries schema rows)) bytes fault before after
+      → WritesFirst (AreMatched (IsAskLine Script schema rows)) bytes fault before after
   batch_part fault tells =
       let first = gives_first rem schema bytes tells.count old.input at queries given.gives in
       let on = records_on rem schema bytes old.input first.0 (take tells.count queries) stands.records first.1 stands.begun in
@@ -169,7 +171,7 @@ module _ (schema : Declared) (rows : List FedRow) {R : Type 0} (rem : R → Opti
         first = on.1.first;
         few = omega (arith, length-append stands.records on.0, stands.many, on.3, given.counted, given.few, few);
         too_long = λ is. absurd (late_fault fault tells.late is);
-        are = matched_append (IsAskLine Queries schema rows) stands.records on.0 stands.lines tells.lines stands.each
+        are = matched_append (IsAskLine Script schema rows) stands.records on.0 stands.lines tells.lines stands.each
             (lines_of schema rows on.0 (take tells.count queries) tells.lines on.2 tells.each);
         out = out_after fault stands.lines tells.lines before now after stands.written tells.out;
       }
@@ -194,21 +196,24 @@ goes_on rem schema old new queries End takes (inr way) = absurd (cc (way))
 -- what follows once the lines of a batch were written
 module _ (schema : Declared) (rows : List FedRow) {R : Type 0} (rem : R → Option (List ℕ)) (bytes : List ℕ) (old new : RecordSource R)
     (before now middle : Option (List ℕ))
-    (stands : StandsAt (IsAskLine Queries schema rows) bytes (reader_state old.input) (source_of rem old.input) old.taken before now)
+    (stands : StandsAt (IsAskLine Script schema rows) bytes (reader_state old.input) (source_of rem old.input) old.taken before now)
     (queries : List Query) (tells : TellsAll (IsTold schema rows) queries now middle) where
   -- the record behind it asks no query
-  bad_line_of : (fields : List Field) → ((query : Query) → IsQuery schema fields query → ⊥) → IsAskLine Queries schema rows fields bad_line
-  bad_line_of fields none = inr (λ report asks. asks, inl (record { none = none; line_is = refl }))
+  bad_line_of : (fields : List Field) → ((query : Query) → IsQuery schema fields query → ⊥) → IsAskLine Script schema rows fields bad_line
+  bad_line_of fields none = inl (record {
+    none = λ asked is. let it = its_query schema fields asked is in none it.0 it.1;
+    line_is = refl;
+  })
 
   pub stands_bad : (after : Option (List ℕ)) → TakesBatch rem schema old new queries Bad → Appends middle after bad_line
-      → StandsAt (IsAskLine Queries schema rows) bytes (reader_state new.input) (source_of rem new.input) new.taken before after
+      → StandsAt (IsAskLine Script schema rows) bytes (reader_state new.input) (source_of rem new.input) new.taken before after
   stands_bad after takes written =
-      stands_more (IsAskLine Queries schema rows) rem bytes takes.0 new.input takes.1 takes.2.few before middle
+      stands_more (IsAskLine Script schema rows) rem bytes takes.0 new.input takes.1 takes.2.few before middle
       (batch_stands schema rows rem bytes old before now middle stands queries takes.0 takes.1 takes.2 tells)
       takes.3.fields bad_line new.taken after takes.3.read takes.3.counted (bad_line_of takes.3.fields takes.3.none) written
 
   pub part_bad : (after : Option (List ℕ)) (fault : FilesFault) → TakesBatch rem schema old new queries Bad → AreOut fault (bad_line ∷ []) middle after
-      → (fault ≡ NoMemory) ⊎ (fault ≡ Write) → WritesFirst (AreMatched (IsAskLine Queries schema rows)) bytes fault before after
+      → (fault ≡ NoMemory) ⊎ (fault ≡ Write) → WritesFirst (AreMatched (IsAskLine Script schema rows)) bytes fault before after
   part_bad after fault takes out late =
       let stood = batch_stands schema rows rem bytes old before now middle stands queries takes.0 takes.1 takes.2 tells in
       let fields = takes.3.fields in
@@ -221,30 +226,30 @@ module _ (schema : Declared) (rows : List FedRow) {R : Type 0} (rem : R → Opti
         first = begun.first;
         few = omega (arith, length-append stood.records (fields ∷ []), stood.many, takes.3.counted, takes.3.few);
         too_long = λ is. absurd (late_fault fault late is);
-        are = matched_append (IsAskLine Queries schema rows) stood.records (fields ∷ []) stood.lines (bad_line ∷ []) stood.each
+        are = matched_append (IsAskLine Script schema rows) stood.records (fields ∷ []) stood.lines (bad_line ∷ []) stood.each
             (bad_line_of fields takes.3.none, tt);
         out = out_after fault stood.lines (bad_line ∷ []) before middle after stood.written out;
       }
 
   -- no record stands behind it
-  pub all_end : TakesBatch rem schema old new queries End → WritesAll (AreMatched (IsAskLine Queries schema rows)) bytes before middle
+  pub all_end : TakesBatch rem schema old new queries End → WritesAll (AreMatched (IsAskLine Script schema rows)) bytes before middle
   all_end takes =
-      stands_all (IsAskLine Queries schema rows) rem bytes takes.0 takes.0 takes.1 takes.2.few before middle
+      stands_all (IsAskLine Script schema rows) rem bytes takes.0 takes.0 takes.1 takes.2.few before middle
       (batch_stands schema rows rem bytes old before now middle stands queries takes.0 takes.1 takes.2 tells) takes.3
 
   -- a fault stands behind it
   pub part_stopped : (fault : FilesFault) → StopsInBatch rem schema old queries fault
-      → WritesFirst (AreMatched (IsAskLine Queries schema rows)) bytes fault before middle
+      → WritesFirst (AreMatched (IsAskLine Script schema rows)) bytes fault before middle
   part_stopped fault stops =
-      stands_part (IsAskLine Queries schema rows) rem bytes stops.at stops.at stops.taken stops.given.few before middle
+      stands_part (IsAskLine Script schema rows) rem bytes stops.at stops.at stops.taken stops.given.few before middle
       (batch_stands schema rows rem bytes old before now middle stands queries stops.at stops.taken stops.given tells) fault stops.too_long
 
   -- the next batch is read behind it, or behind a record that asks no query
   pub stands_on : (after : Option (List ℕ)) (behind : Behind) → TakesBatch rem schema old new queries behind
       → ((behind ≡ More) × (after ≡ middle)) ⊎ ((behind ≡ Bad) × Appends middle after bad_line)
-      → StandsAt (IsAskLine Queries schema rows) bytes (reader_state new.input) (source_of rem new.input) new.taken before after
+      → StandsAt (IsAskLine Script schema rows) bytes (reader_state new.input) (source_of rem new.input) new.taken before after
   stands_on after More takes (inl way) =
-      subst (StandsAt (IsAskLine Queries schema rows) bytes (reader_state new.input) (source_of rem new.input) new.taken before) (sym way.1)
+      subst (StandsAt (IsAskLine Script schema rows) bytes (reader_state new.input) (source_of rem new.input) new.taken before) (sym way.1)
       (batch_stands schema rows rem bytes old before now middle stands queries new.input new.taken takes.0 tells)
   stands_on after Bad takes (inr way) = stands_bad after takes way.1
   stands_on after More takes (inr way) = absurd (cc (way.0))

@@ -14,7 +14,7 @@ ghost use Rattle.bsi_asks.specs.Matching.{AreMatched};
 ghost use Rattle.bsi_asks.specs.RowFiles.{fed_counts};
 ghost use Rattle.bsi_asks.specs.Runs.{AreLines};
 ghost use Rattle.bsi_asks.specs.Writing.{AreOut, WritesAll, WritesFirst};
-ghost use Rattle.bsi_asks.specs.declared.wording.Wording.TheVariants.{Queries};
+ghost use Rattle.bsi_records.specs.declared.grammar.Grammar.TheVariants.{Script};
 ghost use Rattle.bsi_files.specs.Batches.{AreFirstReplies, IsTold, TellsAll, TellsFirst};
 
 use crate::batches::{Behind, read_batch};
@@ -65,10 +65,10 @@ fn answer_queries<R: Threads + AllocGlobal + Sync, A: Read + Drop, W: Write>(
 ) -> Result<(), FilesFault>
     ensures late { IfErr result (λ fault. is_late fault ≡ true) }
     ensures ok { OnOk result (IfSome (A.remaining asks) (λ bytes.
-        WritesAll (AreMatched (IsAskLine Queries table.now.schema table.now.rows)) bytes
+        WritesAll (AreMatched (IsAskLine Script table.now.schema table.now.rows)) bytes
         (W.contents writer.old) (W.contents writer.new))) }
     ensures part { IfErr result (λ fault. IfSome (A.remaining asks) (λ bytes.
-        WritesFirst (AreMatched (IsAskLine Queries table.now.schema table.now.rows)) bytes fault
+        WritesFirst (AreMatched (IsAskLine Script table.now.schema table.now.rows)) bytes fault
         (W.contents writer.old) (W.contents writer.new))) }
 {
     let mut records = RecordSource::new(rt.alloc(), Watched::new(asks));
@@ -86,10 +86,10 @@ fn answer_batches<R: Threads + AllocGlobal + Sync, A: Read + Drop, W: Write>(
     requires start { reader_state records.old.input ≡ st.StartRecord }
     ensures late { IfErr result (λ fault. is_late fault ≡ true) }
     ensures ok { OnOk result (FromText (source_of (λ w. A.remaining w.inner) records.old.input) (λ bytes.
-        WritesAll (AreMatched (IsAskLine Queries table.now.schema table.now.rows)) bytes
+        WritesAll (AreMatched (IsAskLine Script table.now.schema table.now.rows)) bytes
         (W.contents writer.old) (W.contents writer.new))) }
     ensures part { IfErr result (λ fault. FromText (source_of (λ w. A.remaining w.inner) records.old.input)
-        (λ bytes. WritesFirst (AreMatched (IsAskLine Queries table.now.schema table.now.rows)) bytes fault
+        (λ bytes. WritesFirst (AreMatched (IsAskLine Script table.now.schema table.now.rows)) bytes fault
         (W.contents writer.old) (W.contents writer.new))) }
 {
     let mut fields = ByteRecord::new(rt.alloc());

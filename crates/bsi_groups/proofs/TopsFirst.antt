@@ -16,8 +16,8 @@ use Rattle.bsi_orders.specs.WholeNumbers.{signed_order, signed_selects}
 use Rattle.bsi_orders.specs.declared.op.Op.{Op}
 use Rattle.bsi_orders.specs.declared.op.Op.TheVariants.{Eq}
 use Rattle.bsi_groups.specs.Tops.{compared, is_ahead, is_beyond, op_beyond, rows_at, AreFirst, HaveNumbers, IsBehind, IsBoundRank, IsRowOf}
-use Rattle.bsi_groups.specs.declared.tops.End.{End}
-use Rattle.bsi_groups.specs.declared.tops.End.TheVariants.{Greatest, Least}
+use Rattle.bsi_rows.specs.declared.question.End.{End}
+use Rattle.bsi_rows.specs.declared.question.End.TheVariants.{Greatest, Least}
 use Rattle.bsi_groups.specs.declared.tops.TopRow.{TopRow}
 use Rattle.bsi_groups.proofs.TopsPlaces.{among_or_past, compared_at, place_there, places_count, places_once, places_set}
 

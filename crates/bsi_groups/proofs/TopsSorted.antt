@@ -13,8 +13,8 @@ use Rattle.std.proofs.lemmas.List.Sorted.{sorted_far, length_permutation, All-pe
 use Rattle.std.proofs.lemmas.Map.Keys.{IsDistinct-IsPermutation}
 use Rattle.std.proofs.lemmas.Map.Made.{AllPairs-from_IsDistinct, IsDistinct-from_AllPairs}
 use Rattle.bsi_groups.specs.Tops.{is_ahead, AreFirst, AreTop, HaveNumbers, IsPast, IsRowOf}
-use Rattle.bsi_groups.specs.declared.tops.End.{End}
-use Rattle.bsi_groups.specs.declared.tops.End.TheVariants.{Greatest, Least}
+use Rattle.bsi_rows.specs.declared.question.End.{End}
+use Rattle.bsi_rows.specs.declared.question.End.TheVariants.{Greatest, Least}
 use Rattle.bsi_groups.specs.declared.tops.TopRow.{TopRow}
 use Rattle.bsi_groups.proofs.TopsFirst.{all_pairs_take}
 

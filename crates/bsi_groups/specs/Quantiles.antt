@@ -1,23 +1,7 @@
 -- The number at the end of a share of some numbers.
-use Rattle.std.specs.Prelude.{ℕ, ◌-◌, ◌*◌, ◌/◌, ◌<◌, ◌≤◌, ◌&&◌, nat_lt, nat_le, if◌then◌else◌, ℤ, List, Option, Some, None, length}
+use Rattle.std.specs.Prelude.{ℤ, List, Option, length}
 use Rattle.bsi_orders.specs.Ranks.{IsSignedRankOf}
-
--- so many parts of a whole
-pub record Share : Type 0 where
-  pub part : ℕ
-  pub whole : ℕ
-
--- a whole has parts, and a share no more than these
-abbrev pub IsShare : ℕ → ℕ → Type 0
-IsShare part whole = (0 < whole) × (part ≤ whole)
-
-abbrev pub share_of : ℕ → ℕ → Option Share
-share_of part whole =
-    if nat_lt 0 whole && nat_le part whole then Some (record { part = part; whole = whole }) else None
-
--- the rank, from 0, at the end of a share of so many numbers, rounded down
-abbrev pub share_rank : Share → ℕ → ℕ
-share_rank share count = (count - 1) * share.part / share.whole
+use Rattle.bsi_rows.specs.Shares.{share_rank, Share}
 
 -- the number of that rank, or none where there is no number
 abbrev pub IsQuantileOf : Share → List ℤ → Option ℤ → Type 0

@@ -6,8 +6,8 @@ use Rattle.bsi_orders.specs.WholeNumbers.{signed_order, signed_selects}
 use Rattle.bsi_orders.specs.Orders.{compares_by}
 use Rattle.bsi_orders.specs.declared.op.Op.{Op}
 use Rattle.bsi_orders.specs.declared.op.Op.TheVariants.{Gt, Lt}
-use Rattle.bsi_groups.specs.declared.tops.End.{End}
-use Rattle.bsi_groups.specs.declared.tops.End.TheVariants.{Greatest, Least}
+use Rattle.bsi_rows.specs.declared.question.End.{End}
+use Rattle.bsi_rows.specs.declared.question.End.TheVariants.{Greatest, Least}
 use Rattle.bsi_groups.specs.declared.tops.TopRow.{TopRow}
 
 -- how a number compares with those that come after it

@@ -13,9 +13,10 @@ mod tally;
 mod tallying;
 mod tops;
 
+pub use bsi_rows::{End, Share};
 pub use differing::distinct;
 pub use grouping::{GroupError, group_by};
 pub use groups::{Group, Groups};
-pub use quantiles::{Share, quantile};
+pub use quantiles::quantile;
 pub use ranking::ranks;
-pub use tops::{End, TopRow, top};
+pub use tops::{TopRow, top};

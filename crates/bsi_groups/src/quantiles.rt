@@ -3,55 +3,14 @@
 ghost use Rattle.std.specs.Prelude.{◌≡◌, length, IfOk};
 ghost use Rattle.bsi_orders.specs.Orders.{values_at};
 ghost use Rattle.bsi_shift.specs.Shifted.{shifted_entries};
-ghost use Rattle.bsi_groups.specs.Quantiles.{share_of, share_rank, IsQuantileOf};
+ghost use Rattle.bsi_groups.specs.Quantiles.{IsQuantileOf};
 ghost use Rattle.bsi_groups.specs.Replies.{selected_numbers, IsReplyOn};
 
 use crate::selecting::select_for;
 use bsi_bits::Bits;
+use bsi_rows::Share;
 use bsi_shift::Shifted;
 use bsi_table::{AskError, Index, NoMemory, Pred};
-use std::marker::Model;
-
-/// A share of a whole: so many of its parts, from none to all.
-#[derive(Clone, Copy, Debug)]
-pub struct Share {
-    part: u64,
-    whole: u64,
-}
-
-impl Model for Share {
-    ghost use Rattle.bsi_groups.specs.Quantiles.{Share, IsShare};
-
-    ghost Value = { Share };
-
-    ghost view = { λ s. record { part = s.part; whole = s.whole } };
-
-    ghost invariant = { λ s. IsShare s.part s.whole };
-
-    ghost inverse = { λ s. record { part = s.part; whole = s.whole } };
-
-    ghost inverse_ok = { λ s h. λ i. record { part = s.part; whole = s.whole } };
-}
-
-impl Share {
-    /// Makes the share of `part` parts of `whole`, or none where the whole has no parts, or fewer.
-    pub fn new(part: u64, whole: u64) -> Option<Share>
-        ensures { result ≡ share_of part whole }
-    {
-        if whole == 0 || part > whole {
-            return None;
-        }
-        Some(Share { part, whole })
-    }
-
-    /// Returns the rank, from 0, at the end of this share of so many numbers, rounded down.
-    fn rank_of(self, count: u64) -> u64
-        ensures { result ≡ share_rank self count }
-    {
-        let last = u128::from(count.saturating_sub(1));
-        (last * u128::from(self.part) / u128::from(self.whole)) as u64
-    }
-}
 
 /// Returns the number at the end of a share of the numbers that column `c` has at the rows that a predicate selects: of n
 /// numbers that of the rank (n - 1) * part / whole, from 0 and rounded down, so half of them is the lower median. There

@@ -13,6 +13,7 @@ use crate::selecting::select_for;
 use bsi_bits::{Bits, MAX_BLOCK};
 use bsi_columns::AnyColumn;
 use bsi_orders::Op;
+use bsi_rows::End;
 use bsi_shift::Shifted;
 use bsi_table::{AskError, Index, NoMemory, Pred};
 use std::alloc::Global;
@@ -28,15 +29,6 @@ pub struct TopRow {
     pub row: u64,
     /// The number that the row has there.
     pub number: i64,
-}
-
-/// Which numbers of a column come first.
-#[derive(Clone, Copy, Debug, PartialEq, Eq)]
-pub enum End {
-    /// The greatest.
-    Greatest,
-    /// The least.
-    Least,
 }
 
 /// The 64 numbers of a column that were read last.

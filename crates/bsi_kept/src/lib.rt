@@ -15,8 +15,9 @@ mod words;
 mod writing;
 
 pub use bitmaps::take_bitmaps;
+pub use bsi_reading::WriteFault;
 pub use bytes::{put_bytes, take_bytes};
-pub use fault::{SegmentFault, WriteFault};
+pub use fault::SegmentFault;
 pub use laws::{one_other_word_is_told, schema_is_read, segment_is_read};
 pub use packed::{put_bits, take_bits};
 pub use reading::{may_begin, read_segment};

@@ -1,8 +1,8 @@
 -- The fields of a record, by their places.
-use Rattle.std.proofs.Common.{◌≡◌, ℕ, zero, suc, ◌+◌, ◌<◌, ◌≤◌, List, [], ◌∷◌, length, get_or, drop, Option, Some, None, option_map, unwrap_or, arith, ap, sym, ◌∙◌, refl}
+use Rattle.std.proofs.Common.{◌≡◌, ℕ, zero, suc, ◌+◌, ◌<◌, ◌≤◌, List, [], ◌∷◌, ◌++◌, length, get_or, drop, take, Option, Some, None, option_map, unwrap_or, arith, ap, refl}
 use Rattle.csv.specs.Records.{field_at}
-use Rattle.std.proofs.lemmas.List.{drop-drop}
 use Rattle.bsi_records.specs.Numbers.{Field}
+use Rattle.bsi_records.specs.Reading.{texts, Lent}
 
 -- the field at a place, or no byte
 pub at_place : (fields : List Field) (place : ℕ) → get_or fields place [] ≡ unwrap_or (field_at fields place) []
@@ -52,13 +52,16 @@ three_behind (a ∷ b ∷ []) four = absurd (omega arith)
 three_behind (a ∷ b ∷ c ∷ []) four = absurd (omega arith)
 three_behind (a ∷ b ∷ c ∷ d ∷ fields) four = refl
 
--- the fields from a place on, and the field at a place among these
-pub field_on : (fields : List Field) (from n at : ℕ) → from + n ≡ at → field_at fields at ≡ field_at (drop from fields) n
+-- one more field
+pub take_on : (fields : List Field) (place : ℕ) (text : Field) → field_at fields place ≡ Some text → take (place + 1) fields ≡ take place fields ++ text ∷ []
 unfolding field_at
-field_on fields zero n at is = let same : at ≡ n = omega (arith, is) in ap (field_at fields) same
-field_on [] (suc from) n at is = refl
-field_on (field ∷ fields) (suc from) n zero is = absurd (omega (arith, is))
-field_on (field ∷ fields) (suc from) n (suc at) is = field_on fields from n at (omega (arith, is))
+take_on [] place text at = cc
+take_on (field ∷ fields) zero text at = let same : field ≡ text = cc in ap (λ t. t ∷ []) same
+take_on (field ∷ fields) (suc place) text at =
+    let next : suc place + 1 ≡ suc (place + 1) = omega arith in
+    rw next (ap (λ fs. field ∷ fs) (take_on fields place text at))
 
-pub drop_on : (fields : List Field) (from n at : ℕ) → from + n ≡ at → drop at fields ≡ drop n (drop from fields)
-drop_on fields from n at is = ap (λ k. drop k fields) (sym is) ∙ sym (drop-drop n from fields)
+-- one more that is lent
+pub texts_more : (lent : List Lent) (more : Lent) → texts (lent ++ more ∷ []) ≡ texts lent ++ more.now ∷ []
+texts_more [] more = refl
+texts_more (one ∷ lent) more = ap (λ fs. one.now ∷ fs) (texts_more lent more)

@@ -1,15 +1,16 @@
 mod Adding
+mod Asking
 mod ColumnRecords
 mod Digits
 pub mod EventWords
 mod Events
 mod Fields
+mod Firsts
 mod Parts
 pub mod Ranked
 mod RowTexts
 mod SpellReading
 mod SpellSteps
-mod SpellTotals
 mod SpellWords
 pub mod Spelling
 mod Tables

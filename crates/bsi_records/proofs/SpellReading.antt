@@ -1,7 +1,8 @@
 -- Fields are read as the predicate that they spell, and as no other.
-use Rattle.std.proofs.Common.{◌≡◌, ℕ, Bool, true, false, List, [], ◌∷◌, ◌++◌, ◌-◌, ◌<◌, ◌≤◌, length, length-drop, drop, arith, Option, Some, None, option_map, option_and_then, ℤ, ap, ap₂, sym, ◌∙◌, refl, append_assoc, codes, subst}
+use Rattle.std.proofs.Common.{◌≡◌, ℕ, Bool, true, false, List, [], ◌∷◌, ◌++◌, ◌≤◌, length, Result, Err, Option, Some, None, option_map, option_and_then, ℤ, ap, ap₂, sym, ◌∙◌, refl, append_assoc, codes, subst}
 use Rattle.std.proofs.lemmas.List.{append-nil}
 use Rattle.std.specs.Option.{option_or}
+use Rattle.std.specs.Prelude.{IsErr, IsErrAnd}
 use Rattle.std.proofs.lemmas.Option.{option_and_then_some}
 use Rattle.bsi_orders.specs.declared.op.Op.{Op}
 use Rattle.bsi_schema.specs.Columns.{AreNamed, Declared, position_of}
@@ -9,9 +10,12 @@ use Rattle.bsi_rows.specs.declared.query.Pred.{Pred, All, Compare, Columns, Null
 use Rattle.bsi_records.specs.declared.predicates.Pending.{Pending}
 use Rattle.bsi_records.specs.declared.predicates.Pending.TheVariants.{Nothing, Column, Comparison}
 use Rattle.bsi_records.specs.Numbers.{Field, number_in}
-use Rattle.bsi_records.specs.Postfix.{after_field, after_fields, after_name, after_sign, after_word, begun, joined, joint, negated, newest_first, nowhere, only_of, op_of, plain, ready, State}
+use Rattle.bsi_records.specs.Postfix.{after_field, after_fields, after_name, after_sign, after_word, begun, joined, joint, negated, newest_first, nowhere, only_of, op_of, plain, ready, IsState, State}
 use Rattle.bsi_records.specs.Predicates.{IsPredicate, sign_of, Spells}
-use Rattle.bsi_records.specs.Reading.{IsReadAs}
+use Rattle.bsi_records.specs.Reading.{IsAsked, IsReadAs}
+use Rattle.bsi_records.specs.declared.grammar.QuestionError.{QuestionError}
+use Rattle.bsi_records.specs.declared.grammar.QuestionError.TheVariants.{NoMemory, Stopped}
+use Rattle.bsi_records.proofs.Firsts.{refused_on, stopped_on}
 use Rattle.bsi_records.proofs.SpellWords.{if_same, mapped, name_begins, name_leads, no_number, none_is_some, read_is_sign, sign_leads, some_same}
 
 -- one more field
@@ -231,6 +235,9 @@ only_read schema named fields before stack pending (Some P) few empty leads is =
     let state : begun pending stack ≡ after_fields schema fields Nothing [] = leads ∙ ap (λ s. after_fields schema fields Nothing (newest_first s)) empty in
     (few, is_spelled_anywhere schema fields P (sym state ∙ only_is pending stack (plain P) is))
 
--- too many fields
-pub too_many : (schema : Declared) (fields : List Field) (from : ℕ) → 1000 < length fields - from → (P : Pred) → IsPredicate schema (drop from fields) P → ⊥
-too_many schema fields from many P spelled = omega (arith, length-drop from fields, spelled.0)
+-- where reading stops, they spell nothing
+pub stops : (schema : Declared) → AreNamed schema.columns → (fields : List Field) (before after : List Pred) (r : Result Pred QuestionError) (e : QuestionError)
+    → IsErr r × IsErrAnd r (λ given. given ≡ e) → before ≡ [] → IsState (Err e) after (after_fields schema fields Nothing (newest_first before))
+    → IsAsked (IsPredicate schema fields) r
+stops schema named fields before after r (Stopped stop) is empty state = stopped_on (IsPredicate schema fields) r stop is (nothing_read schema named fields before empty state)
+stops schema named fields before after r NoMemory is empty state = refused_on (IsPredicate schema fields) r is

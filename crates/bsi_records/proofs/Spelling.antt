@@ -21,8 +21,10 @@ use Rattle.bsi_records.specs.Numbers.{Field}
 use Rattle.bsi_records.specs.Postfix.{after_fields, begun, plain, ready, State}
 use Rattle.bsi_records.specs.Predicates.{compares_columns, IsPlainPredicate, IsPredicate, Spells}
 use Rattle.bsi_records.proofs.SpellReading.{is_read, is_spelled, only_at}
-use Rattle.bsi_records.proofs.SpellTotals.{with}
 use Rattle.bsi_records.proofs.SpellWords.{if_same, mapped, none_is_some, some_same}
+
+abbrev with : List Field → Total → Total × List Field
+with rest total = (total, rest)
 
 -- a total and the fields of its predicate
 abbrev pub with_rest : Total → List Field → Option (Total × List Field)
@@ -41,6 +43,11 @@ module _ (Is : List Field → Pred → Type 0) (found : Option (Total × List Fi
   pub no_predicate_query : (total : Total) (rest : List Field) → with_rest total rest ≡ found → ((P : Pred) → Is rest P → ⊥) → (query : Query) → AsksBy Is found query → ⊥
   no_predicate_query total rest at none query is =
       let both : (query.total ≡ total) × Is rest query.pred = subst (λ found. AsksBy Is found query) (sym at) is in none query.pred both.1
+
+  -- a query of this total has the rows of a predicate that the others are
+  pub its_pred : (total : Total) (rest : List Field) → with_rest total rest ≡ found → (query : Query) → AsksBy Is found query → (P : Pred) × Is rest P
+  its_pred total rest at query is =
+      let both : (query.total ≡ total) × Is rest query.pred = subst (λ found. AsksBy Is found query) (sym at) is in (query.pred, both.1)
 
   -- a total and a predicate are a query
   pub is_query : (query : Query) (rest : List Field) → with_rest query.total rest ≡ found → Is rest query.pred → AsksBy Is found query

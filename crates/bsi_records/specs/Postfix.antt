@@ -1,5 +1,5 @@
 -- Reading a predicate in postfix order, a field at a time.
-use Rattle.std.specs.Prelude.{ℕ, Bool, true, false, if◌then◌else◌, List, [], ◌∷◌, map, reverse, Option, Some, None, option_map, option_and_then, codes, Box}
+use Rattle.std.specs.Prelude.{◌≡◌, ℕ, Bool, true, false, if◌then◌else◌, List, [], ◌∷◌, map, reverse, Option, Some, None, option_map, option_and_then, Result, Ok, Err, codes, Box}
 use Rattle.std.specs.Option.{option_or}
 use Rattle.std.specs.Ptr.{null_ptr}
 use Rattle.std.specs.Str.{bytes_eq}
@@ -8,6 +8,9 @@ use Rattle.bsi_orders.specs.declared.op.Op.{Op}
 use Rattle.bsi_orders.specs.declared.op.Op.TheVariants.{Eq, Ne, Lt, Le, Gt, Ge}
 use Rattle.bsi_schema.specs.Columns.{Declared, position_of}
 use Rattle.bsi_rows.specs.declared.query.Pred.{Pred, All, Compare, Columns, Null, Both', Either', Not'}
+use Rattle.bsi_records.specs.declared.grammar.QuestionError.{QuestionError}
+use Rattle.bsi_records.specs.declared.grammar.QuestionError.TheVariants.{NoMemory, Stopped}
+use Rattle.bsi_records.specs.declared.grammar.Stop.{Stop}
 use Rattle.bsi_records.specs.declared.predicates.Pending.{Pending}
 use Rattle.bsi_records.specs.declared.predicates.Pending.TheVariants.{Nothing, Column, Comparison}
 use Rattle.bsi_records.specs.Numbers.{Field, number_in}
@@ -43,6 +46,17 @@ ready stack = begun Nothing stack
 -- what a call read, and the predicates that it leaves, oldest first; none where no predicate goes on so
 abbrev pub state_of : Option Pending → List Pred → Option State
 state_of read stack = option_map (λ next. (next, newest_first stack)) read
+
+-- the same of a call that says where it stopped, and says nothing if memory was refused
+abbrev pub IsState : Result Pending QuestionError → List Pred → Option State → Type 0
+IsState (Ok next) stack state = Some (next, newest_first stack) ≡ state
+IsState (Err (Stopped stop)) stack state = None ≡ state
+IsState (Err NoMemory) stack state = Unit {0}
+
+-- the predicate that was taken, wherever its boxes lie
+abbrev pub plain_of : Result Pred Stop → Option Pred
+plain_of (Ok pred) = Some (plain pred)
+plain_of (Err stop) = None
 
 -- two predicates as one: that both hold, or else that one of them holds
 abbrev pub joint : Bool → Pred → Pred → Pred

@@ -1,29 +1,118 @@
--- The questions that are asked of an index that is kept or held: those of a script, ranks, and comparisons of columns.
-use Rattle.std.specs.Prelude.{◌≡◌, if◌then◌else◌, List, [], ◌∷◌, Option, None, option_map, option_and_then, MatchOption, codes}
+-- The questions that records ask, in the grammar of scripts and in that of an index.
+use Rattle.std.specs.Prelude.{◌≡◌, ◌≢◌, ◌<◌, ◌≤◌, ◌+◌, ℕ, if◌then◌else◌, List, [], ◌∷◌, ◌++◌, Option, Some, None, get_or, length, option_map, option_and_then, Result, Ok, Err, MatchOption, codes}
+use Rattle.std.specs.Borrow.{Bor}
 use Rattle.std.specs.Str.{bytes_eq}
 use Rattle.bsi_schema.specs.Columns.{Declared, position_of}
+use Rattle.bsi_rows.specs.Shares.{share_of, Share}
+use Rattle.bsi_rows.specs.declared.query.Pred.{Pred}
 use Rattle.bsi_rows.specs.declared.query.Query.{Query}
 use Rattle.bsi_rows.specs.declared.query.Total.{Total}
-use Rattle.bsi_rows.specs.declared.query.Total.TheVariants.{Rank}
+use Rattle.bsi_rows.specs.declared.query.Total.TheVariants.{Sum, Least, Greatest, Median, Rank, Rows}
+use Rattle.bsi_rows.specs.declared.question.End.{End}
+use Rattle.bsi_rows.specs.declared.question.End.TheVariants as end
+use Rattle.bsi_rows.specs.declared.question.Question.{Question}
+use Rattle.bsi_rows.specs.declared.question.Question.TheVariants as question
 use Rattle.bsi_records.specs.Events.{total_of}
 use Rattle.bsi_records.specs.Numbers.{Field, spelled_number}
-use Rattle.bsi_records.specs.Predicates.{IsPredicate}
+use Rattle.bsi_records.specs.Predicates.{IsPlainPredicate, IsPredicate}
+use Rattle.bsi_records.specs.Reading.{first_as, texts, Lent}
+use Rattle.bsi_records.specs.declared.grammar.Grammar.{Grammar}
+use Rattle.bsi_records.specs.declared.grammar.Grammar.TheVariants.{Script, Index}
+use Rattle.bsi_records.specs.declared.grammar.QuestionError.{QuestionError}
+use Rattle.bsi_records.specs.declared.grammar.QuestionError.TheVariants.{NoMemory, Stopped}
+use Rattle.bsi_records.specs.declared.queries.ColumnTotal.{ColumnTotal}
+use Rattle.bsi_records.specs.declared.queries.ColumnTotal.TheVariants as total
+
+-- ---- queries
+
+-- the total of column c
+abbrev pub total_by : ColumnTotal → ℕ → Total
+total_by total.Sum c = Sum c
+total_by total.Least c = Least c
+total_by total.Greatest c = Greatest c
+total_by total.Median c = Median c
 
 -- the rank that the fields after the word ask for, a column and a number from 0, and the fields of the predicate
 abbrev pub rank_total : Declared → List Field → Option (Total × List Field)
-rank_total schema [] = None
-rank_total schema (name ∷ []) = None
-rank_total schema (name ∷ number ∷ rest) =
-    option_and_then (λ c. option_map (λ rank. (Rank c rank, rest)) (spelled_number number))
-    (position_of schema.columns name)
+rank_total schema fields =
+    option_and_then (λ (c, others). option_map (λ (rank, rest). (Rank c rank, rest)) (first_as spelled_number others))
+    (first_as (position_of schema.columns) fields)
 
--- the total that a record asks for, and the fields of its predicate
+-- the total of an index that a record asks for, and the fields of its predicate
 abbrev pub asked_total : Declared → List Field → Option (Total × List Field)
 asked_total schema [] = None
 asked_total schema (word ∷ rest) =
     if bytes_eq word (codes "rank") then rank_total schema rest else total_of schema (word ∷ rest)
 
--- the record asks for this query
-abbrev pub IsQuestion : Declared → List Field → Query → Type 0
-IsQuestion schema fields query =
-    MatchOption (asked_total schema fields) ⊥ (λ (total, rest). (query.total ≡ total) × IsPredicate schema rest query.pred)
+abbrev pub total_in : Grammar → Declared → List Field → Option (Total × List Field)
+total_in Script schema fields = total_of schema fields
+total_in Index schema fields = asked_total schema fields
+
+-- a script compares columns with constants alone
+abbrev pub IsPredicateIn : Grammar → Declared → List Field → Pred → Type 0
+IsPredicateIn Script schema fields pred = IsPlainPredicate schema fields pred
+IsPredicateIn Index schema fields pred = IsPredicate schema fields pred
+
+-- the fields ask for this query: a total, and the rows of a predicate
+abbrev pub IsQueryIn : Grammar → Declared → List Field → Query → Type 0
+IsQueryIn grammar schema fields query =
+    MatchOption (total_in grammar schema fields) ⊥
+    (λ (total, rest). (query.total ≡ total) × IsPredicateIn grammar schema rest query.pred)
+
+-- ---- questions
+
+-- the word for the rows at an end
+abbrev pub end_word : End → Field
+end_word end.Greatest = codes "top"
+end_word end.Least = codes "bottom"
+
+-- the share of which the parts and those of the whole are spelled
+abbrev pub spelled_share : Field → Field → Option Share
+spelled_share part whole =
+    option_and_then (λ p. option_and_then (λ w. share_of p w) (spelled_number whole)) (spelled_number part)
+
+-- the fields are these columns, each by its name behind the word, and then these others
+abbrev pub AreNamed : Declared → List Field → List ℕ → List Field → Type 0
+AreNamed schema fields [] others = fields ≡ others
+AreNamed schema fields (c ∷ by) others =
+    (name : Field) × (rest : List Field) × (fields ≡ codes "by" ∷ name ∷ rest) × (position_of schema.columns name ≡ Some c)
+    × AreNamed schema rest by others
+
+-- the most columns of groups
+abbrev pub max_group_columns : ℕ
+max_group_columns = 64
+
+-- the columns that follow those before, at most so many with them, and then another word
+abbrev pub AreFurther : Declared → List ℕ → List Field → List ℕ → List Field → Type 0
+AreFurther schema before fields more rest =
+    AreNamed schema fields more rest × (length before + length more ≤ max_group_columns) × (get_or rest 0 [] ≢ codes "by")
+
+-- the columns that follow were added to those before; or none follow so
+abbrev pub AreColumns : Declared → List ℕ → List Field → List ℕ → Result (Bor (List Lent)) QuestionError → Type 0
+AreColumns schema before fields after (Ok rest) =
+    (more : List ℕ) × (after ≡ before ++ more) × AreFurther schema before fields more (texts rest.now)
+AreColumns schema before fields after (Err (Stopped stop)) =
+    (more : List ℕ) → (rest : List Field) → AreFurther schema before fields more rest → ⊥
+AreColumns schema before fields after (Err NoMemory) = Unit {0}
+
+-- the fields ask this question
+abbrev pub IsQuestion : Grammar → Declared → List Field → Question → Type 0
+IsQuestion grammar schema fields (question.Total query) = IsQueryIn grammar schema fields query
+-- a script asks no other
+IsQuestion Script schema fields other = ⊥
+-- one column or more, and a query that is no list
+IsQuestion Index schema fields (question.Groups query by) =
+    (rest : List Field) × AreNamed schema fields by.items rest × (0 < length by.items)
+    × (length by.items ≤ max_group_columns) × IsQueryIn Index schema rest query × (query.total ≢ Rows)
+-- a column, how many rows, and a predicate
+IsQuestion Index schema fields (question.Top end c most pred) =
+    (name number : Field) × (rest : List Field) × (fields ≡ end_word end ∷ name ∷ number ∷ rest)
+    × (position_of schema.columns name ≡ Some c) × (spelled_number number ≡ Some most) × IsPredicate schema rest pred
+-- a column, and a predicate
+IsQuestion Index schema fields (question.Distinct c pred) =
+    (name : Field) × (rest : List Field) × (fields ≡ codes "distinct" ∷ name ∷ rest)
+    × (position_of schema.columns name ≡ Some c) × IsPredicate schema rest pred
+-- a column, a share, and a predicate
+IsQuestion Index schema fields (question.Quantile share c pred) =
+    (name part whole : Field) × (rest : List Field) × (fields ≡ codes "quantile" ∷ name ∷ part ∷ whole ∷ rest)
+    × (position_of schema.columns name ≡ Some c) × (spelled_share part whole ≡ Some share) × IsPredicate schema rest pred

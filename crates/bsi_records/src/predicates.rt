@@ -4,18 +4,18 @@
 //! fields spell a predicate is a relation by cases on the predicate (`IsPredicate`). The parser is proved against a
 //! parse (`specs/Postfix.antt`) that no public contract names.
 
-ghost use Rattle.std.specs.Prelude.{◌≡◌, drop, option_map, IfOk};
-ghost use Rattle.csv.specs.Records.{fields_of};
-ghost use Rattle.bsi_records.specs.Postfix.{after_field, after_fields, after_name, after_sign, after_word, joined, negated, newest_first, only_of, op_of, plain, state_of};
+ghost use Rattle.std.specs.Prelude.{◌≡◌, IfOk};
+ghost use Rattle.bsi_records.specs.Postfix.{after_field, after_fields, after_name, after_sign, after_word, joined, negated, newest_first, only_of, op_of, plain_of, state_of, IsState};
 ghost use Rattle.bsi_records.specs.Predicates.{compares_columns, IsPlainPredicate, IsPredicate};
-ghost use Rattle.bsi_records.specs.Reading.{IsReadAs};
+ghost use Rattle.bsi_records.specs.Questions.{IsPredicateIn};
+ghost use Rattle.bsi_records.specs.Reading.{texts, IsAsked};
+ghost use Rattle.bsi_records.specs.declared.predicates.Pending.TheVariants.{Nothing};
 
 use crate::NoMemory;
+use crate::grammar::{Expected, Grammar, QuestionError, Stop};
 use crate::numbers::read_in;
-use crate::records::field;
 use bsi_rows::{Op, Pred, Schema};
 use bsi_schema::MAX_COLUMNS;
-use csv::ByteRecord;
 use std::alloc::Global;
 
 /// The most fields of a predicate.
@@ -32,49 +32,68 @@ pub(crate) enum Pending {
     Comparison(u32, Op),
 }
 
-/// Reads the fields of a record from a place on as a predicate. It returns `None` if they spell no predicate or are
-/// more than 1,000. It allocates memory for each part of the predicate.
+impl Pending {
+    /// Returns what could stand in a place in front of which the fields have begun this.
+    fn expected(self) -> Expected {
+        match self {
+            Pending::Nothing => Expected::Predicate,
+            Pending::Column(_) => Expected::Comparison,
+            Pending::Comparison(_, _) => Expected::Compared,
+        }
+    }
+}
+
+/// Reads fields as a predicate of the grammar.
+pub(crate) fn read_predicate_in(
+    alloc: Global,
+    schema: &Schema,
+    grammar: Grammar,
+    fields: &[&[u8]],
+) -> Result<Pred, QuestionError>
+    ensures { IsAsked (IsPredicateIn grammar schema.now (texts fields.now)) result }
+{
+    match grammar {
+        Grammar::Script => read_plain_predicate(alloc, schema, fields),
+        Grammar::Index => read_predicate(alloc, schema, fields),
+    }
+}
+
+/// Reads fields as a predicate, at most 1,000 of them. It allocates memory for each part of the predicate.
 pub fn read_predicate(
     alloc: Global,
     schema: &Schema,
-    fields: &ByteRecord,
-    from: usize,
-) -> Result<Option<Pred>, NoMemory>
-    ensures { IfOk result (IsReadAs
-        (IsPredicate schema.now (drop from (fields_of fields.now)))) }
+    fields: &[&[u8]],
+) -> Result<Pred, QuestionError>
+    ensures { IsAsked (IsPredicate schema.now (texts fields.now)) result }
 {
-    if fields.len().saturating_sub(from) > MAX_PREDICATE_FIELDS {
-        return Ok(None);
+    if fields.len() > MAX_PREDICATE_FIELDS {
+        return Err(QuestionError::Stopped(Stop {
+            left: fields.len() - MAX_PREDICATE_FIELDS,
+            expected: Expected::NoField,
+        }));
     }
     // The call makes the schema's invariant known to the proof: a column's name is none of the words.
     prove!(schema.columns() <= MAX_COLUMNS);
     let mut stack = Vec::new(alloc);
-    let Some(pending) = read_fields(alloc, schema, fields, from, &mut stack)? else {
-        return Ok(None);
-    };
-    Ok(take_only(pending, &mut stack))
+    let pending = read_fields(alloc, schema, fields, &mut stack)?;
+    Ok(take_only(pending, &mut stack)?)
 }
 
-/// Reads the fields of a record from a place on as a predicate that compares columns with constants alone. It returns
-/// `None` if they spell no such predicate or are more than 1,000.
-pub(crate) fn read_plain_predicate(
+/// Reads fields as a predicate that compares columns with constants alone.
+fn read_plain_predicate(
     alloc: Global,
     schema: &Schema,
-    fields: &ByteRecord,
-    from: usize,
-) -> Result<Option<Pred>, NoMemory>
-    ensures { IfOk result (IsReadAs
-        (IsPlainPredicate schema.now (drop from (fields_of fields.now)))) }
+    fields: &[&[u8]],
+) -> Result<Pred, QuestionError>
+    ensures { IsAsked (IsPlainPredicate schema.now (texts fields.now)) result }
 {
     // The call makes the schema's invariant known to the proof.
     prove!(schema.columns() <= MAX_COLUMNS);
-    let Some(pred) = read_predicate(alloc, schema, fields, from)? else {
-        return Ok(None);
-    };
+    let pred = read_predicate(alloc, schema, fields)?;
     if compares_columns(&pred) {
-        return Ok(None);
+        return Err(QuestionError::Stopped(Stop::before(fields, Expected::PlainPredicate)));
     }
-    Ok(Some(pred))
+    Ok(pred)
 }
 
 /// Returns whether a part of the predicate compares two columns. It calls itself for each part.
@@ -91,28 +110,27 @@ fn compares_columns(pred: &Pred) -> bool
     }
 }
 
-/// Reads the fields from a place on, and returns what the last ones have begun. It returns `None` if no predicate goes
-/// on like this.
+/// Reads fields, and returns what the last ones have begun.
 fn read_fields(
     alloc: Global,
     schema: &Schema,
-    fields: &ByteRecord,
-    from: usize,
+    fields: &[&[u8]],
     stack: &mut Vec<Pred>,
-) -> Result<Option<Pending>, NoMemory>
-    ensures { IfOk result (λ read. state_of read stack.new.items
-        ≡ after_fields schema.now (drop from (fields_of fields.now)) Pending.Nothing
-        (newest_first stack.old.items)) }
+) -> Result<Pending, QuestionError>
+    ensures { IsState result stack.new.items
+        (after_fields schema.now (texts fields.now) Nothing (newest_first stack.old.items)) }
 {
     let mut pending = Pending::Nothing;
-    'fields: for place in from..fields.len() {
-        let text = field(fields, place);
+    'fields: for (place, text) in fields.iter().enumerate() {
         let Some(next) = read_field(alloc, schema, pending, text, stack)? else {
-            return Ok(None);
+            return Err(QuestionError::Stopped(Stop {
+                left: fields.len() - place,
+                expected: pending.expected(),
+            }));
         };
         pending = next;
     }
-    Ok(Some(pending))
+    Ok(pending)
 }
 
 /// Reads one more field.
@@ -254,12 +272,18 @@ fn negate(alloc: Global, stack: &mut Vec<Pred>) -> Result<Option<Pending>, NoMem
 }
 
 /// Takes the only predicate, if there is one alone and nothing else has begun.
-fn take_only(pending: Pending, stack: &mut Vec<Pred>) -> Option<Pred>
-    ensures { option_map plain result ≡ only_of pending (newest_first stack.old.items) }
+fn take_only(pending: Pending, stack: &mut Vec<Pred>) -> Result<Pred, Stop>
+    ensures { plain_of result ≡ only_of pending (newest_first stack.old.items) }
 {
     if pending != Pending::Nothing {
-        return None;
+        return Err(Stop::before(&[], pending.expected()));
     }
-    let pred = stack.pop()?;
-    if stack.is_empty() { Some(pred) } else { None }
+    let Some(pred) = stack.pop() else {
+        return Err(Stop::before(&[], Expected::Predicate));
+    };
+    if stack.is_empty() {
+        return Ok(pred);
+    }
+    let many = stack.len() + 1;
+    Err(Stop::before(&[], Expected::Joint(many)))
 }

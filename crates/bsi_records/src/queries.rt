@@ -1,19 +1,22 @@
 //! The records that ask: from the fields of a record to a query.
 
-ghost use Rattle.std.specs.Prelude.{◌≡◌, drop, option_map, IfOk};
+ghost use Rattle.std.specs.Prelude.{◌≡◌, option_map, IfOk};
 ghost use Rattle.csv.specs.Records.{fields_of};
 ghost use Rattle.bsi_records.specs.Events.{total_of, total_of_column, IsQuery};
-ghost use Rattle.bsi_records.specs.Reading.{IsReadAs};
+ghost use Rattle.bsi_records.specs.Questions.{asked_total, rank_total, total_by, total_in, IsQueryIn};
+ghost use Rattle.bsi_records.specs.Reading.{texts, was_read, IsAsked, IsReadAs};
 
 use crate::NoMemory;
-use crate::predicates::read_plain_predicate;
+use crate::grammar::{Expected, Grammar, QuestionError, Stop};
+use crate::heads::{lend_fields, read_column, read_count};
+use crate::predicates::read_predicate_in;
 use bsi_rows::{Query, Schema, Total};
 use csv::ByteRecord;
 use std::alloc::Global;
 
 /// Reads a record as a query: `count` or `list`, or another total and its column, and then the fields of a predicate in
 /// postfix order, at most 1,000. `None` stands for a record that is not a query, as one that compares two columns. It
-/// allocates memory for each part of the predicate.
+/// allocates memory for the list of the fields, and for each part of the predicate.
 pub fn read_query(
     alloc: Global,
     schema: &Schema,
@@ -21,52 +24,133 @@ pub fn read_query(
 ) -> Result<Option<Query>, NoMemory>
     ensures { IfOk result (IsReadAs (IsQuery schema.now (fields_of fields.now))) }
 {
-    let Some((total, from)) = read_total(schema, fields, 0) else {
-        return Ok(None);
-    };
-    let Some(pred) = read_plain_predicate(alloc, schema, fields, from)? else {
-        return Ok(None);
-    };
-    Ok(Some(Query { total, pred }))
+    let fields = lend_fields(alloc, fields)?;
+    match read_query_in(alloc, schema, Grammar::Script, &fields) {
+        Ok(query) => Ok(Some(query)),
+        Err(QuestionError::Stopped(_)) => Ok(None),
+        Err(QuestionError::NoMemory) => Err(NoMemory),
+    }
 }
 
-/// Reads the total that the fields from a place on ask for, and returns it with the place where the predicate begins.
-pub(crate) fn read_total(
+/// Reads fields as a query: a total, and then the fields of a predicate in postfix order, at most 1,000. It allocates
+/// memory for each part of the predicate.
+pub fn read_query_in(
+    alloc: Global,
     schema: &Schema,
-    fields: &ByteRecord,
-    from: usize,
-) -> Option<(Total, usize)>
-    ensures { option_map (λ (total, rest). (total, drop rest (fields_of fields.now))) result
-        ≡ total_of schema.now (drop from (fields_of fields.now)) }
+    grammar: Grammar,
+    fields: &[&[u8]],
+) -> Result<Query, QuestionError>
+    ensures { IsAsked (IsQueryIn grammar schema.now (texts fields.now)) result }
 {
-    let word = fields.get(from)?;
-    if word == b"count".as_slice() {
-        return Some((Total::Count, from + 1));
-    }
-    if word == b"list".as_slice() {
-        return Some((Total::Rows, from + 1));
-    }
-    let name = fields.get(from + 1)?;
-    let c = schema.find(name)?;
-    let total = read_column_total(word, c)?;
-    Some((total, from + 2))
+    let (total, rest) = read_total(schema, grammar, fields)?;
+    let pred = read_predicate_in(alloc, schema, grammar, rest)?;
+    Ok(Query { total, pred })
 }
 
-/// Reads the word of a total of column `c`.
-fn read_column_total(word: &[u8], c: u32) -> Option<Total>
-    ensures { result ≡ option_map (λ total. total c) (total_of_column word.now) }
+/// Reads the total that fields begin with, and lends the fields behind it.
+pub(crate) fn read_total<'f>(
+    schema: &Schema,
+    grammar: Grammar,
+    fields: &'f [&'f [u8]],
+) -> Result<(Total, &'f [&'f [u8]]), Stop>
+    ensures { was_read result ≡ total_in grammar schema.now (texts fields.now) }
+{
+    match grammar {
+        Grammar::Script => read_script_total(schema, fields),
+        Grammar::Index => read_index_total(schema, fields),
+    }
+}
+
+/// Reads the total of an index that fields begin with, and lends the fields behind it.
+fn read_index_total<'f>(
+    schema: &Schema,
+    fields: &'f [&'f [u8]],
+) -> Result<(Total, &'f [&'f [u8]]), Stop>
+    ensures { was_read result ≡ asked_total schema.now (texts fields.now) }
+{
+    let Some((word, rest)) = fields.split_first() else {
+        return Err(Stop::before(fields, Expected::Total));
+    };
+    if *word == b"rank".as_slice() {
+        return read_rank(schema, rest);
+    }
+    read_script_total(schema, fields)
+}
+
+/// Reads the column and the number of a rank, and lends the fields behind them.
+fn read_rank<'f>(schema: &Schema, fields: &'f [&'f [u8]]) -> Result<(Total, &'f [&'f [u8]]), Stop>
+    ensures { was_read result ≡ rank_total schema.now (texts fields.now) }
+{
+    let (c, rest) = read_column(schema, fields)?;
+    let (rank, rest) = read_count(rest)?;
+    Ok((Total::Rank(c, rank), rest))
+}
+
+/// Reads the total of a script that fields begin with, and lends the fields behind it.
+fn read_script_total<'f>(
+    schema: &Schema,
+    fields: &'f [&'f [u8]],
+) -> Result<(Total, &'f [&'f [u8]]), Stop>
+    ensures { was_read result ≡ total_of schema.now (texts fields.now) }
+{
+    let Some((word, rest)) = fields.split_first() else {
+        return Err(Stop::before(fields, Expected::Total));
+    };
+    if *word == b"count".as_slice() {
+        return Ok((Total::Count, rest));
+    }
+    if *word == b"list".as_slice() {
+        return Ok((Total::Rows, rest));
+    }
+    let Some(total) = read_column_total(word) else {
+        return Err(Stop::before(fields, Expected::Total));
+    };
+    let (c, rest) = read_column(schema, rest)?;
+    Ok((total.of(c), rest))
+}
+
+/// The total of a column, whichever that is.
+#[derive(Clone, Copy)]
+pub(crate) enum ColumnTotal {
+    /// The sum.
+    Sum,
+    /// The least number.
+    Least,
+    /// The greatest number.
+    Greatest,
+    /// The lower median.
+    Median,
+}
+
+impl ColumnTotal {
+    /// Returns the total of column `c`.
+    fn of(self, c: u32) -> Total
+        ensures { result ≡ total_by self c }
+    {
+        match self {
+            ColumnTotal::Sum => Total::Sum(c),
+            ColumnTotal::Least => Total::Least(c),
+            ColumnTotal::Greatest => Total::Greatest(c),
+            ColumnTotal::Median => Total::Median(c),
+        }
+    }
+}
+
+/// Reads the word of a total of a column.
+fn read_column_total(word: &[u8]) -> Option<ColumnTotal>
+    ensures { option_map total_by result ≡ total_of_column word.now }
 {
     if word == b"sum".as_slice() {
-        return Some(Total::Sum(c));
+        return Some(ColumnTotal::Sum);
     }
     if word == b"least".as_slice() {
-        return Some(Total::Least(c));
+        return Some(ColumnTotal::Least);
     }
     if word == b"greatest".as_slice() {
-        return Some(Total::Greatest(c));
+        return Some(ColumnTotal::Greatest);
     }
     if word == b"median".as_slice() {
-        return Some(Total::Median(c));
+        return Some(ColumnTotal::Median);
     }
     None
 }

@@ -5,6 +5,7 @@ pub mod Refusals
 pub mod RowBlocks
 pub mod Rows
 pub mod Runs
+pub mod Shares
 pub mod Shown
 pub mod Sizes
 pub mod Table

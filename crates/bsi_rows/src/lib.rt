@@ -8,6 +8,7 @@ mod errors;
 mod event;
 pub mod laws;
 mod query;
+mod question;
 mod sizes;
 
 pub use arranging::arrange;
@@ -17,5 +18,6 @@ pub use bsi_schema::{ColumnSpec, Form, MAX_SLICES, Row, Schema, SchemaError};
 pub use errors::{AppendError, AskError, IndexError};
 pub use event::{CloseRefused, Event, LoadRefused, Reply, RunRefused, SubmitRefused};
 pub use query::{Answer, Pred, Query, Total};
+pub use question::{End, Question, Share};
 pub use sizes::{MAX_FEEDERS, MAX_ROWS, MAX_WAITING, MakeError, check_sizes, check_table};
 pub use std::alloc::AllocError as NoMemory;

@@ -27,10 +27,6 @@ length-file_of words t notes is =
     sym (ap (λ (bs : List ℕ). length bs) (file_of words t notes is)) ∙ length-bytes_of (segment words)
     ∙ ap (λ n. 8 * n) (let e : length (segment words) ≡ length words + 3 = omega (arith, length-append words (checksum_of words ∷ [])) in e)
 
-pub on_err : {T E P Q : Type 0} (r : Result T E) → (P → Q) → OnErr r P → OnErr r Q
-on_err (Ok x) follows p = tt
-on_err (Err e) follows p = follows p
-
 pub so_err : {T E Q : Type 0} (r : Result T E) → Q → OnErr r Q
 so_err (Ok x) q = tt
 so_err (Err e) q = q

@@ -1,5 +1,6 @@
 mod Bodies
 mod BodyWords
+mod ColumnBitmaps
 mod ColumnWords
 mod Cutting
 mod Files

@@ -1,15 +1,12 @@
 //! The words of the body of a segment: those that keep an index.
 
 ghost use Rattle.std.specs.Prelude.{◌≡◌, ◌<◌, ◌≤◌, ◌++◌, IfOk, OnOk, length};
-ghost use Rattle.std.specs.List.{flat_map};
-ghost use Rattle.bsi_columns.specs.Places.{bits_each};
 ghost use Rattle.bsi_table.specs.Index.{table_of};
-ghost use Rattle.bsi_kept.specs.Bitmaps.{packed};
 ghost use Rattle.bsi_saved.specs.Saved.{body, columns_words, max_notes, MayBeKept};
 
 use crate::NoMemory;
-use bsi_bits::Bits;
-use bsi_kept::{put_bits, put_bytes, put_schema, put_text};
+use crate::columns::put_column;
+use bsi_kept::{put_bytes, put_schema, put_text};
 use bsi_table::Index;
 use std::alloc::Global;
 
@@ -38,18 +35,7 @@ fn put_columns(index: &Index, words: &mut Vec<u64>) -> Result<(), NoMemory>
         ++ columns_words index.now.schema index.now.rows 0 (length index.now.schema.columns)) }
 {
     'columns: for c in 0..index.schema().columns() {
-        put_bitmaps(&index.bitmaps(c)?, words)?;
-    }
-    Ok(())
-}
-
-/// Appends the words of bitmaps, one after another.
-fn put_bitmaps(bitmaps: &[Bits], words: &mut Vec<u64>) -> Result<(), NoMemory>
-    ensures { OnOk result (words.new.items ≡ words.old.items
-        ++ flat_map packed (bits_each bitmaps.now)) }
-{
-    'bitmaps: for bits in bitmaps {
-        put_bits(bits, words)?;
+        put_column(index.column(c).stored(), words)?;
     }
     Ok(())
 }

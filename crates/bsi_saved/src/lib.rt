@@ -2,6 +2,7 @@
 #![tactic(auto)]
 
 mod body;
+mod columns;
 mod fault;
 mod laws;
 mod opening;

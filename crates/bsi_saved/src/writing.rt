@@ -3,7 +3,7 @@
 ghost use Rattle.std.specs.Prelude.{◌≡◌, ◌≤◌, IfErr, OnErr, OnOk, length};
 ghost use Rattle.std.specs.Io.KnownBytes.{Appends};
 ghost use Rattle.bsi_table.specs.Index.{table_of};
-ghost use Rattle.bsi_kept.specs.Segments.{IsCut};
+ghost use Rattle.bsi_reading.specs.Waiting.{IsCut};
 ghost use Rattle.bsi_saved.specs.Saved.{kept_file, max_notes, MayBeKept};
 
 use crate::SaveFault;

@@ -5,7 +5,7 @@ use Rattle.bsi_reading.specs.SchemaTexts.{IsSchemaText}
 use Rattle.bsi_store.specs.Lines.{count_line}
 use Rattle.bsi_rows.specs.Table.{Table}
 use Rattle.bsi_asks.specs.AskLines.{IsAskLine}
-use Rattle.bsi_asks.specs.declared.wording.Wording.TheVariants.{Questions}
+use Rattle.bsi_records.specs.declared.grammar.Grammar.TheVariants.{Index}
 use Rattle.bsi_asks.specs.Matching.{AreMatched}
 use Rattle.bsi_asks.specs.Writing.{WritesAll, WritesFirst}
 use Rattle.bsi_store.specs.declared.fault.StoreFault.{StoreFault}
@@ -36,14 +36,14 @@ pub record HasAsked {S : Type 0} (rem : S → Option (List ℕ)) (so_far : Bool)
     : Type 0 where
   pub table : Table
   pub kept : IsKeptIn rem so_far table
-  pub answered : IfSome asks (λ asked. WritesAll (AreMatched (IsAskLine Questions table.schema table.rows)) asked before after)
+  pub answered : IfSome asks (λ asked. WritesAll (AreMatched (IsAskLine Index table.schema table.rows)) asked before after)
 
 -- what a fault leaves of the answers: the output is as it was, or the first lines were put there that answer the questions
 -- of a text over a table that a file keeps
 abbrev pub LeavesAnswers : {S : Type 0} → (S → Option (List ℕ)) → Bool → Option (List ℕ) → Option (List ℕ) → Option (List ℕ) → StoreFault → Type 0
 LeavesAnswers rem so_far asks before after (Run fault) =
     (after ≡ before) ⊎ ((table : Table) × IsKeptIn rem so_far table
-    × IfSome asks (λ asked. WritesFirst (AreMatched (IsAskLine Questions table.schema table.rows)) asked fault before after))
+    × IfSome asks (λ asked. WritesFirst (AreMatched (IsAskLine Index table.schema table.rows)) asked fault before after))
 LeavesAnswers rem so_far asks before after fault = after ≡ before
 
 -- a file was opened that keeps a table, and a text that declares its columns and its limit, how many feeders and rows it

@@ -7,7 +7,7 @@ ghost use Rattle.bsi_store.specs.Faults.{IsOfFile, Names};
 use crate::StoreFault;
 use crate::locks::LockFile;
 use crate::opening::{open_kept, open_one};
-use bsi_asks::{Wording, answer_asks};
+use bsi_asks::{Grammar, answer_asks};
 use std::io::{Read, Write};
 use std::rt::Files;
 
@@ -58,6 +58,6 @@ pub fn ask_input<
     ensures fault { IfErr result (IsOfFile S.remaining) }
 {
     let opened = open_kept(rt, paths.kept, paths.so_far)?;
-    answer_asks(rt.alloc(), &opened.index, Wording::Questions, asks, output)?;
+    answer_asks(rt.alloc(), &opened.index, Grammar::Index, asks, output)?;
     Ok(())
 }

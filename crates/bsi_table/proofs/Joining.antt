@@ -1,5 +1,5 @@
 -- Two tables whose columns are kept alike.
-use Rattle.std.proofs.Common.{◌≡◌, ℕ, ◌<◌, ◌≤◌, List, [], ◌∷◌, length, map, true, ℤ, refl, ap, ap₂, sym, subst, ◌∙◌, arith}
+use Rattle.std.proofs.Common.{◌≡◌, ℕ, ◌<◌, ◌≤◌, List, [], ◌∷◌, Option, length, map, true, ℤ, refl, ap, ap₂, sym, subst, ◌∙◌, arith}
 use Rattle.std.specs.Prelude.{slice_index_or}
 use Rattle.std.proofs.lemmas.List.{ext_get_or, get_or-map, length-map}
 use Rattle.std.proofs.lemmas.List.Elements.{All-get_or}
@@ -11,12 +11,15 @@ use Rattle.bsi_schema.specs.Limits.{limits_of}
 use Rattle.bsi_schema.specs.declared.limits.Limits.{Limits}
 use Rattle.bsi_shift.specs.Shifted.{shifted_entries, OffsetColumn}
 use Rattle.bsi_rows.specs.RowBlocks.{HaveSameLimits}
-use Rattle.bsi_rows.specs.Rows.{FedRow}
+use Rattle.bsi_rows.specs.Rows.{feeders_of, FedRow}
+use Rattle.bsi_origins.specs.Origins.{OriginList}
+use Rattle.bsi_table.specs.Joined.{feeders_as, rows_as, AreEnough}
 use Rattle.bsi_table.specs.Kept.{fed_rows, kept_at, kept_form, AreAlikeColumns, AreKept, HasMore, HaveMore, HaveRows, IsTable}
 use Rattle.bsi_rows.specs.Table.{kept_as, AreFitting, AreFrom, AreKeptAlike}
 use Rattle.bsi_rows.proofs.CallerLemmas.{fitting-alike}
 use Rattle.bsi_table.proofs.Keeping.{row_in-fits}
-use Rattle.bsi_table.proofs.TableRows.{All-fed_rows, column-fed_rows}
+use Rattle.bsi_table.proofs.Fed.{feeders-as, fitting-as, from-as, have_more-as, length-as}
+use Rattle.bsi_table.proofs.TableRows.{All-fed_rows, column-fed_rows, feeders-fed_rows, length-fed_rows}
 
 -- columns that are kept in one form were declared in one
 abbrev declared_form : AnyForm → Form
@@ -97,3 +100,39 @@ pub have_more : (old new others : List OffsetColumn) (row_feeders : List ℕ) �
 have_more old new others row_feeders long even each = λ k within.
     let there : k < length others = omega (arith, within, long) in
     subst (HasMore (kept_at old k) (kept_at new k)) (sym (column-fed_rows row_feeders others k there (even k there))) (each k within)
+
+-- an index that takes all rows of another one, which is kept alike
+module _ (schema other : Declared) (limit other_limit : ℕ) (own others : OriginList) (kept other_kept : List OffsetColumn)
+    (is : IsTable schema.columns own.feeders limit own.rows kept) (other_is : IsTable other.columns others.feeders other_limit others.rows other_kept)
+    (alike : AreKeptAlike schema other) where
+  pub long_others : length other_kept ≡ length kept
+  long_others = omega (arith, is.columns_are.long, other_is.columns_are.long, ap length alike, length-map schema.columns kept_as, length-map other.columns kept_as)
+
+  pub alike_others : AreAlikeColumns kept other_kept
+  alike_others = alike_columns schema.columns other.columns kept other_kept (length own.rows) (length others.rows) is.columns_are other_is.columns_are alike
+
+  pub even_others : HaveRows other_kept (length others.rows)
+  even_others = λ k within. (other_is.columns_are.each k (omega (arith, within, other_is.columns_are.long))).rows
+
+  -- as rows of one feeder, or each of its own
+  module _ (feeder : Option ℕ) (enough : AreEnough own.feeders feeder others.feeders) where
+    abbrev pub joined : List FedRow
+    joined = rows_as feeder (fed_rows others.rows other_kept)
+
+    pub joined_fit : AreFitting schema.columns joined
+    joined_fit = fitting-as feeder schema.columns (fed_rows others.rows other_kept)
+        (fitting_others schema other alike (fed_rows others.rows other_kept) (fitting_rows other.columns others.feeders other_limit others.rows other_kept other_is))
+
+    pub joined_from : AreFrom own.feeders joined
+    joined_from = from-as feeder own.feeders others.feeders (fed_rows others.rows other_kept) enough
+        (from_feeders other.columns others.feeders other_limit own.feeders others.rows other_kept other_is)
+
+    pub joined_more : (grown : List OffsetColumn)
+        → ((k : ℕ) → k < length kept → HasMore (kept_at kept k) (kept_at grown k) (shifted_entries (kept_at other_kept k))) → HaveMore kept grown joined
+    joined_more grown each = have_more-as feeder kept grown (fed_rows others.rows other_kept) (have_more kept grown other_kept others.rows long_others even_others each)
+
+    pub feeders-joined : feeders_as feeder others.rows ≡ feeders_of joined
+    feeders-joined = ap (feeders_as feeder) (sym (feeders-fed_rows others.rows other_kept)) ∙ sym (feeders-as feeder (fed_rows others.rows other_kept))
+
+    pub length-joined : length joined ≡ length others.rows
+    length-joined = length-as feeder (fed_rows others.rows other_kept) ∙ length-fed_rows others.rows other_kept

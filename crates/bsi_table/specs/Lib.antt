@@ -1,5 +1,6 @@
 pub mod Bitmaps
 pub mod Index
+pub mod Joined
 pub mod Kept
 pub mod Selections
 pub mod Spans

@@ -1,11 +1,12 @@
 //! The growth of an index: the columns take the entries of further rows, and the origins their feeders. Rows go out all
 //! at once.
 
-ghost use Rattle.std.specs.Prelude.{◌≡◌, ℕ, ◌+◌, ◌<◌, ◌≤◌, ◌++◌, ◌∷◌, [], All, length, replicate, OnOk};
+ghost use Rattle.std.specs.Prelude.{◌≡◌, ℕ, ◌+◌, ◌<◌, ◌≤◌, ◌++◌, ◌∷◌, [], All, length, OnOk};
 ghost use Rattle.bsi_rows.specs.Table.{max_feeders, AreFrom};
 ghost use Rattle.bsi_bits.specs.BitList.{max_len};
 ghost use Rattle.bsi_shift.specs.Shifted.{shifted_entries, shifted_room};
 ghost use Rattle.bsi_rows.specs.Rows.{feeders_of, row_entries};
+ghost use Rattle.bsi_table.specs.Joined.{feeders_as, AreEnough};
 ghost use Rattle.bsi_table.specs.Kept.{kept_at, AreAlikeColumns, AreI64, AreInRange, AreSameColumns, HasMore, HaveMore, HaveOneMore, HaveRoom, HaveRows, TakesRow};
 
 use crate::columns::{clear_each, push_all_each, push_block_each, push_each, reserve_each};
@@ -96,13 +97,14 @@ pub(crate) fn push_rows(columns: &mut Vec<Shifted>, origins: &mut Origins, block
     push_feeders(origins, block.row_feeders());
 }
 
-/// Appends all rows of other columns, which are kept alike, and of the list of their feeders, into room that is already
-/// there.
+/// Appends all rows of other columns, which are kept alike, into room that is already there: as rows of one feeder, if
+/// it is given, and else of the list of their feeders.
 pub(crate) fn push_all(
     columns: &mut Vec<Shifted>,
     origins: &mut Origins,
     others: &[Shifted],
     other_origins: &Origins,
+    feeder: Option<u32>,
 )
     requires long { length others.now ≡ length columns.old.items }
     requires alike { AreAlikeColumns columns.old.items others.now }
@@ -110,44 +112,22 @@ pub(crate) fn push_all(
     requires room { HaveRoom columns.old.items (length columns.old.items)
         (length other_origins.now.rows) }
     requires reserved { length other_origins.now.rows ≤ origins.old.room }
-    requires feeders { other_origins.now.feeders ≤ origins.old.feeders }
+    requires feeders { AreEnough origins.old.feeders feeder other_origins.now.feeders }
+    requires bytes { origins.old.feeders ≤ max_feeders }
     ensures long { length columns.new.items ≡ length columns.old.items }
     ensures more { (k : ℕ) → k < length columns.old.items →
         HasMore (kept_at columns.old.items k) (kept_at columns.new.items k)
         (shifted_entries (kept_at others.now k)) }
-    ensures rows { origins.new.rows ≡ origins.old.rows ++ other_origins.now.rows }
+    ensures rows { origins.new.rows
+        ≡ origins.old.rows ++ feeders_as feeder other_origins.now.rows }
     ensures feeders { origins.new.feeders ≡ origins.old.feeders }
     ensures left { origins.new.room + length other_origins.now.rows ≡ origins.old.room }
 {
     push_all_each(columns, others);
-    origins.push_all_reserved(other_origins);
-}
-
-/// Appends all rows of other columns, which are kept alike and have so many, as rows of one feeder, into room that is
-/// already there.
-pub(crate) fn push_all_from(
-    columns: &mut Vec<Shifted>,
-    origins: &mut Origins,
-    others: &[Shifted],
-    feeder: u8,
-    rows: u64,
-)
-    requires long { length others.now ≡ length columns.old.items }
-    requires alike { AreAlikeColumns columns.old.items others.now }
-    requires even { HaveRows others.now rows }
-    requires room { HaveRoom columns.old.items (length columns.old.items) rows }
-    requires reserved { rows ≤ origins.old.room }
-    requires feeder { feeder < origins.old.feeders }
-    ensures long { length columns.new.items ≡ length columns.old.items }
-    ensures more { (k : ℕ) → k < length columns.old.items →
-        HasMore (kept_at columns.old.items k) (kept_at columns.new.items k)
-        (shifted_entries (kept_at others.now k)) }
-    ensures rows { origins.new.rows ≡ origins.old.rows ++ replicate rows feeder }
-    ensures feeders { origins.new.feeders ≡ origins.old.feeders }
-    ensures left { origins.new.room + rows ≡ origins.old.room }
-{
-    push_all_each(columns, others);
-    origins.push_many_reserved(feeder, rows);
+    match feeder {
+        None => origins.push_all_reserved(other_origins),
+        Some(feeder) => origins.push_many_reserved(feeder as u8, other_origins.len()),
+    }
 }
 
 /// Appends the feeder of each row, into room that is already there.

@@ -15,14 +15,13 @@ ghost use Rattle.bsi_rows.specs.Refusals.{index_refusal, row_refusal, rows_refus
 ghost use Rattle.bsi_rows.specs.Numbering.{number_within};
 ghost use Rattle.bsi_rows.specs.RowBlocks.{entries_of, fed_as, no_block_rows, HaveSameLimits};
 ghost use Rattle.bsi_rows.specs.Rows.{column_of, feeders_of, holds, row_entries};
-ghost use Rattle.bsi_columns.specs.Places.{bits_each};
-ghost use Rattle.bsi_table.specs.Bitmaps.{bitmaps_of};
 ghost use Rattle.bsi_table.specs.Index.{table_of};
+ghost use Rattle.bsi_table.specs.Joined.{rows_as, AreEnough};
 ghost use Rattle.bsi_table.specs.Kept.{fed_rows, AreKept, IsInForm};
 
 use crate::columns::{are_kept_alike, copy_each, make_each, read_row};
 use crate::found::{count_selected, find_rows};
-use crate::growth::{clear_rows, push_all, push_all_from, push_row, push_rows, reserve_rows};
+use crate::growth::{clear_rows, push_all, push_row, push_rows, reserve_rows};
 use crate::totals::total_found;
 use crate::{
     Answer, AppendError, AskError, Block, IndexError, NoMemory, Pred, Query, Row, Schema, Total,
@@ -262,9 +261,7 @@ impl Index {
         let more = other.len();
         let first = self.position_for(more)?;
         self.reserve(more)?;
-        let (columns, origins) = (&other.columns, &other.origins);
-        push_all(&mut self.columns, &mut self.origins, columns, origins);
-        self.room -= more;
+        self.push_index(other, None);
         Ok(first)
     }
 
@@ -289,15 +286,29 @@ impl Index {
         let more = other.len();
         let first = self.position_for(more)?;
         self.reserve(more)?;
-        push_all_from(
+        self.push_index(other, Some(feeder));
+        Ok(first)
+    }
+
+    /// Appends all rows of another index, into room that is already there: as rows of one feeder, if it is given.
+    fn push_index(&mut self, other: &Index, feeder: Option<u32>)
+        requires alike { AreKeptAlike self.old.schema other.now.schema }
+        requires feeders { AreEnough self.old.feeders feeder other.now.feeders }
+        requires within { length self.old.rows + length other.now.rows ≤ self.old.limit }
+        requires room { length other.now.rows ≤ self.old.room }
+        ensures table { table_of self.new
+            ≡ with_rows (table_of self.old) (rows_as feeder other.now.rows) }
+        ensures left { self.new.room + length other.now.rows ≡ self.old.room }
+    {
+        let (columns, origins) = (&other.columns, &other.origins);
+        push_all(
             &mut self.columns,
             &mut self.origins,
-            &other.columns,
-            feeder as u8,
-            more,
+            columns,
+            origins,
+            feeder,
         );
-        self.room -= more;
-        Ok(first)
+        self.room -= other.len();
     }
 
     /// Returns the row position of the first of `more` further rows, or the refusal if they would pass the limit.
@@ -478,16 +489,6 @@ impl Index {
         ensures offset { result.now.offset ≡ (column_at self.now.schema.columns c).offset }
     {
         &self.columns[c as usize]
-    }
-
-    /// Copies the bitmaps of column `c`: the not-null bitmap, and then each binary place, the least first; under bases
-    /// those of the least significant digits first.
-    pub fn bitmaps(&self, c: u32) -> Result<Vec<Bits>, NoMemory>
-        requires { c < length self.now.schema.columns }
-        ensures { IfOk result (λ made. bits_each made.items
-            ≡ bitmaps_of self.now.schema self.now.rows c) }
-    {
-        self.column(c).stored().bitmaps(*self.columns.allocator())
     }
 
     /// Lends the feeder of each row.

@@ -11,7 +11,7 @@ use Rattle.bsi_words.specs.Places.{has_place, then_places}
 use Rattle.bsi_words.specs.Marks.{union_of, AreDigitMarks}
 use Rattle.bsi_words.proofs.MarkBits.{marks_marked, marks_of, or_one, union_bit}
 use Rattle.bsi_words.proofs.PlaceSums.{places_more}
-use Rattle.bsi_words.proofs.PlaceBitmaps.{moved_below, moved_equal, own_test, place_test}
+use Rattle.bsi_words.proofs.PlaceBitmaps.{moved, own_test, place_test}
 
 -- the words mark the digits below a base
 pub record MarkBase (base n : ℕ) (block words : List ℕ) : Type 0 where
@@ -203,16 +203,8 @@ marks_from first holds moved block words few same marks =
           ∙ ap (λ b. nat_lt p (length block) && b) (same j (get_or block p 0));
     }))
 
--- the words behind the first, of those joined, mark the digits up to each
-pub below_marks : (base : ℕ) (block words new : List ℕ) → 1 ≤ base → length block ≤ 64 → base ≤ length words → AreDigitMarks (then_places base (λ j v. v == j)) block words → length new ≡ length words
-    → ((j : ℕ) → j < base → get_or new j 0 ≡ union_of words 0 j) → ((j : ℕ) → base ≤ j → get_or new j 0 ≡ get_or words j 0)
-    → AreDigitMarks (then_places (base - 1) (λ i v. nat_le v i)) block (take (length new - 1) (drop 1 new))
-below_marks base block words new some few own marks long joined rest =
-    marks_from 1 (then_places base (λ e v. nat_lt v e)) (then_places (base - 1) (λ i v. nat_le v i)) block new few (λ j v. moved_below base j v some)
-    (joined_marks base block words new few own marks long joined rest)
-
--- those from the first digit on mark the digits
-pub equal_marks : (base first : ℕ) (block words : List ℕ) → first ≤ base → length block ≤ 64 → AreDigitMarks (then_places base (λ j v. v == j)) block words
-    → AreDigitMarks (then_places (base - first) (λ i v. v == first + i)) block (take (length words - first) (drop first words))
-equal_marks base first block words low few marks =
-    marks_from first (then_places base (λ e v. v == e)) (then_places (base - first) (λ i v. v == first + i)) block words few (λ j v. moved_equal base first j v low) marks
+-- those from the first digit with a bitmap on
+pub stored_marks : (marks : ℕ → ℕ → Bool) (base first : ℕ) (block words : List ℕ) → first ≤ base → length block ≤ 64 → AreDigitMarks (then_places base marks) block words
+    → AreDigitMarks (then_places (base - first) (λ i v. marks (first + i) v)) block (take (length words - first) (drop first words))
+stored_marks marks base first block words low few all =
+    marks_from first (then_places base marks) (then_places (base - first) (λ i v. marks (first + i) v)) block words few (λ j v. moved marks base first j v low) all

@@ -1,6 +1,6 @@
 -- Bitmaps of an encoding with those of the binary places behind them.
 use Rattle.std.proofs.Common.{◌≡◌, ℕ, ◌+◌, ◌-◌, ◌^◌, ◌<◌, ◌≤◌, Bool, true, false, List, length, drop, map, inl, inr, ap, sym, ◌∙◌, arith, subst}
-use Rattle.std.specs.Prelude.{◌==◌, nat_lt, nat_le, if◌then◌else◌}
+use Rattle.std.specs.Prelude.{nat_lt, if◌then◌else◌}
 use Rattle.std.proofs.lemmas.Bool.{cases_lt}
 use Rattle.std.proofs.lemmas.Bool.Decides.{nat_tests}
 use Rattle.std.proofs.lemmas.List.{get_or-drop, length-drop}
@@ -36,25 +36,13 @@ module _ (own : ℕ) (holds : ℕ → ℕ → Bool) where
           ∙ map_same (then_places own holds (own + k)) (has_place k) (λ v. place_test (own + k) v (omega arith) ∙ ap (λ i. has_place i v) back) ds;
     }
 
--- the tests of a range encoding with those of the places, of words that tell the digits below each
-pub moved_below : (base j v : ℕ) → 1 ≤ base → then_places base (λ e v. nat_lt v e) (1 + j) v ≡ then_places (base - 1) (λ i v. nat_le v i) j v
-moved_below base j v some = elim (cases_lt j (base - 1)) [
-  | inl inside ↦ own_test base (λ e v. nat_lt v e) (1 + j) v (omega arith) ∙ at_most v j ∙ sym (own_test (base - 1) (λ i v. nat_le v i) j v inside)
-  | inr above ↦
-      let same : 1 + j - base ≡ j - (base - 1) = omega arith in
-      place_test base (λ e v. nat_lt v e) (1 + j) v (omega arith) ∙ ap (λ i. has_place i v) same ∙ sym (place_test (base - 1) (λ i v. nat_le v i) j v above)
-]
-  where
-    at_most : (v j : ℕ) → nat_lt v (1 + j) ≡ nat_le v j
-    at_most v j = grind (arith, nat_tests)
-
 -- the tests of the digits from the first one on
-pub moved_equal : (base first j v : ℕ) → first ≤ base → then_places base (λ e v. v == e) (first + j) v ≡ then_places (base - first) (λ i v. v == first + i) j v
-moved_equal base first j v low = elim (cases_lt j (base - first)) [
-  | inl inside ↦ own_test base (λ e v. v == e) (first + j) v (omega arith) ∙ sym (own_test (base - first) (λ i v. v == first + i) j v inside)
+pub moved : (marks : ℕ → ℕ → Bool) (base first j v : ℕ) → first ≤ base → then_places base marks (first + j) v ≡ then_places (base - first) (λ i v. marks (first + i) v) j v
+moved marks base first j v low = elim (cases_lt j (base - first)) [
+  | inl inside ↦ own_test base marks (first + j) v (omega arith) ∙ sym (own_test (base - first) (λ i v. marks (first + i) v) j v inside)
   | inr above ↦
       let same : first + j - base ≡ j - (base - first) = omega arith in
-      place_test base (λ e v. v == e) (first + j) v (omega arith) ∙ ap (λ i. has_place i v) same ∙ sym (place_test (base - first) (λ i v. v == first + i) j v above)
+      place_test base marks (first + j) v (omega arith) ∙ ap (λ i. has_place i v) same ∙ sym (place_test (base - first) (λ i v. marks (first + i) v) j v above)
 ]
 
 -- how many bitmaps there are

@@ -1,4 +1,4 @@
-//! Comparisons by whole vectors, for a component that does not work on a span of words.
+//! Comparisons by whole vectors, for an encoding of a caller that does not work on a span of words: both of ours do.
 
 ghost use Rattle.std.specs.Prelude.{◌≡◌, ◌<◌, ◌&&◌, length, map, IfOk};
 ghost use Rattle.std.specs.Simd.Lanes.{zip2};

@@ -1,15 +1,13 @@
 //! Counts of found rows by digit in an equality encoded component, and what follows from them: the digit of a rank, and
 //! the sum where no binary places are kept.
 
-ghost use Rattle.std.specs.Prelude.{◌≡◌, ◌<◌, ◌≤◌, ◌==◌, ◌&&◌, length, count_by, nat_eq, sum};
+ghost use Rattle.std.specs.Prelude.{◌≡◌, ◌<◌, ◌≤◌, ◌==◌, ◌&&◌, length, count_by, nat_eq};
 ghost use Rattle.std.specs.Simd.Lanes.{zip2};
 ghost use Rattle.bsi_words.specs.Ranks.{IsRankedRows};
-ghost use Rattle.std.specs.List.{items_where_true};
 ghost use Rattle.bsi_components.specs.Component.{count_where, IsRankedDigit};
 ghost use Rattle.bsi_components.specs.Equality.{is_among};
 
 use crate::answers::RankedDigit;
-use crate::encoding::Encoding;
 use crate::equality::EqualityComponent;
 use bsi_bits::{Bits, MAX_LEN};
 use bsi_words::RankedRows;
@@ -51,7 +49,7 @@ impl EqualityComponent {
         ensures digit { result.digit < self.now.base }
         ensures ranked { IsRankedDigit rank found.now.bits self.now.digits result }
     {
-        let top = self.base() - 1;
+        let top = self.own_base() - 1;
         let mut left = rank;
         'digits: for digit in 0..top {
             let rows = self.count_eq(digit, found);
@@ -96,18 +94,5 @@ impl EqualityComponent {
             rank: ranked.rank,
             rows,
         }
-    }
-
-    /// Returns the sum of the digits of the found rows: for each digit but 0, the digit times the number of these rows
-    /// that have it.
-    pub(crate) fn sum_by_bitmaps(&self, found: &Bits) -> u128
-        requires { length self.now.digits ≡ length found.now.bits }
-        ensures { result ≡ sum (items_where_true found.now.bits self.now.digits) }
-    {
-        let mut sum = 0u128;
-        'digits: for j in 1..self.base() {
-            sum += j as u128 * found.count_and(self.bitmap(j)) as u128;
-        }
-        sum
     }
 }

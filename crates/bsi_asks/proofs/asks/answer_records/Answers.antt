@@ -23,7 +23,7 @@ records-init g c = record {
 pub returns-in-Err-clause-part : goal.returns-in-Err-clause-part
 returns-in-Err-clause-part g c = λ bytes left.
     let stops : StopsAt g.A.Read.remaining c.records.records c.next_record.new.self c.in-Err.fault = search rules in
-    stands_part (IsAskLine c.args.wording c.args.table.now.schema c.args.table.now.rows) g.A.Read.remaining bytes c.records.records.input c.records.records.input
+    stands_part (IsAskLine c.args.grammar c.args.table.now.schema c.args.table.now.rows) g.A.Read.remaining bytes c.records.records.input c.records.records.input
     c.records.records.taken c.records.invariant.few (g.W.Write.contents c.args.writer.now) (g.W.Write.contents c.records.writer)
     (c.records.invariant.stands bytes left) c.of_text.result
     (λ is. stops.0.1 (only_long c.in-Err.fault (sym c.of_text.ensures.text ∙ is)))
@@ -32,7 +32,7 @@ pub returns-in_err-answer-clause-part : goal.returns-in_err-answer-clause-part
 returns-in_err-answer-clause-part g c =
     let short : IfErr c.from_residual.result (λ fault. fault ≢ TooLong AsksFile) = search rules in
     if_err c.from_residual.result (λ fault never bytes left.
-    stands_part (IsAskLine c.args.wording c.args.table.now.schema c.args.table.now.rows) g.A.Read.remaining bytes c.records.records.input c.records.records.input
+    stands_part (IsAskLine c.args.grammar c.args.table.now.schema c.args.table.now.rows) g.A.Read.remaining bytes c.records.records.input c.records.records.input
     c.records.records.taken c.records.invariant.few (g.W.Write.contents c.args.writer.now) (g.W.Write.contents c.records.writer)
     (c.records.invariant.stands bytes left) fault (λ is. absurd (never is))) short
 
@@ -44,7 +44,7 @@ returns-in_err-write_bytes-clause-part g c =
     let cut : IsCut (g.W.Write.contents c.records.writer) (g.W.Write.contents c.write_bytes.new.writer) c.answer.new.line.items = search rules in
     let failed : IfErr c.from_residual-in_err-write_bytes.result (λ fault. fault ≡ Write) = search rules in
     if_err c.from_residual-in_err-write_bytes.result (λ fault is bytes left.
-    stands_cut (IsAskLine c.args.wording c.args.table.now.schema c.args.table.now.rows) g.A.Read.remaining bytes c.records.records.input c.next_record.new.self.input
+    stands_cut (IsAskLine c.args.grammar c.args.table.now.schema c.args.table.now.rows) g.A.Read.remaining bytes c.records.records.input c.next_record.new.self.input
     c.records.records.taken c.records.invariant.few (g.W.Write.contents c.args.writer.now) (g.W.Write.contents c.records.writer)
     (c.records.invariant.stands bytes left) fields c.answer.new.line.items c.next_record.new.self.taken (g.W.Write.contents c.write_bytes.new.writer)
     fault taken.0.0 taken.0.1 c.next_record.ensures.few c.in_ok-answer.ensures.line cut is) failed
@@ -59,7 +59,7 @@ records-preserved g c =
       counted = taken.0.1 ∙ omega (arith, c.records.invariant.counted);
       few = c.next_record.ensures.few;
       stands = λ bytes left.
-          stands_more (IsAskLine c.args.wording c.args.table.now.schema c.args.table.now.rows) g.A.Read.remaining bytes c.records.records.input c.next_record.new.self.input
+          stands_more (IsAskLine c.args.grammar c.args.table.now.schema c.args.table.now.rows) g.A.Read.remaining bytes c.records.records.input c.next_record.new.self.input
           c.records.records.taken c.records.invariant.few
           (g.W.Write.contents c.args.writer.now) (g.W.Write.contents c.records.writer) (c.records.invariant.stands bytes left) fields c.answer.new.line.items
           c.next_record.new.self.taken (g.W.Write.contents c.write_bytes.new.writer) taken.0.0 taken.0.1 c.in_ok-answer.ensures.line written;
@@ -72,6 +72,6 @@ returns-clause-part g c = λ bytes left. absurd (omega (arith, c.records.invaria
 pub returns-in-Ok-false-clause-ok : goal.returns-in-Ok-false-clause-ok
 returns-in-Ok-false-clause-ok g c = λ bytes left.
     let taken : TakesNext g.A.Read.remaining c.records.records c.next_record.new.self (fields_of c.next_record.new.fields) false = search rules in
-    stands_all (IsAskLine c.args.wording c.args.table.now.schema c.args.table.now.rows) g.A.Read.remaining bytes c.records.records.input c.records.records.input
+    stands_all (IsAskLine c.args.grammar c.args.table.now.schema c.args.table.now.rows) g.A.Read.remaining bytes c.records.records.input c.records.records.input
     c.records.records.taken c.records.invariant.few (g.W.Write.contents c.args.writer.now) (g.W.Write.contents c.records.writer)
     (c.records.invariant.stands bytes left) taken.0.0

@@ -13,6 +13,6 @@ invariant-records g l = record {
   counted : l.records.taken ≡ l.counter;
   few : l.records.taken ≤ max_records;
   stands : FromText (source_of g.A.Read.remaining l.initial.records.input) (λ bytes.
-      StandsAt (IsAskLine l.wording l.table.schema l.table.rows) bytes (reader_state l.records.input) (source_of g.A.Read.remaining l.records.input) l.records.taken
+      StandsAt (IsAskLine l.grammar l.table.schema l.table.rows) bytes (reader_state l.records.input) (source_of g.A.Read.remaining l.records.input) l.records.taken
       (g.W.Write.contents l.initial.writer) (g.W.Write.contents l.writer));
 }

@@ -1,5 +1,6 @@
-use Rattle.std.proofs.Common.{◌≡◌, ◌<◌, ◌*◌, true, length, sym, ap, ◌∙◌, arith, subst}
+use Rattle.std.proofs.Common.{◌≡◌, ◌<◌, ◌*◌, true, length, replicate, refl, sym, ap, ◌∙◌, arith, subst}
 use Rattle.bsi_rows.specs.RowBlocks.{RowBlock}
+use Rattle.bsi_rows.specs.Rows.{feeders_of}
 use Rattle.bsi_rows.specs.Table.{with_rows, Table}
 use Rattle.bsi_table.specs.Index.{table_of}
 use Rattle.bsi_ffi.specs.Columns.{are_columns, given_rows, row_count, AreTaken}
@@ -12,6 +13,7 @@ parts-init c = record {
   rows = sym (with_none (table_of c.args.index.now) c.args.feeder c.args.columns.now);
   schema = ap (λ (b : RowBlock). b.schema) c.in_ok-block.ensures;
   feeders = ap (λ (b : RowBlock). b.feeders) c.in_ok-block.ensures;
+  from = subst (λ (b : RowBlock). feeders_of b.rows ≡ replicate (length b.rows) c.args.feeder) (sym c.in_ok-block.ensures) refl;
 }
 
 -- no memory for the block: nothing was appended
@@ -41,6 +43,7 @@ parts-preserved c =
           c.in_ok-append_block.ensures.appended (omega arith);
       schema = c.append_block.ensures.schema ∙ c.parts.invariant.schema;
       feeders = c.append_block.ensures.feeders ∙ c.parts.invariant.feeders;
+      from = c.append_block.ensures.from;
     }
 
 -- there is no row

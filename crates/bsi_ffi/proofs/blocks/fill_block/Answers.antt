@@ -1,27 +1,12 @@
-use Rattle.std.proofs.Common.{◌≡◌, List, None, length, replicate, sym, ap, subst, ◌∙◌, arith, below_more}
+use Rattle.std.proofs.Common.{◌≡◌, List, length, sym, ap, subst, ◌∙◌, arith, below_more}
 use Rattle.bsi_schema.specs.Columns.{Declared}
 use Rattle.bsi_ffi.specs.Columns.{given_rows}
-use Rattle.bsi_rows.specs.RowBlocks.{emptied_block, with_null_rows, RowBlock}
-use Rattle.bsi_rows.specs.Rows.{column_of, feeders_of, FedRow}
+use Rattle.bsi_rows.specs.Rows.{column_of, FedRow}
 use Rattle.bsi_rows.specs.Table.{AreFitting}
-use Rattle.bsi_ffi.proofs.GivenColumns.{columns_many, feeders-given_rows, feeders-replicate, null_rows-fitting, written-column, written-long, written-taken}
+use Rattle.bsi_ffi.proofs.GivenColumns.{columns_many, feeders-given_rows, written-column, written-long, written-taken}
 use Rattle.bsi_ffi.proofs.GivenRows.{fitting-given_rows}
 use Rattle.bsi_ffi.proofs.RowsByColumn.{same_rows}
 use Rattle.bsi_ffi.proofs.blocks.fill_block.Goals as goal
-
--- the rows are of the feeder, and of nulls
-pub columns-init : goal.columns-init
-columns-init c =
-    let old = c.args.block.now in
-    let is : c.push_nulls.new.self ≡ with_null_rows (emptied_block old) c.args.feeder c.args.count =
-    c.push_nulls.ensures ∙ ap (λ (b : RowBlock). with_null_rows b c.args.feeder c.args.count) c.clear.ensures in
-    record {
-      schema = ap (λ (b : RowBlock). b.schema) is;
-      feeders = ap (λ (b : RowBlock). b.feeders) is;
-      from = ap (λ (b : RowBlock). feeders_of b.rows) is ∙ feeders-replicate c.args.count c.args.feeder (replicate (length old.schema.columns) None);
-      fitting = subst (λ (b : RowBlock). AreFitting b.schema.columns b.rows) (sym is) (null_rows-fitting old.schema.columns c.args.count c.args.feeder);
-      written = λ k below. absurd {A = column_of c.push_nulls.new.self.rows k ≡ column_of (given_rows c.args.feeder c.args.columns.now c.args.from c.args.count) k} (omega (arith, below));
-    }
 
 -- a column is written
 pub write_column-requires-clause-long : goal.write_column-requires-clause-long

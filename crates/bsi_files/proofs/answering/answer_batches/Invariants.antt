@@ -3,7 +3,7 @@ use Rattle.csv.specs.Reading.{reader_state, source_of}
 use Rattle.bsi_reading.specs.Sources.{max_records}
 use Rattle.bsi_reading.specs.Texts.{FromText}
 use Rattle.bsi_asks.specs.AskLines.{IsAskLine}
-use Rattle.bsi_asks.specs.declared.wording.Wording.TheVariants.{Queries}
+use Rattle.bsi_records.specs.declared.grammar.Grammar.TheVariants.{Script}
 use Rattle.bsi_asks.proofs.Asking.{StandsAt}
 use Rattle.bsi_files.proofs.answering.answer_batches.Given as goal
 
@@ -14,6 +14,6 @@ invariant-batches g l = record {
   counted : l.counter ≤ l.records.taken;
   few : l.records.taken ≤ max_records;
   stands : FromText (source_of (λ w. g.A.Read.remaining w.inner) l.initial.records.input) (λ bytes.
-      StandsAt (IsAskLine Queries l.table.schema l.table.rows) bytes (reader_state l.records.input)
+      StandsAt (IsAskLine Script l.table.schema l.table.rows) bytes (reader_state l.records.input)
       (source_of (λ w. g.A.Read.remaining w.inner) l.records.input) l.records.taken (g.W.Write.contents l.initial.writer) (g.W.Write.contents l.writer));
 }

@@ -8,8 +8,8 @@ use Rattle.bsi_orders.specs.Ranks.{IsSignedRanked, IsSignedRankOf}
 use Rattle.bsi_orders.specs.declared.op.Op.TheVariants.{Eq}
 use Rattle.bsi_shift.specs.Shifted.{shifted_entries}
 use Rattle.bsi_groups.specs.Tops.{compared, op_beyond, rows_at, AreFirst, IsBoundRank}
-use Rattle.bsi_groups.specs.declared.tops.End.{End}
-use Rattle.bsi_groups.specs.declared.tops.End.TheVariants.{Greatest, Least}
+use Rattle.bsi_rows.specs.declared.question.End.{End}
+use Rattle.bsi_rows.specs.declared.question.End.TheVariants.{Greatest, Least}
 use Rattle.bsi_groups.proofs.TopsFirst.{all_first, bound_listed, bounds}
 use Rattle.bsi_groups.proofs.TopsPlaces.{compared_count, numbers_count}
 use Rattle.bsi_groups.proofs.tops.rows_by_rank.Goals as goal

@@ -1,11 +1,17 @@
-use Rattle.std.proofs.Common.{drop, sym, ◌∙◌}
-use Rattle.csv.specs.Records.{fields_of}
-use Rattle.bsi_records.specs.Predicates.{IsPredicate}
+use Rattle.std.proofs.Common.{sym, ◌∙◌}
+use Rattle.bsi_records.specs.Predicates.{IsPlainPredicate, IsPredicate}
+use Rattle.bsi_records.specs.Reading.{texts}
+use Rattle.bsi_records.proofs.Firsts.{error_on}
 use Rattle.bsi_records.proofs.Spelling.{not_plain}
 use Rattle.bsi_records.proofs.predicates.read_plain_predicate.Goals as goal
 
+pub returns-in_err-pred : goal.returns-in_err-pred
+returns-in_err-pred c =
+    let schema = c.args.schema.now in
+    let fields = texts c.args.fields.now in
+    error_on (IsPlainPredicate schema fields) (IsPredicate schema fields) c.from_residual.result _ c.from_residual.ensures c.in_err-pred.ensures (λ pred is. (pred, is.0))
+
 pub returns-then-compares_columns : goal.returns-then-compares_columns
 returns-then-compares_columns c =
-    let schema = c.args.schema.now in
-    let is : IsPredicate schema (drop c.args.from (fields_of c.args.fields.now)) c.in-Some.pred = rw c.in-Some.is at c.in_ok-pred.ensures in
-    not_plain schema c.columns.ensures.named (drop c.args.from (fields_of c.args.fields.now)) c.in-Some.pred is (sym c.compares_columns.ensures ∙ c.if-compares_columns.true)
+    not_plain c.args.schema.now c.columns.ensures.named (texts c.args.fields.now) c.in_ok-pred.pred c.in_ok-pred.ensures
+    (sym c.compares_columns.ensures ∙ c.if-compares_columns.true)

@@ -1,27 +1,27 @@
-use Rattle.std.proofs.Common.{◌≡◌, ◌≤◌, length, drop, ap, sym, ◌∙◌, arith, length-drop, None}
-use Rattle.csv.specs.Records.{fields_of}
-use Rattle.bsi_records.specs.Postfix.{after_fields, begun, newest_first, state_of}
-use Rattle.bsi_records.specs.declared.predicates.Pending.TheVariants.{Nothing}
-use Rattle.bsi_records.proofs.SpellReading.{nothing_read, only_read, too_many}
+use Rattle.std.proofs.Common.{◌≤◌, None, Some, length, arith}
+use Rattle.bsi_records.specs.Postfix.{newest_first}
+use Rattle.bsi_records.specs.Predicates.{IsPredicate}
+use Rattle.bsi_records.specs.Reading.{texts}
+use Rattle.bsi_records.proofs.Firsts.{stopped_on, texts_long}
+use Rattle.bsi_records.proofs.SpellReading.{only_read, stops}
 use Rattle.bsi_records.proofs.predicates.read_predicate.Goals as goal
 
--- too many fields
-pub returns-then-saturating_sub-gt-MAX_PREDICATE_FIELDS : goal.returns-then-saturating_sub-gt-MAX_PREDICATE_FIELDS
-returns-then-saturating_sub-gt-MAX_PREDICATE_FIELDS c =
-    too_many c.args.schema.now (fields_of c.args.fields.now) c.args.from (omega (arith, c.if-saturating_sub-gt-MAX_PREDICATE_FIELDS.true, c.saturating_sub.ensures, c.len.ensures))
+pub returns-in_err-pending : goal.returns-in_err-pending
+returns-in_err-pending c =
+    stops c.args.schema.now c.columns.ensures.named (texts c.args.fields.now) c.new-stack.result.items c.read_fields.new.stack.items
+    c.from_residual.result _ c.from_residual.ensures c.new-stack.ensures.items c.in_err-pending.ensures
 
-pub returns-in_default : goal.returns-in_default
-returns-in_default c =
-    let fields = drop c.args.from (fields_of c.args.fields.now) in
-    let leads : None ≡ after_fields c.args.schema.now (drop c.args.from (fields_of c.args.fields.now)) Nothing (newest_first c.new-stack.result.items) =
-    ap (λ read. state_of read c.read_fields.new.stack.items) (sym c.in_default.is) ∙ c.in_ok-pending.ensures in
-    nothing_read c.args.schema.now c.columns.ensures.named fields c.new-stack.result.items c.new-stack.ensures.items leads
+pub returns-in_err-take_only : goal.returns-in_err-take_only
+returns-in_err-take_only c =
+    let fields = texts c.args.fields.now in
+    let few : length (texts c.args.fields.now) ≤ 1000 = omega (arith, c.if-fields-gt-MAX_PREDICATE_FIELDS.false, texts_long c.args.fields.now) in
+    stopped_on (IsPredicate c.args.schema.now fields) c.from_residual-in_err-take_only.result _ c.from_residual-in_err-take_only.ensures
+    (only_read c.args.schema.now c.columns.ensures.named fields c.new-stack.result.items (newest_first c.read_fields.new.stack.items) c.in_ok-pending.pending None
+    few c.new-stack.ensures.items c.in_ok-pending.ensures c.in_err-take_only.ensures)
 
 pub returns : goal.returns
 returns c =
-    let fields = drop c.args.from (fields_of c.args.fields.now) in
-    let few : length (drop c.args.from (fields_of c.args.fields.now)) ≤ 1000 =
-    omega (arith, length-drop c.args.from (fields_of c.args.fields.now), c.if-saturating_sub-gt-MAX_PREDICATE_FIELDS.false, c.saturating_sub.ensures, c.len.ensures) in
-    let leads : begun c.in-Some.pending (newest_first c.read_fields.new.stack.items) ≡ after_fields c.args.schema.now (drop c.args.from (fields_of c.args.fields.now)) Nothing (newest_first c.new-stack.result.items) =
-    ap (λ read. state_of read c.read_fields.new.stack.items) (sym c.in-Some.is) ∙ c.in_ok-pending.ensures in
-    only_read c.args.schema.now c.columns.ensures.named fields c.new-stack.result.items (newest_first c.read_fields.new.stack.items) c.in-Some.pending c.take_only.result few c.new-stack.ensures.items leads c.take_only.ensures
+    let fields = texts c.args.fields.now in
+    let few : length (texts c.args.fields.now) ≤ 1000 = omega (arith, c.if-fields-gt-MAX_PREDICATE_FIELDS.false, texts_long c.args.fields.now) in
+    only_read c.args.schema.now c.columns.ensures.named fields c.new-stack.result.items (newest_first c.read_fields.new.stack.items) c.in_ok-pending.pending
+    (Some c.in_ok-take_only.field-0) few c.new-stack.ensures.items c.in_ok-pending.ensures c.in_ok-take_only.ensures

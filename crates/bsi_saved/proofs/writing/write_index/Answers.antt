@@ -1,7 +1,8 @@
 use Rattle.std.proofs.Common.{subst, ap, ◌∙◌}
 use Rattle.std.specs.Io.KnownBytes.{Appends}
 use Rattle.bsi_table.specs.Index.{table_of}
-use Rattle.bsi_kept.specs.Segments.{bytes_of, segment, IsCut}
+use Rattle.bsi_reading.specs.Waiting.{IsCut}
+use Rattle.bsi_kept.specs.Segments.{bytes_of, segment}
 use Rattle.bsi_saved.proofs.Files.{appends_none, file_of, so_err}
 use Rattle.bsi_saved.proofs.writing.write_index.Goals as goal
 

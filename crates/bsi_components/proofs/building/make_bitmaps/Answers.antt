@@ -1,0 +1,16 @@
+use Rattle.std.proofs.Common.{◌+◌, ◌∷◌, [], length, length-append, map, ap, ◌∙◌}
+use Rattle.bsi_components.specs.PlaceNumbers.{numbers_in}
+use Rattle.bsi_components.proofs.PlaceNumbers.{bits_pushed}
+use Rattle.bsi_components.proofs.building.make_bitmaps.Goals as goal
+
+pub digits-preserved : goal.digits-preserved
+digits-preserved g c =
+    let ns = numbers_in c.args.places.now in
+    let held = c.digits.invariant in
+    let made = c.in_ok-make_bitmap.field-0 in
+    record {
+      long = ap length c.push_reserved.ensures.items ∙ length-append c.digits.made.items (made ∷ []) ∙ ap (λ n. n + 1) held.long;
+      room = c.push_reserved.ensures.capacity ∙ held.room;
+      bits = bits_pushed c.digits.made.items c.push_reserved.new.self.items made (λ i. map (g.M.Marking.marks (g.M.Marking.first c.args.base + i)) ns) c.digits.j
+          c.push_reserved.ensures.items held.long held.bits c.in_ok-make_bitmap.ensures;
+    }
