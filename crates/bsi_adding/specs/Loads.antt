@@ -1,20 +1,25 @@
 -- Rows that are put into a file.
 use Rattle.std.specs.Borrow.{Bor}
-use Rattle.std.specs.Prelude.{◌≡◌, ◌≢◌, ◌⊎◌, ◌+◌, ◌<◌, ◌≤◌, ◌++◌, ℕ, Bool, List, [], Option, Some, IfSome, codes, length, map}
+use Rattle.std.specs.Prelude.{◌≡◌, ◌≢◌, ◌⊎◌, ◌+◌, ◌<◌, ◌≤◌, ◌++◌, ℕ, Bool, false, List, [], Option, Some, IfSome, codes, length, map}
 use Rattle.std.specs.Io.KnownBytes.{Appends}
 use Rattle.std.specs.List.{concat}
-use Rattle.bsi_rows.specs.Table.{Table}
+use Rattle.bsi_rows.specs.Rows.{FedRow}
+use Rattle.bsi_rows.specs.Table.{max_feeders, Table}
 use Rattle.bsi_schema.specs.Columns.{Declared}
 use Rattle.bsi_asks.specs.RowFiles.{FedCounts}
 use Rattle.bsi_asks.specs.Runs.{fed_lines, HasLoaded}
-use Rattle.bsi_asks.specs.declared.faults.FilesFault.TheVariants.{Write}
+use Rattle.bsi_asks.specs.Writing.{WhereFilesKnown}
+use Rattle.bsi_asks.specs.declared.faults.FilesFault.{FilesFault}
+use Rattle.bsi_asks.specs.declared.faults.FilesFault.TheVariants.{IndexFull, NoMemory, TooManyFiles, Write}
+use Rattle.bsi_files.specs.RunFaults.{IsFaultOf, IsFaultOver}
 use Rattle.bsi_reading.specs.SchemaTexts.{IsSchemaText}
 use Rattle.bsi_reading.specs.Waiting.{IsCut}
 use Rattle.bsi_saved.specs.Saved.{kept_file, MayBeKept}
 use Rattle.bsi_saved.specs.declared.fault.OpenFault.TheVariants.{OtherVersion}
 use Rattle.bsi_store.specs.Asked.{IsKeptIn}
 use Rattle.bsi_store.specs.Faults.{IsFileFault}
-use Rattle.bsi_store.specs.declared.fault.FileFault.TheVariants.{InUse, TooManyFiles}
+use Rattle.bsi_store.specs.declared.fault.FileFault.TheVariants as file
+use Rattle.bsi_store.specs.declared.fault.FileFault.TheVariants.{InUse}
 use Rattle.bsi_store.specs.declared.fault.StoreFault.{StoreFault}
 use Rattle.bsi_store.specs.declared.fault.StoreFault.TheVariants.{Run, Unusable}
 use Rattle.bsi_store.specs.Lines.{count_line}
@@ -73,27 +78,84 @@ pub record HasAdded {S : Type 0} (rem put : S → Option (List ℕ)) (so_far : B
 abbrev pub IsOfNoBytes : StoreFault → Type 0
 IsOfNoBytes (Unusable path InUse) = Unit {0}
 IsOfNoBytes (Unusable path why) = ⊥
+IsOfNoBytes (Run NoMemory) = Unit {0}
+IsOfNoBytes (Run fault) = ⊥
 IsOfNoBytes fault = Unit {0}
-
--- a kept table has fewer feeders than there are row files
-abbrev pub IsTooMany : {S : Type 0} → (S → Option (List ℕ)) → Bool → ℕ → StoreFault → Type 0
-IsTooMany rem so_far count fault =
-    (path : Bor (List ℕ)) × (kept : Table) × IsKeptIn rem so_far kept × (kept.feeders < count)
-    × (fault ≡ Unusable path (TooManyFiles kept.feeders))
 
 -- where this fault tells of a file's bytes, a file that was opened has them
 abbrev pub IsMet : {S : Type 0} → (S → Option (List ℕ)) → StoreFault → Type 0
 IsMet {S} rem fault = IsOfNoBytes fault ⊎ ((path : Bor (List ℕ)) × (file : S) × IsFileFault path (rem file) fault)
 
--- by this fault no rows are added: where it tells of a file's bytes, they have it
+-- ---- of saving
+
+-- so many row files were to be loaded by a schema file that was opened, and these have the fault, where it is known what they
+-- give; `TooManyFiles` comes for more than 64
+pub record HasFailedRun {S : Type 0} (rem : S → Option (List ℕ)) (count : ℕ) (fault : FilesFault) : Type 0 where
+  pub schema : S
+  pub files : List S
+  pub many : length files ≡ count
+  pub past : fault ≡ TooManyFiles → max_feeders < count
+  pub met : WhereFilesKnown (rem schema) (map rem files) (λ declared texts. IsFaultOf false declared texts fault)
+  pub unwritten : fault ≢ Write
+
+-- by this fault no rows are saved
+abbrev pub IsSaveFault : {S : Type 0} → (S → Option (List ℕ)) → ℕ → StoreFault → Type 0
+IsSaveFault rem count fault = IsMet rem fault ⊎ ((run : FilesFault) × (fault ≡ Run run) × HasFailedRun rem count run)
+
+-- ---- of adding
+
+-- a kept table has fewer feeders than there are row files
+abbrev pub IsTooMany : {S : Type 0} → (S → Option (List ℕ)) → Bool → ℕ → StoreFault → Type 0
+IsTooMany rem so_far count fault =
+    (path : Bor (List ℕ)) × (kept : Table) × IsKeptIn rem so_far kept × (kept.feeders < count)
+    × (fault ≡ Unusable path (file.TooManyFiles kept.feeders))
+
+-- row files have this fault, where it is known what they give, as they are loaded by these columns and this limit
+pub record IsLoadFault (schema : Declared) (limit : ℕ) (files : List (Option (List ℕ))) (fault : FilesFault) : Type 0 where
+  pub few : fault ≢ TooManyFiles
+  pub met : IsFaultOver false schema limit files fault
+  pub unwritten : fault ≢ Write
+
+-- and it is told
+abbrev pub TellsLoad : Declared → ℕ → List (Option (List ℕ)) → StoreFault → Type 0
+TellsLoad schema limit files fault = (run : FilesFault) × (fault ≡ Run run) × IsLoadFault schema limit files run
+
+-- so many row files were loaded by the columns of a kept table, and their fault is told
+pub record HasFailedOver {S : Type 0} (rem : S → Option (List ℕ)) (so_far : Bool) (count : ℕ) (fault : StoreFault) : Type 0 where
+  pub kept : Table
+  pub opened : IsKeptIn rem so_far kept
+  pub files : List S
+  pub many : length files ≡ count
+  pub told : TellsLoad kept.schema kept.limit (map rem files) fault
+
+-- so many row files were loaded by the columns of a kept table, and their good rows, with those of a kept table, pass its limit
+pub record ArePast {S : Type 0} (rem : S → Option (List ℕ)) (so_far : Bool) (count : ℕ) : Type 0 where
+  pub first : Table
+  pub opened : IsKeptIn rem so_far first
+  pub files : List S
+  pub many : length files ≡ count
+  pub rows : List FedRow
+  pub counts : List FedCounts
+  pub loaded : (texts : List (List ℕ)) → map rem files ≡ map Some texts → HasLoaded first.schema first.limit texts rows counts
+  pub kept : Table
+  pub read : IsKeptIn rem so_far kept
+  pub past : kept.limit < length kept.rows + length rows
+
+-- by this fault no rows are added
 abbrev pub IsAddFault : {S : Type 0} → (S → Option (List ℕ)) → Bool → ℕ → StoreFault → Type 0
-IsAddFault rem so_far count fault = IsMet rem fault ⊎ IsTooMany rem so_far count fault
+IsAddFault rem so_far count fault =
+    IsMet rem fault ⊎ (IsTooMany rem so_far count fault ⊎ (((fault ≡ Run IndexFull) × ArePast rem so_far count)
+    ⊎ HasFailedOver rem so_far count fault))
+
+-- ---- what is told
 
 -- a text, put after what a writer held, tells what happened
 abbrev pub Tells : (Option (List ℕ) → Option (List ℕ) → Type 0) → List ℕ → Type 0
 Tells Happened text = (before after : Option (List ℕ)) → Appends before after text → Happened before after
 
--- what a fault leaves of an output: it is as it was, or all happened, and not all of the text that tells it could be put there
-abbrev pub LeavesTold : (Option (List ℕ) → Option (List ℕ) → Type 0) → StoreFault → Option (List ℕ) → Option (List ℕ) → Type 0
-LeavesTold Happened fault before after =
-    (after ≡ before) ⊎ ((fault ≡ Run Write) × (text : List ℕ) × Tells Happened text × IsCut before after text)
+-- what a fault leaves of an output: it is as it was, and the fault is such a one; or all happened, and not all of the text that
+-- tells it could be put there
+abbrev pub LeavesTold : (Option (List ℕ) → Option (List ℕ) → Type 0) → (StoreFault → Type 0) → StoreFault → Option (List ℕ) → Option (List ℕ)
+    → Type 0
+LeavesTold Happened Is fault before after =
+    (Is fault × (after ≡ before)) ⊎ ((fault ≡ Run Write) × (text : List ℕ) × Tells Happened text × IsCut before after text)

@@ -7,7 +7,7 @@ ghost use Rattle.bsi_asks.specs.Runs.{HasLoaded};
 ghost use Rattle.bsi_rows.specs.Table.{max_feeders, no_rows, with_rows};
 ghost use Rattle.bsi_saved.specs.Faults.{MayFollow};
 ghost use Rattle.bsi_saved.specs.Saved.{kept_file, max_notes, MayBeKept};
-ghost use Rattle.bsi_adding.specs.Loads.{HasAdded, IsAddFault, IsMet, IsOfNoBytes, IsReadOf, LeavesTold, Tells};
+ghost use Rattle.bsi_adding.specs.Loads.{HasAdded, IsAddFault, IsMet, IsOfNoBytes, IsReadOf, LeavesTold, Tells, TellsLoad};
 ghost use Rattle.std.specs.List.{Contains};
 ghost use Rattle.bsi_store.specs.Faults.{IsFileFault, Names};
 ghost use Rattle.bsi_table.specs.Index.{table_of};
@@ -25,6 +25,7 @@ use std::io::{Read, Write};
 use std::rt::Files;
 use std::sync::Wait;
 use std::thread::Threads;
+use std::time::Clock;
 
 /// The paths of rows that are added to a kept index, each as it was written.
 #[derive(Drop)]
@@ -43,7 +44,7 @@ pub struct AddPaths<'a> {
 /// that it kept, unless only these lines could not be written: then the rows are added.
 pub fn add_rows<
     'a,
-    R: AllocGlobal + Files<File = S> + Threads + Wait + Sync,
+    R: AllocGlobal + Clock + Files<File = S> + Threads + Wait + Sync,
     S: Read + Write + OpenFile + LockFile + Drop + Send,
     O: Write,
     G: Gate + Stopping + Sync,
@@ -51,12 +52,11 @@ pub fn add_rows<
     requires { G.STOPS ≡ false }
     ensures added { OnOk result (HasAdded S.remaining S.contents paths.now.so_far
         (length paths.now.rows.items) (O.contents output.old) (O.contents output.new)) }
-    ensures fault { IfErr result
-        (IsAddFault S.remaining paths.now.so_far (length paths.now.rows.items)) }
     ensures named { IfErr result
         (Names (λ named. (named ≡ paths.now.kept) ⊎ Contains paths.now.rows.items named)) }
     ensures part { IfErr result (λ fault. LeavesTold
-        (HasAdded S.remaining S.contents paths.now.so_far (length paths.now.rows.items)) fault
+        (HasAdded S.remaining S.contents paths.now.so_far (length paths.now.rows.items))
+        (IsAddFault S.remaining paths.now.so_far (length paths.now.rows.items)) fault
         (O.contents output.old) (O.contents output.new)) }
 {
     let text = add_untold(rt, paths, gate)?;
@@ -67,7 +67,7 @@ pub fn add_rows<
 /// Adds rows as `add_rows` does, and returns the lines that tell of it.
 fn add_untold<
     'a,
-    R: AllocGlobal + Files<File = S> + Threads + Wait + Sync,
+    R: AllocGlobal + Clock + Files<File = S> + Threads + Wait + Sync,
     S: Read + Write + OpenFile + LockFile + Drop + Send,
     G: Gate + Stopping + Sync,
 >(rt: &R, paths: &AddPaths<'a>, gate: &G) -> Result<Vec<u8>, StoreFault<'a>>
@@ -151,7 +151,9 @@ fn look_again<'a, S: Read + OpenFile + LockFile>(
 /// Refuses rows for which a kept index has no room, or which are not kept as its own are.
 fn check_room<'a>(path: &'a str, kept: &Index, more: &Index) -> Result<(), StoreFault<'a>>
     ensures follows { OnOk result (MayFollow (table_of kept.now) (table_of more.now)) }
-    ensures fault { IfErr result IsOfNoBytes }
+    ensures fault { IfErr result (λ fault. IsOfNoBytes fault
+        ⊎ ((fault ≡ StoreFault.Run FilesFault.IndexFull)
+        × (kept.now.limit < length kept.now.rows + length more.now.rows))) }
     ensures named { IfErr result (Names (λ named. named ≡ path.entry)) }
 {
     if more.len() > kept.limit() - kept.len() {
@@ -181,8 +183,9 @@ fn load_more<
         HasLoaded kept.now.schema kept.now.limit texts loaded.table.rows
         (map fed_counts loaded.fed.items)) }
     ensures few { IfOk result (λ loaded. length loaded.fed.items ≤ max_feeders) }
-    ensures fault { IfErr result (λ fault. IsOfNoBytes fault ⊎ ((kept.now.feeders < length rows.items)
-        × (fault ≡ StoreFault.Unusable path.entry (FileFault.TooManyFiles kept.now.feeders)))) }
+    ensures fault { IfErr result (λ fault. IsOfNoBytes fault ⊎ (((kept.now.feeders < length rows.items)
+        × (fault ≡ StoreFault.Unusable path.entry (FileFault.TooManyFiles kept.now.feeders)))
+        ⊎ TellsLoad kept.now.schema kept.now.limit (map S.remaining rows.items) fault)) }
     ensures named { IfErr result (Names (λ named. named ≡ path.entry)) }
 {
     if rows.len() > kept.feeders() as usize {

@@ -15,7 +15,6 @@ use std::alloc::Global;
 use std::fs::{OpenFile, OpenOptions, Permissions};
 use std::io::{Read, Write};
 use std::os::unix::fs::{MetadataExt, OpenOptionsExt, PermissionsExt};
-use std::path::Path;
 use std::rt::Files;
 use std::{fs, io};
 
@@ -31,7 +30,6 @@ pub(crate) struct NewFile<'a, S: Drop> {
     pub(crate) file: S,
     place: Place<'a, S>,
     new_path: String,
-    folder: S,
 }
 
 impl<'a, S: Read + Write + OpenFile + LockFile + Drop> NewFile<'a, S> {
@@ -45,16 +43,11 @@ impl<'a, S: Read + Write + OpenFile + LockFile + Drop> NewFile<'a, S> {
         ensures fault { IfErr result IsOfNoBytes }
         ensures named { IfErr result (Names (λ named. named ≡ place.entry.path)) }
     {
-        // Opened first, so that a folder that can't be opened leaves no new file.
-        let Ok(folder) = fs::open(rt, folder_of(place.target())) else {
-            return Err(StoreFault::CannotWrite(place.path));
-        };
         let Created { file, new_path } = create(rt, &place)?;
         Ok(NewFile {
             file,
             place,
             new_path,
-            folder,
         })
     }
 
@@ -99,7 +92,7 @@ impl<'a, S: Read + Write + OpenFile + LockFile + Drop> NewFile<'a, S> {
         ensures fault { IfErr result IsOfNoBytes }
         ensures named { IfErr result (Names (λ named. named ≡ self.now.place.path)) }
     {
-        match self.folder.sync_all() {
+        match self.place.folder.sync_all() {
             Ok(()) => Ok(()),
             Err(_) => Err(StoreFault::CannotWrite(self.place.path)),
         }
@@ -175,13 +168,5 @@ fn create_alone<R: Files<File = S>, S: OpenFile + Drop>(
             let _ = fs::remove_file(rt, path);
             Err(error)
         }
-    }
-}
-
-/// Returns the folder of a path.
-fn folder_of(path: &str) -> &str {
-    match Path::new(path).parent() {
-        Some(folder) if !folder.as_str().is_empty() => folder.as_str(),
-        _ => ".",
     }
 }

@@ -11,7 +11,14 @@ use std::fs::{OpenFile, OpenOptions};
 use std::io::Read;
 use std::os::unix::fs::MetadataExt;
 use std::rt::Files;
-use std::{fs, io};
+use std::time::{Clock, Duration};
+use std::{fs, io, thread};
+
+/// How often a lock is tried.
+const LOCK_TRIES: u32 = 100;
+
+/// How many milliseconds are waited after each try.
+const LOCK_PAUSE: u64 = 100;
 
 /// Opens files for reading, in their order.
 pub(crate) fn open_each<'a, R: AllocGlobal + Files<File = S>, S: Read + Drop>(
@@ -58,9 +65,9 @@ fn lock_to_read<S: OpenFile + LockFile>(file: &S) -> io::Result<bool> {
     file.lock_beside()
 }
 
-/// Locks the file of a path for this command alone. It refuses one that another command has, or in whose place another
-/// was put since it was opened.
-pub(crate) fn lock_to_add<'a, R: Files<File = S>, S: OpenFile + LockFile>(
+/// Locks the file of a path for this command alone, and waits while another command has it, 10 seconds at most. It refuses
+/// one that this has then, or in whose place another was put since it was opened.
+pub(crate) fn lock_to_add<'a, R: Clock + Files<File = S>, S: OpenFile + LockFile>(
     rt: &R,
     path: &'a str,
     file: &S,
@@ -75,16 +82,19 @@ pub(crate) fn lock_to_add<'a, R: Files<File = S>, S: OpenFile + LockFile>(
     }
 }
 
-/// Locks a file for this command alone. It returns false where another command has it, or has put another in its place.
-fn claim<R: Files<File = S>, S: OpenFile + LockFile>(
+/// Locks a file for this command alone. It returns false where another command keeps it, or has put another in its place.
+fn claim<R: Clock + Files<File = S>, S: OpenFile + LockFile>(
     rt: &R,
     path: &str,
     file: &S,
 ) -> io::Result<bool> {
-    if !file.lock_alone()? {
-        return Ok(false);
+    'tries: for _ in 0..LOCK_TRIES {
+        if file.lock_alone()? {
+            return stands_at(rt, path, file);
+        }
+        thread::sleep(rt, Duration::from_millis(LOCK_PAUSE));
     }
-    stands_at(rt, path, file)
+    Ok(false)
 }
 
 /// Returns whether a path still names a file that was opened by it.

@@ -10,7 +10,7 @@ use bsi_saved::may_begin;
 use bsi_store::{FileFault, LockFile, StoreFault, open_one};
 use std::fs::OpenFile;
 use std::io::Read;
-use std::path::PathBuf;
+use std::path::{Path, PathBuf};
 use std::rt::Files;
 use std::{fs, io};
 
@@ -23,6 +23,8 @@ pub(crate) struct Place<'a, S: Drop> {
     linked: Option<PathBuf>,
     /// The file that stands there, if there is one. It is locked beside those who read it, so that no command adds to it.
     pub(crate) old: Option<S>,
+    /// The folder in which it is. It is opened first, so that rows are not read in vain where it can't be.
+    pub(crate) folder: S,
 }
 
 impl<'a, S: Read + OpenFile + LockFile + Drop> Place<'a, S> {
@@ -41,17 +43,23 @@ impl<'a, S: Read + OpenFile + LockFile + Drop> Place<'a, S> {
             return Err(StoreFault::CannotWrite(path));
         };
         match found {
-            Found::Nothing => Ok(Place {
-                path,
-                linked: None,
-                old: None,
-            }),
+            Found::Nothing => {
+                let folder = open_folder(rt, path, path)?;
+                Ok(Place {
+                    path,
+                    linked: None,
+                    old: None,
+                    folder,
+                })
+            }
             Found::File(linked) => {
                 let old = open_old(rt, path, force)?;
+                let folder = open_folder(rt, path, linked_or(&linked, path))?;
                 Ok(Place {
                     path,
                     linked,
                     old: Some(old),
+                    folder,
                 })
             }
         }
@@ -59,10 +67,7 @@ impl<'a, S: Read + OpenFile + LockFile + Drop> Place<'a, S> {
 
     /// Returns the path of the file itself.
     pub(crate) fn target(&self) -> &str {
-        match &self.linked {
-            Some(linked) => linked.as_str(),
-            None => self.path,
-        }
+        linked_or(&self.linked, self.path)
     }
 
     /// Returns whether what was found there still stands there.
@@ -71,6 +76,33 @@ impl<'a, S: Read + OpenFile + LockFile + Drop> Place<'a, S> {
             Some(old) => stands_at(rt, self.path, old),
             None => Ok(!fs::exists(rt, self.path)?),
         }
+    }
+}
+
+/// Returns the path of the file that a link leads to, or the other one.
+fn linked_or<'p>(linked: &'p Option<PathBuf>, path: &'p str) -> &'p str {
+    match linked {
+        Some(linked) => linked.as_str(),
+        None => path,
+    }
+}
+
+/// Opens the folder of the file of a path, which may be that of a link.
+fn open_folder<'a, R: Files<File = S>, S: Drop>(
+    rt: &R,
+    path: &'a str,
+    target: &str,
+) -> Result<S, StoreFault<'a>>
+    ensures { IfErr result (λ fault. fault ≡ StoreFault.CannotWrite path.entry) }
+{
+    fs::open(rt, folder_of(target)).map_err(|_| StoreFault::CannotWrite(path))
+}
+
+/// Returns the folder of a path.
+fn folder_of(path: &str) -> &str {
+    match Path::new(path).parent() {
+        Some(folder) if !folder.as_str().is_empty() => folder.as_str(),
+        _ => ".",
     }
 }
 

@@ -3,7 +3,7 @@ use Rattle.std.specs.Io.KnownBytes.{Keeps}
 use Rattle.std.specs.Borrow.{Bor}
 use Rattle.std.specs.List.{Contains}
 use Rattle.std.specs.Prelude.{◌≡◌, ◌⊎◌, ℕ, Bool, List, Option, IfSome, IsOk, Result, Err, length}
-use Rattle.bsi_adding.specs.Loads.{HasAdded, HasSaved, IsAddFault, IsMet, LeavesTold}
+use Rattle.bsi_adding.specs.Loads.{HasAdded, HasSaved, IsAddFault, IsSaveFault, LeavesTold}
 use Rattle.bsi_adding.specs.declared.adding.AddPaths.{AddPaths}
 use Rattle.bsi_adding.specs.declared.saving.SavePaths.{SavePaths}
 use Rattle.bsi_asks.specs.declared.faults.FilesFault.TheVariants.{NoMemory, Write}
@@ -57,18 +57,16 @@ pub record HasToldStore (Leaves : StoreFault → Option (List ℕ) → Option (L
 abbrev pub OrNoMemory : Type 0 → Option (List ℕ) → Option (List ℕ) → Result (Unit {0}) WriteFault → Option (List ℕ) → Option (List ℕ) → Type 0
 OrNoMemory HasTold before after told said now = HasTold ⊎ ((after ≡ before) × IsTold told said now (store_fault_line (Run NoMemory)))
 
--- what a fault of `bsi save` tells: it is of one of these paths, and of a file's bytes only if a file that was opened has them;
--- and what it leaves of the output
+-- what a fault of `bsi save` tells: it is of one of these paths, and what it tells of files, those that were opened have; and what
+-- it leaves of the output
 pub record LeavesSave {S : Type 0} (rem put : S → Option (List ℕ)) (paths : SavePaths) (fault : StoreFault) (before after : Option (List ℕ)) : Type 0 where
   pub named : Names (λ named. (named ≡ paths.schema) ⊎ ((named ≡ paths.to) ⊎ Contains paths.rows.items named)) fault
-  pub met : IsMet rem fault
-  pub part : LeavesTold (HasSavedRows rem put paths) fault before after
+  pub part : LeavesTold (HasSavedRows rem put paths) (IsSaveFault rem (length paths.rows.items)) fault before after
 
 -- of `bsi add`
 pub record LeavesAdd {S : Type 0} (rem put : S → Option (List ℕ)) (paths : AddPaths) (fault : StoreFault) (before after : Option (List ℕ)) : Type 0 where
   pub named : Names (λ named. (named ≡ paths.kept) ⊎ Contains paths.rows.items named) fault
-  pub met : IsAddFault rem paths.so_far (length paths.rows.items) fault
-  pub part : LeavesTold (HasAddedRows rem put paths) fault before after
+  pub part : LeavesTold (HasAddedRows rem put paths) (IsAddFault rem paths.so_far (length paths.rows.items)) fault before after
 
 -- of `bsi ask`: which first lines are out, for the questions of a file that was opened or for those of the input
 pub record LeavesAsk {S : Type 0} (rem : S → Option (List ℕ)) (input : Option (List ℕ)) (paths : AskPaths) (fault : StoreFault) (before after : Option (List ℕ)) : Type 0 where

@@ -17,6 +17,7 @@ use std::io::{Read, Write};
 use std::rt::Files;
 use std::sync::Wait;
 use std::thread::Threads;
+use std::time::Clock;
 
 /// Carries out `bsi save`.
 pub(crate) fn answer_save<
@@ -44,7 +45,7 @@ pub(crate) fn answer_save<
 /// Carries out `bsi add`.
 pub(crate) fn answer_add<
     'a,
-    R: AllocGlobal + Files<File = S> + Threads + Wait + Sync,
+    R: AllocGlobal + Clock + Files<File = S> + Threads + Wait + Sync,
     S: Read + Write + OpenFile + LockFile + Drop + Send,
     O: Write,
     F: Write,

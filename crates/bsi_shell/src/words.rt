@@ -24,6 +24,7 @@ use std::io::{Read, Write};
 use std::rt::Files;
 use std::sync::Wait;
 use std::thread::Threads;
+use std::time::Clock;
 
 /// How a command line ends.
 #[derive(Clone, Copy, Debug, PartialEq, Eq)]
@@ -48,7 +49,7 @@ impl CommandEnd {
 /// no such line where it has written reasons. The status does not depend on whether the line can be written. Where rows
 /// are read from files, the feeders call the gate.
 pub fn run_words<
-    R: AllocGlobal + Files<File = S> + Threads + Wait + Sync,
+    R: AllocGlobal + Clock + Files<File = S> + Threads + Wait + Sync,
     S: Read + Write + OpenFile + LockFile + Drop + Send,
     I: Read + Drop,
     O: Write,

@@ -11,6 +11,7 @@ use std::os::fd::AsRawFd;
 use std::rt::Files;
 use std::sync::Wait;
 use std::thread::Threads;
+use std::time::Clock;
 
 // How a command line ends: its status, what it wrote, and how often it flushed its output.
 #[derive(Drop)]
@@ -40,7 +41,7 @@ fn words_of(alloc: Global, line: &str) -> Result<Vec<String>, AllocError> {
 }
 
 fn end_once<
-    R: AllocGlobal + Files<File = S> + Threads + Wait + Sync,
+    R: AllocGlobal + Clock + Files<File = S> + Threads + Wait + Sync,
     S: Read + Write + OpenFile + LockFile + Drop + Send,
 >(rt: &R, line: Line<'_>) -> Result<LineEnd, AllocError> {
     let words = words_of(rt.alloc(), line.words)?;
@@ -66,7 +67,7 @@ fn end_once<
 
 // How the line ends. Where memory was refused, it is run again.
 fn end_of<
-    R: AllocGlobal + Files<File = S> + Threads + Wait + Sync,
+    R: AllocGlobal + Clock + Files<File = S> + Threads + Wait + Sync,
     S: Read + Write + OpenFile + LockFile + Drop + Send,
 >(rt: &R, line: Line<'_>) -> Result<LineEnd, AllocError> {
     match end_once(rt, line) {
@@ -96,7 +97,7 @@ impl LineEnd {
 
 // Whether a line ends so, tells this on its faults and writes this.
 fn ends<
-    R: AllocGlobal + Files<File = S> + Threads + Wait + Sync,
+    R: AllocGlobal + Clock + Files<File = S> + Threads + Wait + Sync,
     S: Read + Write + OpenFile + LockFile + Drop + Send,
 >(rt: &R, line: Line<'_>, status: u8, output: &str, faults: &str) -> bool {
     match end_of(rt, line) {
@@ -139,7 +140,7 @@ fn pipe_of<R: AllocGlobal + Files>(rt: &R, text: &str) -> io::Result<(PipeReader
 
 // How a run over these files ends whose flush fails.
 fn end_over<
-    R: AllocGlobal + Files<File = S> + Threads + Wait + Sync,
+    R: AllocGlobal + Clock + Files<File = S> + Threads + Wait + Sync,
     S: Read + Write + OpenFile + LockFile + Drop + Send,
 >(rt: &R, schema: &str, rows: &str) -> io::Result<LineEnd> {
     let words = format!(in rt.alloc(); "files --schema {schema} --asks /dev/null {rows}")?;
@@ -153,7 +154,7 @@ fn end_over<
 
 // How a run over files ends that goes well, and whose flush fails.
 fn unflushed<
-    R: AllocGlobal + Files<File = S> + Threads + Wait + Sync,
+    R: AllocGlobal + Clock + Files<File = S> + Threads + Wait + Sync,
     S: Read + Write + OpenFile + LockFile + Drop + Send,
 >(rt: &R) -> io::Result<LineEnd> {
     let (_schema, schema) = pipe_of(rt, "column,qty,slices,3\n")?;
@@ -163,7 +164,7 @@ fn unflushed<
 
 // Whether such a run ends so. It gives none where the answer tells of refused memory.
 fn is_unflushed<
-    R: AllocGlobal + Files<File = S> + Threads + Wait + Sync,
+    R: AllocGlobal + Clock + Files<File = S> + Threads + Wait + Sync,
     S: Read + Write + OpenFile + LockFile + Drop + Send,
 >(rt: &R) -> Option<bool> {
     let end = unflushed(rt).ok()?;
@@ -192,4 +193,64 @@ fn a_fault_of_files_before_a_flush_that_fails(rt: HostRuntime) {
         ..PLAIN
     };
     assert!(rt; ends(&rt, line, 1, "", "bsi: schema: no columns\n"));
+}
+
+// A kept index with a column `x` of one slice and no row, in words.
+const KEPT: [u64; 14] = [
+    0x0174_7065_6b69_7362,
+    11,
+    0,
+    1,
+    1,
+    0,
+    1,
+    0,
+    1,
+    0x78,
+    0,
+    1,
+    0,
+    0x4cab_03fb_b76c_730f,
+];
+
+// How `bsi show` ends of this index, whose flush fails.
+fn unflushed_show<
+    R: AllocGlobal + Clock + Files<File = S> + Threads + Wait + Sync,
+    S: Read + Write + OpenFile + LockFile + Drop + Send,
+>(rt: &R) -> io::Result<LineEnd> {
+    let (reader, mut writer) = io::pipe(rt)?;
+    for word in KEPT {
+        writer.write_all(&word.to_le_bytes())?;
+    }
+    drop(writer);
+    let words = format!(in rt.alloc(); "show /dev/fd/{}", reader.as_raw_fd())?;
+    let line = Line {
+        words: words.as_str(),
+        fails: true,
+        ..PLAIN
+    };
+    Ok(end_once(rt, line)?)
+}
+
+// Whether it ends so. It gives none where the answer tells of refused memory.
+fn is_unflushed_show<
+    R: AllocGlobal + Clock + Files<File = S> + Threads + Wait + Sync,
+    S: Read + Write + OpenFile + LockFile + Drop + Send,
+>(rt: &R) -> Option<bool> {
+    let end = unflushed_show(rt).ok()?;
+    if end.faults.as_slice().ends_with(b"no memory\n") {
+        return None;
+    }
+    let shown = "column,x,slices,1\nlimit,1\nfeeders 1\nrows 0\nbytes x 0\n";
+    Some(end.is(1, shown, "bsi: write failed\n"))
+}
+
+#[test]
+fn a_flush_of_a_kept_index_that_fails(rt: HostRuntime) {
+    let mut done = is_unflushed_show(&rt);
+    if done != Some(true) {
+        give_up(&rt, done);
+        done = is_unflushed_show(&rt);
+    }
+    assert!(rt; done == Some(true));
 }
