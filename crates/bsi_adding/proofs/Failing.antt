@@ -56,7 +56,7 @@ module _ {S : Type 0} (rem : S → Option (List ℕ)) (schema : S) (files : List
     files = files;
     many = refl;
     past = λ same. more;
-    met = λ declared texts s i. subst (λ (n : ℕ). max_feeders < n) (sym (length-map rem files) ∙ (ap length i ∙ length-map (λ text. Some text) texts)) more;
+    met = λ declared texts s i. subst (λ (n : ℕ). max_feeders < n) (sym (length-map files rem) ∙ (ap length i ∙ length-map texts (λ text. Some text))) more;
     unwritten = λ same. cc (same);
   }
 

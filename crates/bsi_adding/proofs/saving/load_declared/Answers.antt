@@ -37,8 +37,8 @@ pub returns-in_err-schema-clause-fault : goal.returns-in_err-schema-clause-fault
 returns-in_err-schema-clause-fault g c =
     let fault = c.in_err-schema.field-0.0 in
     let rem = g.S.Read.remaining in
-    let met : IfErr c.from_residual-in_err-schema.result (λ (run : FilesFault). run ≡ schema_fault fault) = search rules in
-    if_err c.from_residual-in_err-schema.result
+    let met : IfErr c.from_residual.result (λ (run : FilesFault). run ≡ schema_fault fault) = search rules in
+    if_err c.from_residual.result
     (λ run is. subst (HasFailedRun rem (length c.args.rows.items)) (sym is) (bad_schema rem c.args.schema c.args.rows.items fault c.in_err-schema.ensures.fault)) met
 
 pub returns-in_err-loaded-clause-fault : goal.returns-in_err-loaded-clause-fault
