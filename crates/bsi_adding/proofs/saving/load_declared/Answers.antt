@@ -49,7 +49,7 @@ returns-in_err-loaded-clause-fault g c =
     let limit = c.in_ok-schema.field-0.limit in
     let declared : IfSome (rem c.args.schema) (λ bytes. IsSchemaText bytes schema limit) = search rules in
     let failed : HasFailedRun rem (length c.args.rows.items) run = failed_load rem c.args.schema c.args.rows.items schema limit run declared
-        (load_fault g.G.Stopping.STOPS schema limit (map rem c.args.rows.items) run c.requires.never c.in_err-loaded.ensures.counted c.in_err-loaded.ensures.late
-        c.in_err-loaded.ensures.fault) in
+    (load_fault g.G.Stopping.STOPS schema limit (map rem c.args.rows.items) run c.requires.never c.in_err-loaded.ensures.counted c.in_err-loaded.ensures.late
+    c.in_err-loaded.ensures.fault) in
     let met : IfErr c.from_residual-in_err-loaded.result (λ (fault : FilesFault). fault ≡ run) = search rules in
     if_err c.from_residual-in_err-loaded.result (λ fault is. subst (HasFailedRun rem (length c.args.rows.items)) (sym is) failed) met
