@@ -4,7 +4,7 @@ use Rattle.std.specs.Simd.Lanes.{zip2}
 use Rattle.bsi_orders.specs.Orders.{values_at}
 use Rattle.bsi_orders.specs.Ranks.{IsSignedRankOf}
 use Rattle.bsi_shift.specs.Shifted.{shifted_entries}
-use Rattle.bsi_groups.specs.Quantiles.{share_rank}
+use Rattle.bsi_rows.specs.Shares.{share_rank}
 use Rattle.bsi_groups.proofs.TopsPlaces.{numbered_count}
 use Rattle.bsi_groups.proofs.quantiles.quantile_at.Goals as goal
 
