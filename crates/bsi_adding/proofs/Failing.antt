@@ -13,20 +13,12 @@ use Rattle.bsi_reading.specs.declared.rows.SourceFault.TheVariants as source
 use Rattle.bsi_reading.specs.declared.schema_text.SchemaFault.{SchemaFault}
 use Rattle.bsi_reading.specs.declared.schema_text.SchemaFault.TheVariants as schema
 use Rattle.bsi_rows.specs.Table.{max_feeders, Table}
-use Rattle.bsi_saved.specs.declared.fault.SaveFault.{SaveFault}
-use Rattle.bsi_saved.specs.declared.fault.SaveFault.TheVariants as saving
 use Rattle.bsi_schema.specs.Columns.{Declared}
 use Rattle.bsi_store.specs.Asked.{IsKeptIn}
-use Rattle.bsi_store.specs.Faults.{unsaved}
 use Rattle.bsi_store.specs.declared.fault.FileFault.TheVariants as file
 use Rattle.bsi_store.specs.declared.fault.StoreFault.{StoreFault}
 use Rattle.bsi_store.specs.declared.fault.StoreFault.TheVariants.{Unusable}
 use Rattle.bsi_adding.specs.Loads.{HasFailedRun, IsAddFault, IsLoadFault, IsOfNoBytes, TellsLoad}
-
--- a segment that was not written
-pub unsaved_none : (path : Bor (List ℕ)) (fault : SaveFault) → IsOfNoBytes (unsaved path fault)
-unsaved_none path saving.Write = tt
-unsaved_none path saving.NoMemory = tt
 
 schema_written : (fault : SchemaFault) → schema_fault fault ≢ Write
 schema_written (schema.BadRecord number) = λ same. cc (same)
@@ -56,7 +48,7 @@ module _ {S : Type 0} (rem : S → Option (List ℕ)) (schema : S) (files : List
     files = files;
     many = refl;
     past = λ same. more;
-    met = λ declared texts s i. subst (λ (n : ℕ). max_feeders < n) (sym (length-map rem files) ∙ (ap length i ∙ length-map (λ text. Some text) texts)) more;
+    met = λ declared texts s i. subst (λ (n : ℕ). max_feeders < n) (sym (length-map files rem) ∙ (ap length i ∙ length-map texts (λ text. Some text))) more;
     unwritten = λ same. cc (same);
   }
 

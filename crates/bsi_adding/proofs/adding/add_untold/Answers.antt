@@ -1,10 +1,9 @@
-use Rattle.std.proofs.Common.{◌≡◌, ℕ, List, ap, inl, inr, length, map, refl, rules, subst, sym, ◌∙◌}
+use Rattle.std.proofs.Common.{◌≡◌, ℕ, List, ap, inl, inr, length, map, rules, subst, sym, ◌∙◌}
 use Rattle.std.specs.Io.KnownBytes.{Appends}
 use Rattle.std.specs.Prelude.{IfErr}
 use Rattle.bsi_asks.proofs.Passing.{if_err}
 use Rattle.bsi_asks.specs.RowFiles.{fed_counts}
 use Rattle.bsi_asks.specs.Runs.{HasLoaded}
-use Rattle.bsi_rows.specs.Table.{Table}
 use Rattle.bsi_saved.specs.Faults.{MayFollow}
 use Rattle.bsi_saved.specs.Saved.{kept_file, MayBeKept}
 use Rattle.bsi_schema.specs.Columns.{Declared}

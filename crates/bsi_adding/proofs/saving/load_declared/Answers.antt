@@ -37,8 +37,8 @@ pub returns-in_err-schema-clause-fault : goal.returns-in_err-schema-clause-fault
 returns-in_err-schema-clause-fault g c =
     let fault = c.in_err-schema.field-0.0 in
     let rem = g.S.Read.remaining in
-    let met : IfErr c.from_residual-in_err-schema.result (λ (run : FilesFault). run ≡ schema_fault fault) = search rules in
-    if_err c.from_residual-in_err-schema.result
+    let met : IfErr c.from_residual.result (λ (run : FilesFault). run ≡ schema_fault fault) = search rules in
+    if_err c.from_residual.result
     (λ run is. subst (HasFailedRun rem (length c.args.rows.items)) (sym is) (bad_schema rem c.args.schema c.args.rows.items fault c.in_err-schema.ensures.fault)) met
 
 pub returns-in_err-loaded-clause-fault : goal.returns-in_err-loaded-clause-fault
@@ -49,7 +49,7 @@ returns-in_err-loaded-clause-fault g c =
     let limit = c.in_ok-schema.field-0.limit in
     let declared : IfSome (rem c.args.schema) (λ bytes. IsSchemaText bytes schema limit) = search rules in
     let failed : HasFailedRun rem (length c.args.rows.items) run = failed_load rem c.args.schema c.args.rows.items schema limit run declared
-        (load_fault g.G.Stopping.STOPS schema limit (map rem c.args.rows.items) run c.requires.never c.in_err-loaded.ensures.counted c.in_err-loaded.ensures.late
-        c.in_err-loaded.ensures.fault) in
+    (load_fault g.G.Stopping.STOPS schema limit (map rem c.args.rows.items) run c.requires.never c.in_err-loaded.ensures.counted c.in_err-loaded.ensures.late
+    c.in_err-loaded.ensures.fault) in
     let met : IfErr c.from_residual-in_err-loaded.result (λ (fault : FilesFault). fault ≡ run) = search rules in
     if_err c.from_residual-in_err-loaded.result (λ fault is. subst (HasFailedRun rem (length c.args.rows.items)) (sym is) failed) met
