@@ -1,8 +1,10 @@
 -- The number of what was scanned.
-use Rattle.std.proofs.Common.{◌≡◌, ℕ, ◌≤◌, inl, inr, min, Bool, true, false, not, ◌==◌, if◌then◌else◌, Option, Some, None, option_map, option_and_then, pos, neg_ℤ, ◌∙◌, ap, arith, sym, refl, eq-eqb}
-use Rattle.std.proofs.lemmas.Bool.{cases_lt, ne_eqb}
+use Rattle.std.proofs.Common.{◌≡◌, ℕ, ◌≤◌, inl, inr, min, Bool, true, false, not, ◌&&◌, ◌==◌, int_le, int_lt, ℤ, if◌then◌else◌, Option, Some, None, option_map, option_and_then, pos, neg_ℤ, ◌∙◌, ap, arith, sym, refl, eq-eqb}
+use Rattle.std.proofs.lemmas.Bool.{cases_cond, cases_lt, ne_eqb}
 use Rattle.std.proofs.lemmas.Int.{ints}
+use Rattle.bsi_digits.specs.Signed.{end_of_i64, least_i64}
 use Rattle.bsi_kinds.specs.Decimals.{is_whole, most_scanned, scanned, scanned_entry, signed_units, units_of, whole_units, within_i64, Digits}
+use Rattle.bsi_kinds.proofs.Cutting.{some_none, some_same}
 
 -- 64 bits do not hold a number past what a scan tells apart
 past_negative : (n : ℕ) → most_scanned ≤ n → within_i64 (neg_ℤ (pos n)) ≡ None
@@ -38,3 +40,14 @@ pub entry_found : (minus : Bool) (p : ℕ) (found : Option Digits)
     ≡ option_and_then within_i64 (option_map (signed_units minus) (option_and_then (whole_units p) found))
 entry_found minus p None = refl
 entry_found minus p (Some d) = by_test minus p d (is_whole p d) refl
+
+-- an entry is a number
+within_is : (m n : ℤ) → within_i64 m ≡ Some n → m ≡ n
+within_is m n found = elim (cases_cond (int_le least_i64 m && int_lt m (pos end_of_i64)) (Some m) None (Some n) (sym found)) [
+  | inl some ↦ sym (some_same some)
+  | inr none ↦ absurd (some_none none)
+]
+
+pub entry_of : (found : Option ℤ) (n : ℤ) → option_and_then within_i64 found ≡ Some n → found ≡ Some n
+entry_of None n is = absurd (some_none (sym is))
+entry_of (Some m) n is = ap (λ z. Some z) (within_is m n is)

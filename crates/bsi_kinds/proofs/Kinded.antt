@@ -53,7 +53,7 @@ by_truth op n m (inr one_n) (inr one_m) =
 
 -- a word that is found has 0 or 1
 boolean_is : (form : BooleanForm) (text : List ℕ) (n : ℤ) → boolean_number form text ≡ Some n → (n ≡ pos 0) ⊎ (n ≡ pos 1)
-boolean_is form text n is = either_test (bytes_eq text form.yes.items) (bytes_eq text form.no.items) n is
+boolean_is form text n is = either_test (bytes_eq text form.yes) (bytes_eq text form.no) n is
 
 by_word : (op : Op) (form : BooleanForm) (text : List ℕ) (found : Option ℤ) → boolean_number form text ≡ found
     → IfSome (option_map (λ n. comparison op n) found)

@@ -4,6 +4,7 @@ pub mod Cuts
 pub mod Cutting
 pub mod Days
 pub mod Entering
+pub mod Halves
 pub mod Kinded
 pub mod Lowering
 pub mod Moments

@@ -7,7 +7,7 @@ use Rattle.bsi_kinds.specs.declared.boolean.BooleanForm.{BooleanForm}
 -- the number of a word: 1 for what is true, 0 for what is false
 abbrev pub boolean_number : BooleanForm → Field → Option ℤ
 boolean_number form text =
-    if bytes_eq text form.yes.items then Some (pos 1) else (if bytes_eq text form.no.items then Some (pos 0) else None)
+    if bytes_eq text form.yes then Some (pos 1) else (if bytes_eq text form.no then Some (pos 0) else None)
 
 -- a number stands for what is true
 abbrev pub is_true : ℤ → Bool
@@ -15,4 +15,4 @@ is_true n = int_lt (pos 0) n
 
 -- the word of a number
 abbrev pub boolean_text : BooleanForm → ℤ → Field
-boolean_text form n = if is_true n then form.yes.items else form.no.items
+boolean_text form n = if is_true n then form.yes else form.no

@@ -28,7 +28,7 @@ abbrev pub IsKind : Kind → Type 0
 IsKind (Decimal places) = places ≤ 18
 IsKind (Date form) = Unit {0}
 IsKind (Time form) = Unit {0}
-IsKind (Boolean form) = form.yes.items ≢ form.no.items
+IsKind (Boolean form) = form.yes ≢ form.no
 IsKind (Text texts) = Unit {0}
 
 -- what a number stands for

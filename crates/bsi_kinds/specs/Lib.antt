@@ -1,11 +1,15 @@
 pub mod Booleans
+pub mod BooleanWords
 pub mod Clocks
 pub mod Comparisons
 pub mod Dates
 pub mod Decimals
 pub mod Dictionaries
+pub mod Exact
 pub mod Kinds
+pub mod Places
 pub mod Predicates
+pub mod Rounding
 pub mod Texts
 pub mod TimeTexts
 pub mod Times

@@ -1,9 +1,9 @@
 -- Times: what the bytes of a field spell.
-use Rattle.std.specs.Prelude.{ℕ, ◌*◌, ◌^◌, Bool, ◌||◌, ◌==◌, if◌then◌else◌, [], ◌∷◌, drop, Option, Some, None, option_map, option_and_then, MatchOption, ℤ, pos, ◌+ℤ◌, ◌-ℤ◌, ◌*ℤ◌}
+use Rattle.std.specs.Prelude.{ℕ, ◌*◌, ◌^◌, Bool, ◌||◌, ◌&&◌, ◌==◌, if◌then◌else◌, [], ◌∷◌, drop, Option, Some, None, option_map, option_and_then, MatchOption, ℤ, pos, neg_ℤ, int_le, ◌+ℤ◌, ◌-ℤ◌, ◌*ℤ◌}
 use Rattle.std.specs.Int.{int_div_euclid}
 use Rattle.std.specs.List.{before_first, position_or_len}
 use Rattle.jiff_core.specs.Calendar.{IsEpochDay}
-use Rattle.bsi_kinds.specs.Clocks.{clock_of, moment_value, moved, offset_of, whole_moment, Moment}
+use Rattle.bsi_kinds.specs.Clocks.{clock_of, moment_value, moved, offset_of, scanned_time, whole_moment, Moment}
 use Rattle.bsi_kinds.specs.Dates.{date_number}
 use Rattle.bsi_kinds.specs.Decimals.{Decimal, Field, StandsAt}
 use Rattle.bsi_kinds.specs.declared.clock.ScannedTime.{ScannedTime}
@@ -72,3 +72,18 @@ day_of unit n = int_div_euclid n (pos (86400 * 10 ^ places_of unit))
 -- the calendar has that day
 abbrev pub IsTimeNumber : TimeUnit → ℤ → Type 0
 IsTimeNumber unit n = IsEpochDay (day_of unit n)
+
+-- the same, as a test
+abbrev pub is_epoch_day : ℤ → Bool
+is_epoch_day day = int_le (neg_ℤ (pos 4371587)) day && int_le day (pos 2932896)
+
+-- the number of a time, if it is a whole one of units and the calendar has its day
+abbrev pub time_number : TimeUnit → ScannedTime → Option ℤ
+time_number unit t =
+    if t.part.exact && is_epoch_day (int_div_euclid t.seconds (pos 86400)) then Some (units_at (places_of unit) t) else None
+
+abbrev pub scanned_at : TimeForm → Field → Option ScannedTime
+scanned_at form text = option_map (scanned_time (places_of form.unit)) (moment_of form text)
+
+abbrev pub time_entry : TimeForm → Field → Option ℤ
+time_entry form text = option_and_then (time_number form.unit) (scanned_at form text)

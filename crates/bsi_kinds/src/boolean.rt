@@ -1,9 +1,10 @@
 //! Booleans: a word for each truth value.
 
-ghost use Rattle.std.specs.Prelude.{◌≡◌, ◌++◌, OnOk};
+ghost use Rattle.std.specs.Prelude.{◌≡◌, ◌↔◌, ◌++◌, IsTrue, OnOk};
 ghost use Rattle.bsi_kinds.specs.Booleans.{boolean_number, boolean_text};
 
 use crate::NoMemory;
+use std::marker::Model;
 
 /// How booleans are written: two words, which differ.
 #[derive(Drop)]
@@ -12,6 +13,24 @@ pub struct BooleanForm {
     pub no: Vec<u8>,
     /// The word of what is true.
     pub yes: Vec<u8>,
+}
+
+// Clauses see the bytes of the words.
+impl Model for BooleanForm {
+    ghost use Rattle.bsi_kinds.specs.BooleanWords.{BooleanWords};
+
+    ghost Value = { BooleanWords };
+
+    ghost view = { λ form. record { no = form.no.items; yes = form.yes.items } };
+}
+
+impl BooleanForm {
+    /// Returns whether another form has the same words.
+    pub fn is_same(&self, other: &BooleanForm) -> bool
+        ensures { IsTrue result ↔ (self.now ≡ other.now) }
+    {
+        self.no.as_slice() == other.no.as_slice() && self.yes.as_slice() == other.yes.as_slice()
+    }
 }
 
 /// Reads a boolean: 1 if it is true, and 0 if it is false. `None` stands for a text that is neither word. It allocates

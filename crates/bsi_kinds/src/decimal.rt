@@ -5,6 +5,7 @@ ghost use Rattle.std.specs.Char.{is_ascii_digit};
 ghost use Rattle.std.specs.List.{after_first, before_first, list_all, position};
 ghost use Rattle.std.specs.Str.Parse.{digits_value_after};
 ghost use Rattle.bsi_kinds.specs.Comparisons.{ComparesAs};
+ghost use Rattle.bsi_kinds.specs.Exact.{decimal_compared};
 ghost use Rattle.bsi_kinds.specs.Decimals.{begins_minus, decimal_at, decimal_entry, decimal_number, decimal_of, decimal_order, digits_of, exponent_of, first_from, fraction, is_exponent_sign, mantissa_of, most_scanned, part_of, raised_digits_of, scanned, scanned_entry, whole_part, without_minus, StandsAt};
 
 use crate::comparison::{Comparison, bring_down};
@@ -47,6 +48,7 @@ fn entry_of(negative: bool, scanned: Scanned) -> Option<i64>
 /// `None` stands for a text that is no decimal. It allocates no memory.
 pub fn compare_decimal(op: Op, point: u8, places: u32, text: &[u8]) -> Option<Comparison>
     requires { places ≤ 18 }
+    ensures exact { result ≡ decimal_compared op point places text.now }
     ensures some { IfSome result (λ c. MatchOption (decimal_of point text.now) ⊥ (λ constant.
         ComparesAs decimal_order (decimal_at places) op constant c)) }
     ensures none { IfNone result (decimal_of point text.now ≡ None) }
@@ -78,7 +80,7 @@ fn first_from(negative: bool, scanned: Scanned) -> i128
 }
 
 /// Splits a minus sign from a text: whether there is one, and what stands behind it.
-fn split_sign(text: &[u8]) -> (bool, &[u8])
+pub(crate) fn split_sign(text: &[u8]) -> (bool, &[u8])
     ensures negative { result.0 ≡ begins_minus text.now }
     ensures digits { result.1.now ≡ without_minus text.now }
 {
@@ -90,7 +92,7 @@ fn split_sign(text: &[u8]) -> (bool, &[u8])
 
 /// Scans digits with at most one point among them, and an exponent behind them or none, at so many places.
 pub fn scan(point: u8, places: u32, text: &[u8]) -> Option<Scanned>
-    requires { places ≤ 18 }
+    requires { places ≤ 19 }
     ensures { result ≡ option_map (scanned places) (digits_of point text.now) }
 {
     match scan_mantissa(point, places, text) {
@@ -101,7 +103,7 @@ pub fn scan(point: u8, places: u32, text: &[u8]) -> Option<Scanned>
 
 /// Scans digits, the letter e and an exponent, at so many places.
 fn scan_raised(point: u8, places: u32, text: &[u8]) -> Option<Scanned>
-    requires { places ≤ 18 }
+    requires { places ≤ 19 }
     ensures { result ≡ option_map (scanned places) (raised_digits_of point text.now) }
 {
     let (mantissa, behind) = split_at_exponent(text);
@@ -115,7 +117,7 @@ fn scan_raised(point: u8, places: u32, text: &[u8]) -> Option<Scanned>
 }
 
 /// Reads an exponent.
-fn read_exponent(text: &[u8]) -> Option<i32>
+pub(crate) fn read_exponent(text: &[u8]) -> Option<i32>
     ensures value { result ≡ exponent_of text.now }
     ensures small { IfSome result (λ e. (neg_ℤ (pos 9999) ≤ℤ e) × (e ≤ℤ pos 9999)) }
 {
@@ -185,7 +187,7 @@ pub(crate) fn split_at_byte(point: u8, text: &[u8]) -> (&[u8], &[u8])
 
 /// Splits a text at the letter e of an exponent: what stands before it, and what stands behind it.
 #[tactic(auto, using(crate::proofs::Places::first_place))]
-fn split_at_exponent(text: &[u8]) -> (&[u8], &[u8])
+pub(crate) fn split_at_exponent(text: &[u8]) -> (&[u8], &[u8])
     ensures before { result.0.now ≡ before_first is_exponent_sign text.now }
     ensures behind { result.1.now ≡ after_first is_exponent_sign text.now }
 {

@@ -1,7 +1,8 @@
 //! Kinds: what the numbers of a column stand for.
 
-ghost use Rattle.std.specs.Prelude.{◌≡◌, ℤ, None, OnOk, option_map, MatchOption, IfNone, IfSome};
+ghost use Rattle.std.specs.Prelude.{◌≡◌, ◌↔◌, ℤ, None, IsTrue, OnOk, option_map, MatchOption, IfNone, IfSome};
 ghost use Rattle.bsi_kinds.specs.Comparisons.{comparison};
+ghost use Rattle.bsi_kinds.specs.Exact.{comparison_of, number_of};
 ghost use Rattle.bsi_kinds.specs.Kinds.{value_of, ComparesValues, IsKind, IsNumber, IsSpelled, Writes};
 
 use crate::NoMemory;
@@ -35,6 +36,7 @@ impl Kind {
     /// Reads a field as the number that stands for its value, or returns none if no number does. It allocates no memory.
     pub fn read(&self, point: u8, text: &[u8]) -> Option<i64>
         requires { IsKind self.now }
+        ensures exact { result ≡ number_of self.now point text.now }
         ensures some { IfSome result (IsSpelled self.now point text.now) }
         ensures number { IfSome result (IsNumber self.now) }
         ensures none { IfNone result ((n : ℤ) → IsSpelled self.now point text.now n → ⊥) }
@@ -52,6 +54,7 @@ impl Kind {
     /// of the kind. It allocates no memory.
     pub fn compare(&self, op: Op, point: u8, text: &[u8]) -> Option<Comparison>
         requires { IsKind self.now }
+        ensures exact { result ≡ comparison_of self.now op point text.now }
         ensures some { IfSome result (λ c. MatchOption (value_of self.now point text.now) ⊥
             (λ constant. ComparesValues self.now op constant c)) }
         ensures none { IfNone result (value_of self.now point text.now ≡ None) }
@@ -62,6 +65,20 @@ impl Kind {
             Kind::Time(form) => compare_time(op, *form, text),
             Kind::Boolean(form) => compare_number(op, read_boolean(form, text)),
             Kind::Text(texts) => Some(texts.compare_text(op, text)),
+        }
+    }
+
+    /// Returns whether another kind is the same: numbers stand for the same values, and fields are written alike.
+    pub fn is_same(&self, other: &Kind) -> bool
+        ensures { IsTrue result ↔ (self.now ≡ other.now) }
+    {
+        match (self, other) {
+            (Kind::Decimal(own), Kind::Decimal(others)) => own == others,
+            (Kind::Date(own), Kind::Date(others)) => own == others,
+            (Kind::Time(own), Kind::Time(others)) => own == others,
+            (Kind::Boolean(own), Kind::Boolean(others)) => own.is_same(others),
+            (Kind::Text(own), Kind::Text(others)) => own.is_same(others),
+            _ => false,
         }
     }
 

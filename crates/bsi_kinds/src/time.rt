@@ -7,7 +7,8 @@ ghost use Rattle.jiff_core.specs.Calendar.{IsEpochDay, IsWithin};
 ghost use Rattle.bsi_kinds.specs.Clocks.{scanned_time, IsWithinSeconds};
 ghost use Rattle.bsi_kinds.specs.Comparisons.{ComparesAs};
 ghost use Rattle.bsi_kinds.specs.Decimals.{decimal_at, decimal_order};
-ghost use Rattle.bsi_kinds.specs.Times.{first_at, from_first, is_clock_sign, is_zone_sign, moment_of, moment_on, most_seconds, places_of, time_of, units_at, IsTimeNumber, SpellsTime};
+ghost use Rattle.bsi_kinds.specs.Exact.{time_compared};
+ghost use Rattle.bsi_kinds.specs.Times.{first_at, from_first, is_clock_sign, is_epoch_day, is_zone_sign, moment_of, moment_on, most_seconds, places_of, time_entry, time_of, units_at, IsTimeNumber, SpellsTime};
 
 use crate::clock::{ScannedTime, read_offset, scan_clock, whole_seconds};
 use crate::comparison::{Comparison, bring_down};
@@ -75,6 +76,7 @@ pub struct TimeForm {
 /// its midnight. `None` stands for a text that is not written so, for a day that the calendar has not, for a time that its
 /// zone moves past the year 9999, and for a time between two units. It allocates no memory.
 pub fn read_time(form: TimeForm, text: &[u8]) -> Option<i64>
+    ensures exact { result ≡ time_entry form text.now }
     ensures some { IfSome result (SpellsTime form text.now) }
     ensures within { IfSome result (IsTimeNumber form.unit) }
     ensures none { IfNone result ((n : ℤ) → IsTimeNumber form.unit n →
@@ -91,6 +93,7 @@ pub fn read_time(form: TimeForm, text: &[u8]) -> Option<i64>
 /// Brings a comparison with a time down to the numbers of a column, also if the time lies between two units. `None` stands
 /// for a text that spells no time. It allocates no memory.
 pub fn compare_time(op: Op, form: TimeForm, text: &[u8]) -> Option<Comparison>
+    ensures exact { result ≡ time_compared op form text.now }
     ensures some { IfSome result (λ c. MatchOption (time_of form text.now) ⊥ (λ constant.
         ComparesAs decimal_order (decimal_at (places_of form.unit)) op constant c)) }
     ensures none { IfNone result (time_of form text.now ≡ None) }
@@ -102,7 +105,8 @@ pub fn compare_time(op: Op, form: TimeForm, text: &[u8]) -> Option<Comparison>
 
 /// Returns whether the calendar has the day of a second: its years are -9999 to 9999.
 fn has_date(seconds: i64) -> bool
-    ensures { IsTrue result ↔ IsEpochDay (int_div_euclid seconds (pos 86400)) }
+    ensures day { IsTrue result ↔ IsEpochDay (int_div_euclid seconds (pos 86400)) }
+    ensures test { result ≡ is_epoch_day (int_div_euclid seconds (pos 86400)) }
 {
     Date::from_unix_epoch_day(seconds.div_euclid(DAY)).is_ok()
 }

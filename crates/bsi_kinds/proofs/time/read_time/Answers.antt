@@ -25,7 +25,7 @@ returns-then-has_date-clause-within c =
     let number = to_z-of_z w64 c.count_units.result fits ∙ c.count_units.ensures.value in
     let same = ap (day_of c.args.form.unit) number ∙ same_day c.args.form.unit c.in_ok-time.time.seconds c.in_ok-time.time.part.units c.in_ok-time.ensures.few.part in
     let seconds = to_z-of_z w64 c.in_ok-time.time.seconds seconds_fit in
-    subst (λ (d : ℤ). IsEpochDay d) (sym (same ∙ ap (λ s. int_div_euclid s (pos 86400)) (sym seconds))) (c.if-has_date.ensures.0 refl)
+    subst (λ (d : ℤ). IsEpochDay d) (sym (same ∙ ap (λ s. int_div_euclid s (pos 86400)) (sym seconds))) (c.if-has_date.ensures.day.0 refl)
 
 -- a time between two units, or of a day that the calendar has not
 pub returns-else-time-clause-none : goal.returns-else-time-clause-none
@@ -38,7 +38,7 @@ returns-else-time-clause-none c =
           c.in_ok-time.ensures.few.part w.if-time.true spelled in
           let same = ap (day_of c.args.form.unit) number ∙ same_day c.args.form.unit c.in_ok-time.time.seconds c.in_ok-time.time.part.units c.in_ok-time.ensures.few.part in
           let seconds = to_z-of_z w64 c.in_ok-time.time.seconds seconds_fit in
-          both_ways false refl (w.if-has_date.ensures.1 (subst (λ (d : ℤ). IsEpochDay d) (same ∙ ap (λ s. int_div_euclid s (pos 86400)) (sym seconds)) within)))
+          both_ways false refl (w.if-has_date.ensures.day.1 (subst (λ (d : ℤ). IsEpochDay d) (same ∙ ap (λ s. int_div_euclid s (pos 86400)) (sym seconds)) within)))
       | else-time-via-else-time w ↦
           nothing_spelled (places_of c.args.form.unit) (few_places c.args.form.unit) (moment_of c.args.form c.args.text.now) c.in_ok-time.time n c.in_ok-time.ensures.value
           w.if-time.false spelled
