@@ -20,6 +20,6 @@ pub(crate) fn text_of(alloc: Global, word: &str, loaded: &Loaded) -> Result<Vec<
 {
     let mut text = Vec::new(alloc);
     tell_feds(alloc, &loaded.fed, &mut text).map_err(|_| NoMemory)?;
-    tell_count(word, loaded.table.len(), &mut text).map_err(|_| NoMemory)?;
+    tell_count(word, loaded.table.len(), &mut text)?;
     Ok(text)
 }

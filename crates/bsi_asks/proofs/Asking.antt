@@ -2,7 +2,7 @@
 use Rattle.std.proofs.Common.{◌≡◌, ℕ, ◌+◌, List, [], ◌∷◌, ◌++◌, length, take, Option, Some, IfSome, refl, ap, sym, ◌∙◌, subst, arith, ◌≤◌, true, inl, inr}
 use Rattle.std.specs.Prelude.{◌≢◌, IsSome}
 use Rattle.std.specs.Io.KnownBytes.{Appends}
-use Rattle.std.specs.List.{concat}
+use Rattle.std.specs.List.{concat, AllZip}
 use Rattle.std.proofs.lemmas.List.{append-nil, length-append, take_all}
 use Rattle.std.proofs.Math.Seq.{take-append-add}
 use Rattle.std.proofs.lemmas.List.Folds.{concat-append}
@@ -27,15 +27,14 @@ use Rattle.bsi_asks.specs.Faults.{is_late, text_fault}
 use Rattle.bsi_asks.specs.declared.faults.FilesFault.{FilesFault}
 use Rattle.bsi_asks.specs.declared.faults.FilesFault.TheVariants.{Read, TooLong, NoMemory, Write}
 use Rattle.bsi_asks.specs.declared.faults.Which.TheVariants.{AsksFile}
-use Rattle.bsi_asks.specs.Matching.{AreMatched}
 use Rattle.bsi_asks.specs.RowFiles.{FedCounts}
 use Rattle.bsi_asks.specs.Runs.{fed_lines, AreLines}
 use Rattle.bsi_asks.specs.Writing.{AreOut, Leaves, WritesAll, WritesFirst}
 
 -- ---- lists that match
 
-pub matched_push : {A B : Type 0} (Is : A → B → Type 0) (xs : List A) (ys : List B) (x : A) (y : B) → AreMatched Is xs ys → Is x y
-    → AreMatched Is (xs ++ x ∷ []) (ys ++ y ∷ [])
+pub matched_push : {A B : Type 0} (Is : A → B → Type 0) (xs : List A) (ys : List B) (x : A) (y : B) → AllZip Is xs ys → Is x y
+    → AllZip Is (xs ++ x ∷ []) (ys ++ y ∷ [])
 matched_push Is [] [] x y all one = (one, tt)
 matched_push Is [] (b ∷ ys) x y all one = absurd all
 matched_push Is (a ∷ xs) [] x y all one = absurd all
@@ -77,7 +76,7 @@ pub record StandsAt (Is : List Field → List ℕ → Type 0) (bytes : List ℕ)
   pub lines : List (List ℕ)
   pub begun : HasReadFirst bytes state source records
   pub many : length records ≡ taken
-  pub each : AreMatched Is records lines
+  pub each : AllZip Is records lines
   pub written : Appends before now (concat lines)
 
 pub stands_none : (Is : List Field → List ℕ → Type 0) (bytes : List ℕ) (state : State) (source : Option (List ℕ)) (taken : ℕ) (now : Option (List ℕ))
@@ -104,7 +103,7 @@ module _ (Is : List Field → List ℕ → Type 0) {R : Type 0} (rem : R → Opt
     written = subst (Appends before after) (sym (concat_more stands.lines line)) (appends-more before now after (concat stands.lines) line stands.written written);
   }
 
-  pub stands_all : IsOver rem a → WritesAll (AreMatched Is) bytes before now
+  pub stands_all : IsOver rem a → WritesAll (AllZip Is) bytes before now
   stands_all over = record {
     records = stands.records;
     lines = stands.lines;
@@ -115,7 +114,7 @@ module _ (Is : List Field → List ℕ → Type 0) {R : Type 0} (rem : R → Opt
   }
 
   -- all lines so far stand before a fault; too many records were taken where one more is left
-  pub stands_part : (fault : FilesFault) → (fault ≡ TooLong AsksFile → (taken ≡ max_records) × HasNext rem a) → WritesFirst (AreMatched Is) bytes fault before now
+  pub stands_part : (fault : FilesFault) → (fault ≡ TooLong AsksFile → (taken ≡ max_records) × HasNext rem a) → WritesFirst (AllZip Is) bytes fault before now
   stands_part fault long = record {
     records = stands.records;
     lines = stands.lines;
@@ -133,11 +132,11 @@ module _ (Is : List Field → List ℕ → Type 0) {R : Type 0} (rem : R → Opt
 
   -- where the writer fails, a first part of one more line went out
   pub stands_cut : (fields : List Field) (line : List ℕ) (next : ℕ) (after : Option (List ℕ)) (fault : FilesFault) → HasRead rem a b (fields ∷ [])
-      → next ≡ taken + 1 → next ≤ max_records → Is fields line → IsCut now after line → fault ≡ Write → WritesFirst (AreMatched Is) bytes fault before after
+      → next ≡ taken + 1 → next ≤ max_records → Is fields line → IsCut now after line → fault ≡ Write → WritesFirst (AllZip Is) bytes fault before after
   stands_cut fields line next after fault read one most is cut failed =
       let begun = first_more rem bytes a b stands.records fields stands.begun read in
       let whole = cut_whole before now after (concat stands.lines) line stands.written cut in
-      subst (λ f. WritesFirst (AreMatched Is) bytes f before after) (sym failed) (record {
+      subst (λ f. WritesFirst (AllZip Is) bytes f before after) (sym failed) (record {
         records = stands.records ++ fields ∷ [];
         lines = stands.lines ++ line ∷ [];
         state = reader_state b;
@@ -152,7 +151,7 @@ module _ (Is : List Field → List ℕ → Type 0) {R : Type 0} (rem : R → Opt
 -- ---- the lines of the feeders stand before them
 
 module _ (schema : Declared) (rows : List FedRow) (counts : List FedCounts) (bytes : List ℕ) (before middle after : Option (List ℕ)) where
-  pub headed_all : Appends before middle (concat (fed_lines 0 counts)) → WritesAll (AreMatched (IsAskLine Script schema rows)) bytes middle after
+  pub headed_all : Appends before middle (concat (fed_lines 0 counts)) → WritesAll (AllZip (IsAskLine Script schema rows)) bytes middle after
       → WritesAll (AreLines schema rows counts) bytes before after
   headed_all written all = record {
     records = all.records;
@@ -165,7 +164,7 @@ module _ (schema : Declared) (rows : List FedRow) (counts : List FedCounts) (byt
   }
 
   pub headed_part : (fault : FilesFault) → Appends before middle (concat (fed_lines 0 counts))
-      → WritesFirst (AreMatched (IsAskLine Script schema rows)) bytes fault middle after → WritesFirst (AreLines schema rows counts) bytes fault before after
+      → WritesFirst (AllZip (IsAskLine Script schema rows)) bytes fault middle after → WritesFirst (AreLines schema rows counts) bytes fault before after
   headed_part fault written part = record {
     records = part.records;
     lines = fed_lines 0 counts ++ part.lines;

@@ -27,14 +27,16 @@ use Rattle.bsi_reading.proofs.Named.{table_named}
 use Rattle.bsi_records.specs.Events.{IsQuery}
 use Rattle.bsi_rows.specs.declared.question.Question.{Question}
 use Rattle.bsi_rows.specs.declared.question.Question.TheVariants as question
-use Rattle.bsi_asks.specs.AskLines.{IsAskLine, IsArrangedAnswer, IsArrangedReply, IsQuestionLine}
+use Rattle.bsi_groups.specs.QuestionReplies.{IsArrangedAnswer, IsArrangedReply}
+use Rattle.bsi_asks.specs.AskLines.{IsAskLine, IsQuestionLine}
 use Rattle.bsi_asks.proofs.Showing.{its_query}
 use Rattle.bsi_records.specs.declared.grammar.Grammar.TheVariants.{Script}
-use Rattle.bsi_asks.specs.Matching.{AreMatched}
+use Rattle.std.specs.List.{AllZip}
 use Rattle.bsi_asks.specs.Mixes.{file_by_file}
 use Rattle.bsi_asks.specs.RowFiles.{file_counts, file_rows, FedCounts, IsRowFile, RowFile}
 use Rattle.bsi_asks.specs.Runs.{fed_lines, AreLines, IsRun}
 use Rattle.bsi_asks.proofs.Places.{one_sorting}
+use Rattle.bsi_asks.proofs.Replies.{total_line}
 
 abbrev OneReading : Type 0
 OneReading = (bytes : List ℕ) → (a b : List (List Field)) → AreAllRecords bytes a → AreAllRecords bytes b → a ≡ b
@@ -72,7 +74,7 @@ one_file reading schema bytes a b one two =
         → (let f : RowFile = record { rows = xs; bad = m } in let g : RowFile = record { rows = ys; bad = n } in f ≡ g)
     made xs ys m n rows bad = cc
 
-one_files : OneReading → (schema : Declared) (texts : List (List ℕ)) (a b : List RowFile) → AreMatched (IsRowFile schema) texts a → AreMatched (IsRowFile schema) texts b → a ≡ b
+one_files : OneReading → (schema : Declared) (texts : List (List ℕ)) (a b : List RowFile) → AllZip (IsRowFile schema) texts a → AllZip (IsRowFile schema) texts b → a ≡ b
 one_files reading schema [] [] [] one two = refl
 one_files reading schema [] (x ∷ a) b one two = absurd one
 one_files reading schema [] [] (y ∷ b) one two = absurd two
@@ -130,7 +132,9 @@ module _ (schema : Declared) (rows : List FedRow) where
   module _ (named : AreNamed schema.columns) where
     one_query : (fields : List Field) (a b : List ℕ) (p q : Query) → IsQuery schema fields p → IsQuery schema fields q → IsQuestionLine schema rows (question.Total p) a
         → IsQuestionLine schema rows (question.Total q) b → a ≢ no_memory_line → b ≢ no_memory_line → a ≡ b
-    one_query fields a b p q asks_p asks_q x y found_a found_b =
+    one_query fields a b p q asks_p asks_q of_p of_q found_a found_b =
+        let x = total_line schema rows p a of_p in
+        let y = total_line schema rows q b of_q in
         let first = shown p x.0 (query_is_there schema fields p asks_p) x.1 (λ line. found_a (x.2 ∙ line)) in
         let second = shown q y.0 (query_is_there schema fields q asks_q) y.1 (λ line. found_b (y.2 ∙ line)) in
         let alike = same_query schema named fields p q asks_p asks_q in
@@ -146,7 +150,7 @@ module _ (schema : Declared) (rows : List FedRow) where
         one_query fields a b p.0 q.0 p.1 q.1 (subst (λ (asked : Question). IsQuestionLine schema rows asked a) p.2 x.answered)
         (subst (λ (asked : Question). IsQuestionLine schema rows asked b) q.2 y.answered) found_a found_b
 
-    each_line : (records : List (List Field)) (a b : List (List ℕ)) → AreMatched (IsAskLine Script schema rows) records a → AreMatched (IsAskLine Script schema rows) records b
+    each_line : (records : List (List Field)) (a b : List (List ℕ)) → AllZip (IsAskLine Script schema rows) records a → AllZip (IsAskLine Script schema rows) records b
         → All IsFound a → All IsFound b → a ≡ b
     each_line [] [] [] one two found_a found_b = refl
     each_line [] (x ∷ a) b one two found_a found_b = absurd one
@@ -175,7 +179,7 @@ one_run reading declared texts records a b one two found_a found_b =
     let table = one_table reading declared (record { schema = one.schema; limit = one.limit }) (record { schema = two.schema; limit = two.limit }) one.schema_is.declares two.schema_is.declares in
     let schema : one.schema ≡ two.schema = ap (λ (d : DeclaredTable). d.schema) table in
     let files : one.files ≡ two.files =
-    one_files reading one.schema texts one.files two.files one.files_are (subst (λ d. AreMatched (IsRowFile d) texts two.files) (sym schema) two.files_are) in
+    one_files reading one.schema texts one.files two.files one.files_are (subst (λ d. AllZip (IsRowFile d) texts two.files) (sym schema) two.files_are) in
     let lines : AreLines one.schema (file_by_file 0 (map file_rows one.files)) (map file_counts one.files) records b =
     subst (λ fs. AreLines one.schema (file_by_file 0 (map file_rows fs)) (map file_counts fs) records b) (sym files)
     (subst (λ d. AreLines d (file_by_file 0 (map file_rows two.files)) (map file_counts two.files) records b) (sym schema) two.lines_are) in

@@ -1,8 +1,8 @@
 -- The text of entries, entry by entry.
-use Rattle.std.proofs.Common.{◌≡◌, ◌<◌, ◌+◌, ℕ, ℤ, zero, suc, List, [], ◌∷◌, ◌++◌, Option, length, take, get_or, refl, ap, sym, ◌∙◌, arith, append_assoc, add-one}
+use Rattle.std.proofs.Common.{◌≡◌, ◌<◌, ◌+◌, ℕ, ℤ, zero, suc, List, [], ◌∷◌, ◌++◌, Option, length, take, get_or, refl, ap, sym, ◌∙◌, arith, append_assoc}
 use Rattle.std.specs.Prelude.{codes}
 use Rattle.std.proofs.lemmas.List.{append-nil, take_more}
-use Rattle.bsi_asks.specs.ReportLines.{entries_text, entry_text}
+use Rattle.bsi_asks.specs.ReplyLines.{entries_text, entry_text}
 
 -- entries, and one more behind them
 more_entries : (first : Option ℤ) (entries : List (Option ℤ)) (next : Option ℤ)

@@ -7,8 +7,7 @@ pub mod Ordered
 pub mod Passing
 mod Perms
 mod Places
-mod ReportTexts
-mod Rising
+mod Replies
 mod Selecting
 pub mod Showing
 mod Telling

@@ -15,7 +15,7 @@ use Rattle.bsi_rows.specs.declared.query.Pred.{Pred}
 use Rattle.bsi_rows.specs.declared.query.Query.{Query}
 use Rattle.bsi_rows.specs.declared.query.Total.{Total}
 use Rattle.bsi_rows.specs.declared.query.Total.TheVariants.{Count, Sum, Least, Greatest, Median, Rank, Rows}
-use Rattle.bsi_asks.specs.AskLines.{IsArrangedAnswer}
+use Rattle.bsi_groups.specs.QuestionReplies.{IsArrangedAnswer}
 use Rattle.bsi_asks.specs.Mixes.{AreAlike}
 use Rattle.bsi_asks.proofs.Mixing.{bump, same_tags, tags, RowCounts, Tag}
 use Rattle.bsi_asks.proofs.Perms.{as_long, chosen, filtered, flipped, is_permutation, mapped, of_none, same_sum, Perm}

@@ -12,13 +12,17 @@ use Rattle.bsi_rows.specs.declared.question.Question.{Question}
 use Rattle.bsi_rows.specs.declared.question.Question.TheVariants as question
 use Rattle.bsi_records.specs.Events.{IsQuery}
 use Rattle.bsi_records.specs.Questions.{IsQuestion}
-use Rattle.bsi_asks.specs.AskLines.{IsAskLine, IsArrangedReply, IsQuestionLine}
+use Rattle.bsi_groups.specs.QuestionReplies.{IsArrangedReply}
+use Rattle.bsi_groups.specs.declared.answering.QuestionReply.TheVariants as reply
+use Rattle.bsi_asks.specs.AskLines.{IsAskLine, IsQuestionLine}
 use Rattle.bsi_records.specs.declared.grammar.Grammar.TheVariants.{Script}
-use Rattle.bsi_asks.specs.Matching.{AreMatched}
+use Rattle.bsi_records.specs.Vocabularies.{schema_words}
+use Rattle.std.specs.List.{AllZip}
 use Rattle.bsi_asks.specs.Mixes.{file_by_file, AreAlike, IsMixOf}
 use Rattle.bsi_asks.specs.RowFiles.{file_at, FedCounts, RowFile}
 use Rattle.bsi_asks.specs.Runs.{AreLines}
 use Rattle.bsi_asks.proofs.Ordered.{from_order}
+use Rattle.bsi_asks.proofs.Replies.{total_line}
 use Rattle.bsi_asks.proofs.Selecting.{shown_too}
 
 reply_too : (schema : Declared) (a b : List FedRow) → AreAlike a b → (query : Query) (reply : Result Answer AskError) → IsArrangedReply schema a query reply
@@ -28,7 +32,7 @@ reply_too schema a b alike query (Err ask.NoMemory) is = is
 reply_too schema a b alike query (Err (ask.BadColumn c)) is = is
 
 -- what a script asks is a query
-pub its_query : (schema : Declared) (fields : List Field) (asked : Question) → IsQuestion Script schema fields asked
+pub its_query : (schema : Declared) (fields : List Field) (asked : Question) → IsQuestion Script (schema_words schema) fields asked
     → (query : Query) × IsQuery schema fields query × (asked ≡ question.Total query)
 its_query schema fields (question.Total query) is = (query, is, refl)
 its_query schema fields (question.Groups query by) is = absurd is
@@ -40,15 +44,15 @@ line_too : (schema : Declared) (a b : List FedRow) → AreAlike a b → (fields 
 line_too schema a b alike fields line (inl none) = inl none
 line_too schema a b alike fields line (inr asks) =
     let it = its_query schema fields asks.asked asks.is in
-    let of_query : IsQuestionLine schema a (question.Total it.0) line = subst (λ (asked : Question). IsQuestionLine schema a asked line) it.2 asks.answered in
+    let of_query = total_line schema a it.0 line (subst (λ (asked : Question). IsQuestionLine schema a asked line) it.2 asks.answered) in
     inr (record {
       asked = question.Total it.0;
       is = it.1;
-      answered = (of_query.0, reply_too schema a b alike it.0 of_query.0 of_query.1, of_query.2);
+      answered = (reply.Total of_query.0, reply_too schema a b alike it.0 of_query.0 of_query.1, of_query.2);
     })
 
-each_too : (schema : Declared) (a b : List FedRow) → AreAlike a b → (records : List (List Field)) (lines : List (List ℕ)) → AreMatched (IsAskLine Script schema a) records lines
-    → AreMatched (IsAskLine Script schema b) records lines
+each_too : (schema : Declared) (a b : List FedRow) → AreAlike a b → (records : List (List Field)) (lines : List (List ℕ)) → AllZip (IsAskLine Script schema a) records lines
+    → AllZip (IsAskLine Script schema b) records lines
 each_too schema a b alike [] [] are = tt
 each_too schema a b alike [] (line ∷ lines) are = absurd are
 each_too schema a b alike (fields ∷ records) [] are = absurd are

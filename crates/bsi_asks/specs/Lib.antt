@@ -1,9 +1,8 @@
 pub mod AskLines
 pub mod FaultTexts
 pub mod Faults
-pub mod Matching
 pub mod Mixes
-pub mod ReportLines
+pub mod ReplyLines
 pub mod RowFiles
 pub mod Runs
 pub mod Writing

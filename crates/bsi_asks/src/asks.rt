@@ -2,7 +2,7 @@
 
 ghost use Rattle.std.specs.Prelude.{◌≡◌, ◌≢◌, ◌≤◌, List, None, IfErr, IfSome, OnOk, length, map, true};
 ghost use Rattle.std.specs.Io.KnownBytes.{Appends};
-ghost use Rattle.std.specs.List.{concat};
+ghost use Rattle.std.specs.List.{concat, AllZip};
 ghost use Rattle.csv.specs.Reading.{reader_state, source_of};
 ghost use Rattle.csv.specs.Records.{fields_of};
 ghost use Rattle.csv.specs.declared.parser.State.TheVariants as st;
@@ -14,18 +14,16 @@ ghost use Rattle.bsi_asks.specs.Faults.{is_late};
 ghost use Rattle.bsi_rows.specs.Answers.{IsAnswer};
 ghost use Rattle.bsi_rows.specs.Rows.{FedRow};
 ghost use Rattle.bsi_rows.specs.declared.query.Query.{Query};
-ghost use Rattle.bsi_asks.specs.AskLines.{IsArrangedAnswer, IsAskLine};
-ghost use Rattle.bsi_asks.specs.Matching.{AreMatched};
+ghost use Rattle.bsi_asks.specs.AskLines.{IsAskLine};
 ghost use Rattle.bsi_asks.specs.Runs.{fed_lines};
 ghost use Rattle.bsi_asks.specs.Writing.{AreOut, WritesAll, WritesFirst};
 ghost use Rattle.bsi_rows.specs.Table.{max_feeders};
 
-use crate::report_lines::write_question;
+use crate::reply_lines::write_question;
 use crate::{Fed, FilesFault, NoMemory, Which, file_number};
 use bsi_reading::{RecordSource, write_bytes};
 use bsi_records::{Grammar, QuestionError, lend_fields, read_question, write_bad, write_fed};
-use bsi_rows::arrange;
-use bsi_table::{Answer, Index};
+use bsi_table::Index;
 use csv::ByteRecord;
 use std::alloc::Global;
 use std::io::{Read, Write};
@@ -41,10 +39,10 @@ pub fn answer_asks<A: Read + Drop, W: Write>(
 ) -> Result<(), FilesFault>
     ensures late { IfErr result (λ fault. is_late fault ≡ true) }
     ensures ok { OnOk result (IfSome (A.remaining asks) (λ bytes.
-        WritesAll (AreMatched (IsAskLine grammar table.now.schema table.now.rows)) bytes
+        WritesAll (AllZip (IsAskLine grammar table.now.schema table.now.rows)) bytes
         (W.contents writer.old) (W.contents writer.new))) }
     ensures part { IfErr result (λ fault. IfSome (A.remaining asks) (λ bytes.
-        WritesFirst (AreMatched (IsAskLine grammar table.now.schema table.now.rows)) bytes fault
+        WritesFirst (AllZip (IsAskLine grammar table.now.schema table.now.rows)) bytes fault
         (W.contents writer.old) (W.contents writer.new))) }
 {
     let mut line = Vec::new(alloc);
@@ -92,10 +90,10 @@ fn answer_records<A: Read + Drop, W: Write>(
     requires start { reader_state records.old.input ≡ st.StartRecord }
     ensures late { IfErr result (λ fault. is_late fault ≡ true) }
     ensures ok { OnOk result (FromText (source_of A.remaining records.old.input) (λ bytes.
-        WritesAll (AreMatched (IsAskLine grammar table.now.schema table.now.rows)) bytes
+        WritesAll (AllZip (IsAskLine grammar table.now.schema table.now.rows)) bytes
         (W.contents writer.old) (W.contents writer.new))) }
     ensures part { IfErr result (λ fault. FromText (source_of A.remaining records.old.input)
-        (λ bytes. WritesFirst (AreMatched (IsAskLine grammar table.now.schema table.now.rows)) bytes fault
+        (λ bytes. WritesFirst (AllZip (IsAskLine grammar table.now.schema table.now.rows)) bytes fault
         (W.contents writer.old) (W.contents writer.new))) }
 {
     let mut fields = ByteRecord::new(alloc);
@@ -149,19 +147,5 @@ fn answer_fields(
             write_bad(line)
         }
         Err(QuestionError::NoMemory) => Err(NoMemory),
-    }
-}
-
-/// Arranges the rows of an answer in order of feeder, and then of their numbers.
-pub fn arrange_answer(alloc: Global, answer: Answer) -> Answer
-    ensures { (query : Query) → (rows : List FedRow) → IsAnswer query rows answer →
-        IsArrangedAnswer query rows result }
-{
-    match answer {
-        Answer::Rows(mut rows) => {
-            arrange(alloc, &mut rows);
-            Answer::Rows(rows)
-        }
-        other => other,
     }
 }

@@ -6,11 +6,10 @@ mod asks;
 mod faults;
 mod fed;
 pub mod laws;
-mod report_lines;
+mod reply_lines;
 
-pub use asks::{answer_asks, arrange_answer, tell_feds};
+pub use asks::{answer_asks, tell_feds};
 pub use bsi_records::Grammar;
 pub use faults::{FaultText, FilesFault, MAX_FAULT_TEXT, Which};
 pub use fed::{Fed, file_number};
-pub use report_lines::MAX_GROUPS;
 pub use std::alloc::AllocError as NoMemory;

@@ -8,6 +8,7 @@ use Rattle.bsi_records.specs.Numbers.{Field}
 use Rattle.bsi_records.specs.Predicates.{IsPredicate}
 use Rattle.bsi_records.specs.Questions.{IsQueryIn}
 use Rattle.bsi_records.specs.declared.grammar.Grammar.TheVariants.{Index}
+use Rattle.bsi_records.specs.Vocabularies.{schema_words}
 use Rattle.bsi_rows.specs.Answers.{IsAnswer}
 use Rattle.bsi_rows.specs.RowBlocks.{max_block_rows}
 use Rattle.bsi_rows.specs.Table.{max_feeders, no_rows, with_rows, Table}
@@ -181,12 +182,12 @@ LeavesRest answer before places = drop (places_of answer) places ≡ drop (place
 -- of a query that the fields ask, and of its answer over the rows, this is so
 abbrev pub IsAsked : Table → List Field → (Answer → Type 0) → Type 0
 IsAsked table fields Is =
-    (query : Query) × (reply : Answer) × IsQueryIn Index table.schema fields query × IsAnswer query table.rows reply × Is reply
+    (query : Query) × (reply : Answer) × IsQueryIn Index (schema_words table.schema) fields query × IsAnswer query table.rows reply × Is reply
 
 abbrev pub IsReplied : Opened → List Field → FlatAnswer → List Place → Ending → Type 0
 IsReplied opened fields answer places (Ok done) =
     IsAsked opened.table fields (λ reply. IsWritten reply answer places)
-IsReplied opened fields answer places (Err BadQuery) = (query : Query) → IsQueryIn Index opened.table.schema fields query → ⊥
+IsReplied opened fields answer places (Err BadQuery) = (query : Query) → IsQueryIn Index (schema_words opened.table.schema) fields query → ⊥
 IsReplied opened fields answer places (Err NoRoom) =
     IsAsked opened.table fields (λ reply. IsShort reply answer places)
 IsReplied opened fields answer places (Err NoMemory) = Unit {0}
@@ -210,11 +211,11 @@ pub record IsMask (table : Table) (pred : Pred) (words : List ℕ) : Type 0 wher
 
 abbrev pub IsMasked : Opened → List Field → List ℕ → Ending → Type 0
 IsMasked opened fields words (Ok done) =
-    (pred : Pred) × IsPredicate opened.table.schema fields pred
+    (pred : Pred) × IsPredicate (schema_words opened.table.schema) fields pred
     × IsMask opened.table pred (take (word_count (length opened.table.rows)) words)
-IsMasked opened fields words (Err BadQuery) = (pred : Pred) → IsPredicate opened.table.schema fields pred → ⊥
+IsMasked opened fields words (Err BadQuery) = (pred : Pred) → IsPredicate (schema_words opened.table.schema) fields pred → ⊥
 IsMasked opened fields words (Err NoRoom) =
-    (pred : Pred) × IsPredicate opened.table.schema fields pred × (length words < word_count (length opened.table.rows))
+    (pred : Pred) × IsPredicate (schema_words opened.table.schema) fields pred × (length words < word_count (length opened.table.rows))
 IsMasked opened fields words (Err NoMemory) = Unit {0}
 IsMasked opened fields words (Err why) = ⊥
 

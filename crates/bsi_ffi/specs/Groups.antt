@@ -7,6 +7,7 @@ use Rattle.bsi_groups.specs.Groups.{entries_at, selected_by, AreGroups, AreMore,
 use Rattle.bsi_records.specs.Numbers.{Field}
 use Rattle.bsi_records.specs.Questions.{IsQueryIn}
 use Rattle.bsi_records.specs.declared.grammar.Grammar.TheVariants.{Index}
+use Rattle.bsi_records.specs.Vocabularies.{schema_words}
 use Rattle.bsi_rows.specs.Table.{Table}
 use Rattle.bsi_rows.specs.declared.query.Answer.{Answer}
 use Rattle.bsi_rows.specs.declared.query.Answer.TheVariants.{Count as count_answer, Sum as sum_answer, Value as value_answer, Rows as rows_answer}
@@ -41,7 +42,7 @@ IsFlatGroup group flat = IsFlatEntry (slice_index_or group.entries 0 None) flat 
 -- of a query that the fields ask, and of the place of the column of this name, this is so
 abbrev pub IsAskedBy : Table → List Field → Field → (Query → ℕ → Type 0) → Type 0
 IsAskedBy table fields name Is =
-    (query : Query) × (by : ℕ) × IsQueryIn Index table.schema fields query × (position_of table.schema.columns name ≡ Some by) × Is query by
+    (query : Query) × (by : ℕ) × IsQueryIn Index (schema_words table.schema) fields query × (position_of table.schema.columns name ≡ Some by) × Is query by
 
 abbrev pub IsGrouped : Opened → List Field → Field → List FlatGroup → ℕ → Ending → Type 0
 IsGrouped opened fields name groups count (Ok done) =
@@ -49,7 +50,7 @@ IsGrouped opened fields name groups count (Ok done) =
     × AreGroups query.total (selected_by query opened.table.rows) (by ∷ []) opened.table.rows made
     × AllZip IsFlatGroup made (take count groups))
 IsGrouped opened fields name groups count (Err BadQuery) =
-    (query : Query) → (by : ℕ) → IsQueryIn Index opened.table.schema fields query
+    (query : Query) → (by : ℕ) → IsQueryIn Index (schema_words opened.table.schema) fields query
     → position_of opened.table.schema.columns name ≡ Some by → ⊥
 IsGrouped opened fields name groups count (Err NoRoom) = IsAskedBy opened.table fields name (λ query by.
     AreMore (length groups) (entries_at (selected_by query opened.table.rows) (by ∷ []) opened.table.rows))

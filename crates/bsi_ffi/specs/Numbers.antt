@@ -8,6 +8,7 @@ use Rattle.bsi_rows.specs.Shares.{share_of, Share}
 use Rattle.bsi_groups.specs.Replies.{selected_numbers, AreRanked}
 use Rattle.bsi_records.specs.Numbers.{Field}
 use Rattle.bsi_records.specs.Predicates.{IsPredicate}
+use Rattle.bsi_records.specs.Vocabularies.{schema_words}
 use Rattle.bsi_rows.specs.Table.{Table}
 use Rattle.bsi_rows.specs.declared.query.Pred.{Pred}
 use Rattle.bsi_schema.specs.Columns.{position_of}
@@ -21,7 +22,7 @@ use Rattle.bsi_ffi.specs.declared.refusal.Refusal.TheVariants.{NoMemory, BadQuer
 
 -- the fields spell this predicate, and the column of this name is this one
 pub record IsAskedOn (table : Table) (fields : List Field) (name : Field) (pred : Pred) (c : ℕ) : Type 0 where
-  pub spelled : IsPredicate table.schema fields pred
+  pub spelled : IsPredicate (schema_words table.schema) fields pred
   pub named : position_of table.schema.columns name ≡ Some c
 
 -- there are no such predicate and column, or memory was refused

@@ -5,6 +5,7 @@ use Rattle.bsi_groups.specs.Groups.{entries_at, selected_by, AreGroups, AreMore,
 use Rattle.bsi_records.specs.Numbers.{Field}
 use Rattle.bsi_records.specs.Questions.{IsQueryIn}
 use Rattle.bsi_records.specs.declared.grammar.Grammar.TheVariants.{Index}
+use Rattle.bsi_records.specs.Vocabularies.{schema_words}
 use Rattle.bsi_rows.specs.Table.{Table}
 use Rattle.bsi_rows.specs.declared.query.Query.{Query}
 use Rattle.bsi_schema.specs.Columns.{position_of}
@@ -28,7 +29,7 @@ IsFlatPair group flat = AllZip IsWrittenEntry group.entries flat.entries × IsFl
 -- of a query that the fields ask, and of the places of the columns of these two names, this is so
 abbrev pub IsAskedByTwo : Table → List Field → Field → Field → (Query → List ℕ → Type 0) → Type 0
 IsAskedByTwo table fields first second Is =
-    (query : Query) × (one : ℕ) × (other : ℕ) × IsQueryIn Index table.schema fields query
+    (query : Query) × (one : ℕ) × (other : ℕ) × IsQueryIn Index (schema_words table.schema) fields query
     × (position_of table.schema.columns first ≡ Some one) × (position_of table.schema.columns second ≡ Some other)
     × Is query (one ∷ other ∷ [])
 
@@ -38,7 +39,7 @@ IsGroupedByTwo opened fields first second pairs count (Ok done) =
     × AreGroups query.total (selected_by query opened.table.rows) by opened.table.rows made
     × AllZip IsFlatPair made (take count pairs))
 IsGroupedByTwo opened fields first second pairs count (Err BadQuery) =
-    (query : Query) → (one other : ℕ) → IsQueryIn Index opened.table.schema fields query
+    (query : Query) → (one other : ℕ) → IsQueryIn Index (schema_words opened.table.schema) fields query
     → position_of opened.table.schema.columns first ≡ Some one
     → position_of opened.table.schema.columns second ≡ Some other → ⊥
 IsGroupedByTwo opened fields first second pairs count (Err NoRoom) =

@@ -7,6 +7,7 @@ ghost use Rattle.bsi_records.specs.Predicates.{IsPredicate};
 ghost use Rattle.bsi_records.specs.Questions.{IsQueryIn};
 ghost use Rattle.bsi_records.specs.Reading.{IsReadAs};
 ghost use Rattle.bsi_records.specs.declared.grammar.Grammar.TheVariants.{Index};
+ghost use Rattle.bsi_records.specs.Vocabularies.{schema_words};
 ghost use Rattle.bsi_ffi.specs.Calls.{IsMasked, LeavesWords};
 
 use crate::opened::Opened;
@@ -46,7 +47,7 @@ pub(crate) fn read_predicate(
     fields: &[&[u8]],
 ) -> Result<Option<Pred>, NoMemory>
     ensures { IfOk result
-        (IsReadAs (IsPredicate schema.now (map (λ f. f.now) fields.now))) }
+        (IsReadAs (IsPredicate (schema_words schema.now) (map (λ f. f.now) fields.now))) }
 {
     match bsi_records::read_predicate(alloc, schema, fields) {
         Ok(pred) => Ok(Some(pred)),
@@ -62,7 +63,7 @@ pub(crate) fn read_query(
     fields: &[&[u8]],
 ) -> Result<Option<Query>, NoMemory>
     ensures { IfOk result
-        (IsReadAs (IsQueryIn Index schema.now (map (λ f. f.now) fields.now))) }
+        (IsReadAs (IsQueryIn Index (schema_words schema.now) (map (λ f. f.now) fields.now))) }
 {
     match read_query_in(alloc, schema, Grammar::Index, fields) {
         Ok(query) => Ok(Some(query)),

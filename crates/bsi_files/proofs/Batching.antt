@@ -22,9 +22,9 @@ use Rattle.bsi_schema.specs.Columns.{Declared}
 use Rattle.bsi_asks.proofs.Asking.{out_after, out_all, stands_all, stands_more, stands_part, StandsAt}
 use Rattle.bsi_asks.proofs.Passing.{emptied}
 use Rattle.bsi_rows.specs.declared.question.Question.TheVariants as question
+use Rattle.bsi_groups.specs.declared.answering.QuestionReply.TheVariants as reply
 use Rattle.bsi_asks.proofs.Showing.{its_query}
 use Rattle.bsi_asks.specs.AskLines.{IsAskLine}
-use Rattle.bsi_asks.specs.Matching.{AreMatched}
 use Rattle.bsi_asks.specs.Writing.{AreOut, WritesAll, WritesFirst}
 use Rattle.bsi_asks.specs.declared.faults.FilesFault.{FilesFault}
 use Rattle.bsi_asks.specs.declared.faults.FilesFault.TheVariants.{NoMemory, TooLong, Write}
@@ -73,7 +73,7 @@ module _ {R : Type 0} (rem : R → Option (List ℕ)) (schema : Declared) (bytes
   -- the records that ask them were read on
   records_on : (old at : Reader R) (queries : List Query) (records : List (List Field)) → GivesQueries rem schema old queries at
       → HasReadFirst bytes (reader_state old) (source_of rem old) records
-      → (more : List (List Field)) × HasReadFirst bytes (reader_state at) (source_of rem at) (records ++ more) × AreMatched (IsQuery schema) more queries
+      → (more : List (List Field)) × HasReadFirst bytes (reader_state at) (source_of rem at) (records ++ more) × AllZip (IsQuery schema) more queries
       × (length more ≡ length queries)
   records_on old at [] records same read = (
     [],
@@ -102,8 +102,8 @@ module _ {R : Type 0} (rem : R → Option (List ℕ)) (schema : Declared) (bytes
 
 -- ---- records and their lines
 
-matched_append : {A B : Type 0} (Is : A → B → Type 0) (xs xs' : List A) (ys ys' : List B) → AreMatched Is xs ys → AreMatched Is xs' ys'
-    → AreMatched Is (xs ++ xs') (ys ++ ys')
+matched_append : {A B : Type 0} (Is : A → B → Type 0) (xs xs' : List A) (ys ys' : List B) → AllZip Is xs ys → AllZip Is xs' ys'
+    → AllZip Is (xs ++ xs') (ys ++ ys')
 matched_append Is [] xs' [] ys' first last = last
 matched_append Is [] xs' (y ∷ ys) ys' first last = absurd first
 matched_append Is (x ∷ xs) xs' [] ys' first last = absurd first
@@ -113,10 +113,10 @@ module _ (schema : Declared) (rows : List FedRow) where
   line_of : (fields : List Field) (query : Query) (line : List ℕ) → IsQuery schema fields query → IsTold schema rows query line
       → IsAskLine Script schema rows fields line
   line_of fields query line asked told =
-      inr (record { asked = question.Total query; is = asked; answered = told })
+      inr (record { asked = question.Total query; is = asked; answered = (reply.Total told.0, told.1, told.2) })
 
-  lines_of : (records : List (List Field)) (queries : List Query) (lines : List (List ℕ)) → AreMatched (IsQuery schema) records queries
-      → AreMatched (IsTold schema rows) queries lines → AreMatched (IsAskLine Script schema rows) records lines
+  lines_of : (records : List (List Field)) (queries : List Query) (lines : List (List ℕ)) → AllZip (IsQuery schema) records queries
+      → AllZip (IsTold schema rows) queries lines → AllZip (IsAskLine Script schema rows) records lines
   lines_of [] [] [] asked told = tt
   lines_of [] [] (line ∷ lines) asked told = absurd told
   lines_of [] (query ∷ queries) lines asked told = absurd asked
@@ -158,7 +158,7 @@ module _ (schema : Declared) (rows : List FedRow) {R : Type 0} (rem : R → Opti
 
   -- lines of its first queries were, before a fault
   pub batch_part : (fault : FilesFault) → TellsFirst (IsTold schema rows) queries now after fault
-      → WritesFirst (AreMatched (IsAskLine Script schema rows)) bytes fault before after
+      → WritesFirst (AllZip (IsAskLine Script schema rows)) bytes fault before after
   batch_part fault tells =
       let first = gives_first rem schema bytes tells.count old.input at queries given.gives in
       let on = records_on rem schema bytes old.input first.0 (take tells.count queries) stands.records first.1 stands.begun in
@@ -213,7 +213,7 @@ module _ (schema : Declared) (rows : List FedRow) {R : Type 0} (rem : R → Opti
       takes.3.fields bad_line new.taken after takes.3.read takes.3.counted (bad_line_of takes.3.fields takes.3.none) written
 
   pub part_bad : (after : Option (List ℕ)) (fault : FilesFault) → TakesBatch rem schema old new queries Bad → AreOut fault (bad_line ∷ []) middle after
-      → (fault ≡ NoMemory) ⊎ (fault ≡ Write) → WritesFirst (AreMatched (IsAskLine Script schema rows)) bytes fault before after
+      → (fault ≡ NoMemory) ⊎ (fault ≡ Write) → WritesFirst (AllZip (IsAskLine Script schema rows)) bytes fault before after
   part_bad after fault takes out late =
       let stood = batch_stands schema rows rem bytes old before now middle stands queries takes.0 takes.1 takes.2 tells in
       let fields = takes.3.fields in
@@ -232,14 +232,14 @@ module _ (schema : Declared) (rows : List FedRow) {R : Type 0} (rem : R → Opti
       }
 
   -- no record stands behind it
-  pub all_end : TakesBatch rem schema old new queries End → WritesAll (AreMatched (IsAskLine Script schema rows)) bytes before middle
+  pub all_end : TakesBatch rem schema old new queries End → WritesAll (AllZip (IsAskLine Script schema rows)) bytes before middle
   all_end takes =
       stands_all (IsAskLine Script schema rows) rem bytes takes.0 takes.0 takes.1 takes.2.few before middle
       (batch_stands schema rows rem bytes old before now middle stands queries takes.0 takes.1 takes.2 tells) takes.3
 
   -- a fault stands behind it
   pub part_stopped : (fault : FilesFault) → StopsInBatch rem schema old queries fault
-      → WritesFirst (AreMatched (IsAskLine Script schema rows)) bytes fault before middle
+      → WritesFirst (AllZip (IsAskLine Script schema rows)) bytes fault before middle
   part_stopped fault stops =
       stands_part (IsAskLine Script schema rows) rem bytes stops.at stops.at stops.taken stops.given.few before middle
       (batch_stands schema rows rem bytes old before now middle stands queries stops.at stops.taken stops.given tells) fault stops.too_long
@@ -262,7 +262,7 @@ module _ (schema : Declared) (rows : List FedRow) {R : Type 0} (rem : R → Opti
 -- the lines of the first queries were written
 pub record HasToldFirst (Is : Query → List ℕ → Type 0) (queries : List Query) (count : ℕ) (before now : Option (List ℕ)) : Type 0 where
   pub lines : List (List ℕ)
-  pub each : AreMatched Is (take count queries) lines
+  pub each : AllZip Is (take count queries) lines
   pub written : Appends before now (concat lines)
 
 pub told_none : (Is : Query → List ℕ → Type 0) (queries : List Query) (now : Option (List ℕ)) → HasToldFirst Is queries 0 now now
@@ -274,7 +274,7 @@ module _ (Is : Query → List ℕ → Type 0) (queries : List Query) (count : �
   pub told_all : length queries ≤ count → TellsAll Is queries before now
   told_all all = record {
     lines = told.lines;
-    each = subst (λ qs. AreMatched Is qs told.lines) (take_all count queries all) told.each;
+    each = subst (λ qs. AllZip Is qs told.lines) (take_all count queries all) told.each;
     written = told.written;
   }
 
@@ -289,8 +289,8 @@ module _ (Is : Query → List ℕ → Type 0) (queries : List Query) (count : �
   }
 
   module _ (query d : Query) (line : List ℕ) (within : count < length queries) (at : query ≡ get_or queries count d) (is : Is query line) where
-    each_more : AreMatched Is (take (count + 1) queries) (told.lines ++ line ∷ [])
-    each_more = subst (λ qs. AreMatched Is qs (told.lines ++ line ∷ [])) (sym (take_more queries count d within))
+    each_more : AllZip Is (take (count + 1) queries) (told.lines ++ line ∷ [])
+    each_more = subst (λ qs. AllZip Is qs (told.lines ++ line ∷ [])) (sym (take_more queries count d within))
         (matched_append Is (take count queries) (get_or queries count d ∷ []) told.lines (line ∷ []) told.each (subst (λ q. Is q line) at is, tt))
 
     text_more : concat (told.lines ++ line ∷ []) ≡ concat told.lines ++ line

@@ -1,7 +1,7 @@
 -- Faults of sources, and of a run.
 use Rattle.std.proofs.Common.{◌≡◌, ◌≢◌, All, ℕ, suc, zero, ◌<◌, ◌≤◌, Bool, true, false, List, [], ◌∷◌, ◌++◌, length, map, take, Option, Some, None, Err, IfSome, MatchOption, inl, inr, refl, ap, sym, ◌∙◌, subst, arith, length-append}
 use Rattle.std.specs.Prelude.{IsSome, slice_get}
-use Rattle.std.specs.List.{AllWithin}
+use Rattle.std.specs.List.{AllWithin, AllZip}
 use Rattle.std.proofs.lemmas.List.{take-map}
 use Rattle.std.proofs.lemmas.List.Elements.{All-cons, All-head, All-nil, All-tail, All-take}
 use Rattle.csv.specs.Machine.{Read, next_record}
@@ -24,7 +24,6 @@ use Rattle.bsi_files.specs.Ends.{tasks, AreEndsOf}
 use Rattle.bsi_asks.specs.Faults.{is_early, is_late, is_of_headers}
 use Rattle.bsi_feeding.specs.Feeding.{HasFailed, StopsAfter}
 use Rattle.bsi_files.specs.Headers.{HasHeader, IsBehindHeaders, IsHeadersFault}
-use Rattle.bsi_asks.specs.Matching.{AreMatched}
 use Rattle.bsi_asks.specs.RowFiles.{RowFile}
 use Rattle.bsi_files.specs.RunFaults.{is_of_loading, AreGood, AreGoodBefore, AreOverLimit, AreRowFiles, FailsAt, GaveRows, HasFirstRows, IsFaultOf, IsKeptFault, IsLoadFault, IsTooLongFile, WasReadOut}
 use Rattle.bsi_files.specs.Takings.{AreGoing, AreTold}
@@ -174,7 +173,7 @@ module _ {R : Type 0} (rem : R → Option (List ℕ)) where
     at : slice_get texts n ≡ Some text
 
   of_text : (schema : Declared) (readers : List R) (sources : List (Source R)) (texts : List (List ℕ)) (n : ℕ) (source : Source R)
-      → AreMatched (Begins rem schema) readers sources → map rem readers ≡ map (λ text. Some text) texts → slice_get sources n ≡ Some source
+      → AllZip (Begins rem schema) readers sources → map rem readers ≡ map (λ text. Some text) texts → slice_get sources n ≡ Some source
       → IsOfText schema texts n source
   of_text schema [] [] texts n source begun is at = absurd (cc (at))
   of_text schema [] (s ∷ sources) texts n source begun is at = absurd begun
@@ -229,13 +228,13 @@ module _ {R : Type 0} (rem : R → Option (List ℕ)) where
       }
 
   -- what was good before rows were loaded
-  pub headers_known : (schema : Declared) (readers : List R) (sources : List (Source R)) (texts : List (List ℕ)) → AreMatched (Begins rem schema) readers sources
+  pub headers_known : (schema : Declared) (readers : List R) (sources : List (Source R)) (texts : List (List ℕ)) → AllZip (Begins rem schema) readers sources
       → map rem readers ≡ map (λ text. Some text) texts → All (HasHeader schema) texts
   headers_known schema readers sources texts begun is =
       all_known (HasHeader schema) texts (subst (λ os. All (λ other. IfSome other (HasHeader schema)) os) is (headers_of rem schema readers sources begun))
 
   good : (declared : List ℕ) (schema : Declared) (limit : ℕ) (readers : List R) (sources : List (Source R)) (texts : List (List ℕ)) → IsSchemaText declared schema limit
-      → AreMatched (Begins rem schema) readers sources → map rem readers ≡ map (λ text. Some text) texts → AreGood declared texts
+      → AllZip (Begins rem schema) readers sources → map rem readers ≡ map (λ text. Some text) texts → AreGood declared texts
   good declared schema limit readers sources texts schema_is begun is = record {
     schema = schema;
     limit = limit;
@@ -265,8 +264,8 @@ module _ {R : Type 0} (rem : R → Option (List ℕ)) where
       }
 
   all_first : (schema : Declared) (readers : List R) (sources : List (Source R)) (texts : List (List ℕ)) (lists : List (List Entries))
-      → AreMatched (Begins rem schema) readers sources → map rem readers ≡ map (λ text. Some text) texts → AreMatched (GaveRows rem) sources lists
-      → AreMatched (HasFirstRows schema) texts lists
+      → AllZip (Begins rem schema) readers sources → map rem readers ≡ map (λ text. Some text) texts → AllZip (GaveRows rem) sources lists
+      → AllZip (HasFirstRows schema) texts lists
   all_first schema [] [] [] [] begun is given = tt
   all_first schema [] [] [] (rows ∷ lists) begun is given = absurd given
   all_first schema [] [] (text ∷ texts) lists begun is given = absurd (cc (is))
@@ -279,7 +278,7 @@ module _ {R : Type 0} (rem : R → Option (List ℕ)) where
 
   -- the files of sources that were read out
   row_files : IsWholeLaw rem → (schema : Declared) (readers : List R) (sources : List (Source R)) (texts : List (List ℕ)) (n : ℕ)
-      → AreMatched (Begins rem schema) readers sources → map rem readers ≡ map (λ text. Some text) texts → All (WasReadOut rem) (take n sources)
+      → AllZip (Begins rem schema) readers sources → map rem readers ≡ map (λ text. Some text) texts → All (WasReadOut rem) (take n sources)
       → AreRowFiles schema (take n texts)
   row_files law schema readers sources texts zero begun is out = ([], tt)
   row_files law schema [] [] [] (suc n) begun is out = ([], tt)
@@ -293,14 +292,14 @@ module _ {R : Type 0} (rem : R → Option (List ℕ)) where
       let file : RowFile = record { rows = here.0; bad = here.1 } in
       (file ∷ rest.0, (row_file rem law schema reader s text here.0 here.1 begun.0 (cc (is)) here.2, rest.1))
 
-  pub texts_many : (schema : Declared) (readers : List R) (sources : List (Source R)) (texts : List (List ℕ)) → AreMatched (Begins rem schema) readers sources
+  pub texts_many : (schema : Declared) (readers : List R) (sources : List (Source R)) (texts : List (List ℕ)) → AllZip (Begins rem schema) readers sources
       → map rem readers ≡ map (λ text. Some text) texts → length texts ≡ length sources
   texts_many schema readers sources texts begun is =
       sym (map_long (λ text. Some text) texts) ∙ (sym (ap (λ (os : List (Option (List ℕ))). length os) is)
       ∙ (map_long rem readers ∙ matched_long (Begins rem schema) readers sources begun))
 
   module _ (law : IsWholeLaw rem) (stops : Bool) (declared : List ℕ) (schema : Declared) (limit : ℕ) (readers : List R) (sources : List (Source R))
-      (texts : List (List ℕ)) (schema_is : IsSchemaText declared schema limit) (begun : AreMatched (Begins rem schema) readers sources)
+      (texts : List (List ℕ)) (schema_is : IsSchemaText declared schema limit) (begun : AllZip (Begins rem schema) readers sources)
       (is : map rem readers ≡ map (λ text. Some text) texts) where
     all_good : AreGood declared texts
     all_good = good declared schema limit readers sources texts schema_is begun is

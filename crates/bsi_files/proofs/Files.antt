@@ -20,7 +20,7 @@ use Rattle.bsi_asks.specs.RowFiles.{fed_counts, file_at, file_counts, file_rows,
 use Rattle.bsi_files.specs.Feds.{AreFedFrom, IsAllFed, IsFedFrom}
 use Rattle.bsi_asks.proofs.Mixing.{same_length}
 use Rattle.bsi_asks.proofs.Showing.{file_by_file_too, lines_too}
-use Rattle.bsi_asks.specs.Matching.{AreMatched}
+use Rattle.std.specs.List.{AllZip}
 use Rattle.bsi_asks.specs.Mixes.{file_by_file}
 use Rattle.bsi_asks.specs.Runs.{AreLines, HasLoaded, IsRun}
 use Rattle.bsi_asks.specs.declared.fed.Fed.{Fed}
@@ -92,8 +92,8 @@ module _ {R : Type 0} (rem : R → Option (List ℕ)) where
       row_file law schema reader source text (rows_from n rows) fed.bad begins is (has.out refl begins.end_is)
 
   all_files : IsWholeLaw → (schema : Declared) (readers : List R) (sources : List (Source R)) (texts : List (List ℕ)) (rows : List FedRow) (n : ℕ) (feds : List Fed)
-      → AreMatched (Begins rem schema) readers sources → map rem readers ≡ map (λ text. Some text) texts → AreFedFrom rem false rows n sources feds
-      → AreMatched (IsRowFile schema) texts (files_from rows n feds)
+      → AllZip (Begins rem schema) readers sources → map rem readers ≡ map (λ text. Some text) texts → AreFedFrom rem false rows n sources feds
+      → AllZip (IsRowFile schema) texts (files_from rows n feds)
   unfolding files_from
   all_files law schema [] [] [] rows n [] begin is fed = tt
   all_files law schema [] [] [] rows n (x ∷ feds) begin is fed = absurd fed
@@ -109,7 +109,7 @@ module _ {R : Type 0} (rem : R → Option (List ℕ)) where
 
   -- the rows of sources that were read out are those of the files
   pub loaded_of : IsWholeLaw → (stops : Bool) → stops ≡ false → (schema : Declared) (limit : ℕ) (readers : List R) (sources : List (Source R))
-      (texts : List (List ℕ)) (rows : List FedRow) (feds : List Fed) → AreMatched (Begins rem schema) readers sources
+      (texts : List (List ℕ)) (rows : List FedRow) (feds : List Fed) → AllZip (Begins rem schema) readers sources
       → map rem readers ≡ map (λ text. Some text) texts → IsAllFed rem stops limit rows sources feds
       → HasLoaded schema limit texts rows (map fed_counts feds)
   loaded_of law stops never schema limit readers sources texts rows feds begin is all =
@@ -157,7 +157,7 @@ pub late_quiet : {T : Type 0} (P : FilesFault → Type 0) (r : Result T FilesFau
 late_quiet P (Ok x) late = tt
 late_quiet P (Err e) late = λ early. (let wrong : false ≡ true = sym early ∙ late in absurd (cc (wrong)))
 
-pub matched_long : {A B : Type 0} (Is : A → B → Type 0) (xs : List A) (ys : List B) → AreMatched Is xs ys → length xs ≡ length ys
+pub matched_long : {A B : Type 0} (Is : A → B → Type 0) (xs : List A) (ys : List B) → AllZip Is xs ys → length xs ≡ length ys
 matched_long Is [] [] are = refl
 matched_long Is [] (y ∷ ys) are = absurd are
 matched_long Is (x ∷ xs) [] are = absurd are

@@ -9,7 +9,7 @@ use Rattle.bsi_records.specs.Numbers.{Field}
 use Rattle.bsi_schema.specs.Columns.{Declared}
 use Rattle.bsi_reading.specs.RowFiles.{is_header}
 use Rattle.bsi_files.specs.Headers.{HasHeader}
-use Rattle.bsi_asks.specs.Matching.{AreMatched}
+use Rattle.std.specs.List.{AllZip}
 use Rattle.bsi_asks.specs.RowFiles.{IsRowFile, RowFile}
 use Rattle.bsi_files.specs.RunFaults.{AreGood}
 use Rattle.bsi_asks.specs.Runs.{IsRun}
@@ -21,7 +21,7 @@ header_read schema bytes header records state rest read is =
     subst (λ (o : Option Read). MatchOption o ⊥ (λ first. is_header schema first.0 ≡ true)) (sym read.1)
     (subst (λ (h : List Field). is_header schema h ≡ true) read.2 is)
 
-headers_read : (schema : Declared) (texts : List (List ℕ)) (files : List RowFile) → AreMatched (IsRowFile schema) texts files → All (HasHeader schema) texts
+headers_read : (schema : Declared) (texts : List (List ℕ)) (files : List RowFile) → AllZip (IsRowFile schema) texts files → All (HasHeader schema) texts
 headers_read schema [] files are = All-nil (HasHeader schema)
 headers_read schema (text ∷ texts) [] are = absurd are
 headers_read schema (text ∷ texts) (file ∷ files) are =

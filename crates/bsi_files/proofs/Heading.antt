@@ -13,7 +13,7 @@ use Rattle.bsi_reading.specs.Sources.{Source, StandsAfter}
 use Rattle.bsi_reading.specs.declared.rows.SourceFault.TheVariants as source
 use Rattle.bsi_files.specs.Begun.{Begins}
 use Rattle.bsi_files.specs.Headers.{HasHeader, IsBehindHeaders, IsFirstWithout, IsHeaderFault, IsHeadersFault, LacksHeader}
-use Rattle.bsi_asks.specs.Matching.{AreMatched}
+use Rattle.std.specs.List.{AllZip}
 use Rattle.bsi_asks.specs.declared.faults.FilesFault.{FilesFault}
 use Rattle.bsi_asks.specs.declared.faults.FilesFault.TheVariants as files
 use Rattle.bsi_files.proofs.Files.{matched_long}
@@ -41,7 +41,7 @@ module _ {R : Type 0} (rem : R → Option (List ℕ)) (schema : Declared) where
       by None behind = tt
       by (Some bytes) behind = at (next_record default_config st.StartRecord [] [] (strip_bom bytes)) behind
 
-  pub headers_of : (readers : List R) (sources : List (Source R)) → AreMatched (Begins rem schema) readers sources
+  pub headers_of : (readers : List R) (sources : List (Source R)) → AllZip (Begins rem schema) readers sources
       → All (λ other. IfSome other (HasHeader schema)) (map rem readers)
   headers_of [] sources begun = All-nil (λ other. IfSome other (HasHeader schema))
   headers_of (reader ∷ readers) [] begun = absurd begun

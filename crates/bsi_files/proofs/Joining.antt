@@ -4,7 +4,7 @@ use Rattle.std.proofs.lemmas.List.{append-nil}
 use Rattle.bsi_rings.specs.Rings.{Sending}
 use Rattle.bsi_reading.specs.Sources.{Source}
 use Rattle.bsi_files.specs.Ends.{tasks, AreEndsOf, IsFeedEnd, Task}
-use Rattle.bsi_asks.specs.Matching.{AreMatched}
+use Rattle.std.specs.List.{AllZip}
 use Rattle.bsi_feeding.specs.declared.feeding.FeedEnd.{FeedEnd}
 use Rattle.bsi_asks.proofs.Asking.{matched_push}
 
@@ -22,28 +22,28 @@ map_push f (z ∷ xs) x = ap (λ ys. f z ∷ ys) (map_push f xs x)
 pub record HasMatched {A B : Type 0} (Is : A → B → Type 0) (all left : List A) (ys : List B) : Type 0 where
   pub done : List A
   pub parts : all ≡ done ++ left
-  pub matched : AreMatched Is done ys
+  pub matched : AllZip Is done ys
 
 module _ {A B : Type 0} {Is : A → B → Type 0} {all left : List A} {ys : List B} where
   pub matched_none : left ≡ all → ys ≡ [] → HasMatched Is all left ys
-  matched_none same none = record { done = []; parts = sym same; matched = subst (λ zs. AreMatched Is [] zs) (sym none) tt }
+  matched_none same none = record { done = []; parts = sym same; matched = subst (λ zs. AllZip Is [] zs) (sym none) tt }
 
   pub matched_more : (x : A) (rest : List A) (y : B) (more : List B) → HasMatched Is all left ys → left ≡ x ∷ rest → more ≡ ys ++ y ∷ [] → Is x y
       → HasMatched Is all rest more
   matched_more x rest y more has is pushed one = record {
     done = has.done ++ x ∷ [];
     parts = has.parts ∙ (ap (λ xs. has.done ++ xs) is ∙ sym (push_assoc has.done x rest));
-    matched = subst (λ zs. AreMatched Is (has.done ++ x ∷ []) zs) (sym pushed) (matched_push Is has.done ys x y has.matched one);
+    matched = subst (λ zs. AllZip Is (has.done ++ x ∷ []) zs) (sym pushed) (matched_push Is has.done ys x y has.matched one);
   }
 
-  pub matched_all : HasMatched Is all left ys → left ≡ [] → AreMatched Is all ys
-  matched_all has none = subst (λ xs. AreMatched Is xs ys) (sym (has.parts ∙ (ap (λ xs. has.done ++ xs) none ∙ append-nil has.done))) has.matched
+  pub matched_all : HasMatched Is all left ys → left ≡ [] → AllZip Is all ys
+  matched_all has none = subst (λ xs. AllZip Is xs ys) (sym (has.parts ∙ (ap (λ xs. has.done ++ xs) none ∙ append-nil has.done))) has.matched
 
 -- ---- threads
 
 -- of threads and their ends, to the feeders, the sources and the ends
 pub ends_of : {R X : Type 0} (rem : R → Option (List ℕ)) (threads : List X) (ends : List FeedEnd) (f : X → Task R)
-    → AreMatched (λ thread end. IsFeedEnd rem (f thread).0 (f thread).1 end) threads ends → AreEndsOf rem (map f threads) ends
+    → AllZip (λ thread end. IsFeedEnd rem (f thread).0 (f thread).1 end) threads ends → AreEndsOf rem (map f threads) ends
 ends_of rem [] [] f are = tt
 ends_of rem [] (end ∷ ends) f are = absurd are
 ends_of rem (thread ∷ threads) [] f are = absurd are

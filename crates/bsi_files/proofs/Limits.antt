@@ -1,7 +1,7 @@
 -- Where the loader has as many rows as the limit, and not all that a feeder sent, the rows of the sources are more.
 use Rattle.std.proofs.Common.{◌≡◌, ℕ, suc, zero, ◌+◌, ◌<◌, ◌≤◌, Bool, true, false, List, [], ◌∷◌, ◌++◌, length, map, Option, Some, None, IfSome, refl, ap, ap₂, sym, ◌∙◌, subst, arith, slice_index_or, add-zero, length-append, append-nil, All, ◌&&◌}
 use Rattle.std.specs.Prelude.{is_some}
-use Rattle.std.specs.List.{sum_by}
+use Rattle.std.specs.List.{sum_by, AllZip}
 use mathlib.Core.List.{IsPrefix}
 use Rattle.std.proofs.lemmas.List.Elements.{All-head, All-tail}
 use Rattle.std.proofs.lemmas.List.Sums.{sum_by-cons}
@@ -12,7 +12,6 @@ use Rattle.bsi_rows.specs.Rows.{Entries, FedRow}
 use Rattle.bsi_reading.specs.Sources.{Source}
 use Rattle.bsi_files.specs.Ends.{tasks, AreEndsOf, AreFeeders, IsFeedEnd}
 use Rattle.bsi_feeding.specs.Feeding.{HasFed}
-use Rattle.bsi_asks.specs.Matching.{AreMatched}
 use Rattle.bsi_asks.specs.Mixes.{file_by_file, AreAlike}
 use Rattle.bsi_files.specs.RunFaults.{AreOverLimit, GaveRows}
 use Rattle.bsi_files.specs.Takings.{all_closed, AreTold, IsFullBefore, IsTold, KeepsTold}
@@ -108,7 +107,7 @@ less_of xs ys begins other = by begins.0 begins.1
 module _ {R : Type 0} (rem : R → Option (List ℕ)) (takings : List Taking) where
   record AreGiven (n : ℕ) (sources : List (Source R)) (feds : List Fed) : Type 0 where
     rows : Lists
-    given : AreMatched (GaveRows rem) sources rows
+    given : AllZip (GaveRows rem) sources rows
     told : (k : ℕ) → k < length rows → (taking_at takings (n + k)).carried ≡ Some (at rows k)
     many : length rows ≡ length feds
 

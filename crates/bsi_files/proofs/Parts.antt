@@ -8,7 +8,7 @@ use Rattle.bsi_reading.specs.RowFiles.{bad_count, good_rows}
 use Rattle.bsi_reading.specs.Sources.{Counts, Source, StandsAfter}
 use Rattle.bsi_reading.proofs.FirstRecords.{first_join}
 use Rattle.bsi_feeding.specs.Feeding.{CountsBad}
-use Rattle.bsi_asks.specs.Matching.{AreMatched}
+use Rattle.std.specs.List.{AllZip}
 use Rattle.bsi_asks.specs.RowFiles.{fed_counts}
 use Rattle.bsi_asks.specs.declared.fed.Fed.{Fed}
 use Rattle.bsi_files.specs.Begun.{Begins}
@@ -39,7 +39,7 @@ module _ {R : Type 0} (rem : R → Option (List ℕ)) where
       }
 
   parts : (stops : Bool) (schema : Declared) (readers : List R) (sources : List (Source R)) (texts : List (List ℕ)) (rows : List FedRow) (n : ℕ) (feds : List Fed)
-      → AreMatched (Begins rem schema) readers sources → map rem readers ≡ map (λ text. Some text) texts → AreFedFrom rem stops rows n sources feds
+      → AllZip (Begins rem schema) readers sources → map rem readers ≡ map (λ text. Some text) texts → AreFedFrom rem stops rows n sources feds
       → AreParts schema rows n texts (map fed_counts feds)
   parts stops schema [] [] [] rows n [] begin is fed = tt
   parts stops schema [] [] [] rows n (x ∷ feds) begin is fed = absurd fed
@@ -57,7 +57,7 @@ module _ {R : Type 0} (rem : R → Option (List ℕ)) where
       )
 
   pub loaded_parts : (stops : Bool) (schema : Declared) (limit : ℕ) (readers : List R) (sources : List (Source R)) (texts : List (List ℕ)) (rows : List FedRow) (feds : List Fed)
-      → AreMatched (Begins rem schema) readers sources → map rem readers ≡ map (λ text. Some text) texts → IsAllFed rem stops limit rows sources feds
+      → AllZip (Begins rem schema) readers sources → map rem readers ≡ map (λ text. Some text) texts → IsAllFed rem stops limit rows sources feds
       → HasLoadedParts schema limit texts rows (map fed_counts feds)
   loaded_parts stops schema limit readers sources texts rows feds begin is all =
       let many = texts_many rem schema readers sources texts begin is in

@@ -1,7 +1,7 @@
 -- Batches of queries: the records that ask them, and the lines that answer them.
 use Rattle.std.specs.Prelude.{◌≡◌, ◌<◌, ◌≤◌, ◌⊎◌, ⊤, ℕ, ◌+◌, List, [], ◌∷◌, ◌++◌, None, Option, Result, length, take}
 use Rattle.std.specs.Io.KnownBytes.{Appends}
-use Rattle.std.specs.List.{concat}
+use Rattle.std.specs.List.{concat, AllZip}
 use Rattle.csv.specs.declared.reader.Reader.{Reader}
 use Rattle.bsi_records.specs.Events.{IsQuery}
 use Rattle.bsi_records.specs.Lines.{ask_line}
@@ -13,8 +13,7 @@ use Rattle.bsi_rows.specs.declared.errors.AskError.{AskError}
 use Rattle.bsi_rows.specs.declared.query.Answer.{Answer}
 use Rattle.bsi_rows.specs.declared.query.Query.{Query}
 use Rattle.bsi_schema.specs.Columns.{Declared}
-use Rattle.bsi_asks.specs.AskLines.{IsArrangedReply}
-use Rattle.bsi_asks.specs.Matching.{AreMatched}
+use Rattle.bsi_groups.specs.QuestionReplies.{IsArrangedReply}
 use Rattle.bsi_asks.specs.Writing.{AreOut}
 use Rattle.bsi_asks.specs.declared.faults.FilesFault.{FilesFault}
 use Rattle.bsi_asks.specs.declared.faults.FilesFault.TheVariants.{NoMemory, TooLong, Write}
@@ -102,7 +101,7 @@ IsTold schema rows query line =
 -- the lines of all queries were put after what a writer held
 pub record TellsAll (Is : Query → List ℕ → Type 0) (queries : List Query) (before after : Option (List ℕ)) : Type 0 where
   pub lines : List (List ℕ)
-  pub each : AreMatched Is queries lines
+  pub each : AllZip Is queries lines
   pub written : Appends before after (concat lines)
 
 -- lines of some first queries went out before a fault, of memory or of the writer
@@ -110,6 +109,6 @@ pub record TellsFirst (Is : Query → List ℕ → Type 0) (queries : List Query
     (fault : FilesFault) : Type 0 where
   pub count : ℕ
   pub lines : List (List ℕ)
-  pub each : AreMatched Is (take count queries) lines
+  pub each : AllZip Is (take count queries) lines
   pub out : AreOut fault lines before after
   pub late : (fault ≡ NoMemory) ⊎ (fault ≡ Write)

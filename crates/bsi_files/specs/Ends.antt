@@ -5,7 +5,7 @@ use Rattle.bsi_system.specs.Running.{IsClosingOf, IsFeederOf, SystemName}
 use Rattle.bsi_reading.specs.Sources.{Source}
 use Rattle.bsi_feeding.specs.Feeding.{HasFailed, HasFed}
 use Rattle.bsi_feeding.specs.declared.feeding.FeedEnd.{FeedEnd}
-use Rattle.bsi_asks.specs.Matching.{AreMatched}
+use Rattle.std.specs.List.{AllZip}
 use Rattle.bsi_rows.specs.Table.{max_feeders}
 
 -- what the end of a feeder tells of the feeder and of its source: the rows that were read, which its closing carries,
@@ -28,7 +28,7 @@ tasks (feeder ∷ feeders) (source ∷ sources) = (feeder, source) ∷ tasks fee
 
 -- ends of tasks, one for each
 abbrev pub AreEndsOf : {R : Type 0} → (R → Option (List ℕ)) → List (Task R) → List FeedEnd → Type 0
-AreEndsOf rem given ends = AreMatched (λ (feeder, source) end. IsFeedEnd rem feeder source end) given ends
+AreEndsOf rem given ends = AllZip (λ (feeder, source) end. IsFeedEnd rem feeder source end) given ends
 
 -- the feeders of a system, numbered from n, of which nothing was sent
 abbrev pub AreFeeders : SystemName → ℕ → List Sending → Type 0

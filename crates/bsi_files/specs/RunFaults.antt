@@ -1,6 +1,6 @@
 -- What a fault of a run tells of the bytes of its files.
 use Rattle.std.specs.Prelude.{◌≡◌, ⊤, ℕ, ◌<◌, ◌≤◌, ◌⊎◌, Bool, true, false, List, ◌∷◌, All, Option, None, Some, MatchOption, length, map, slice_get, take}
-use Rattle.std.specs.List.{sum_by, AllWithin}
+use Rattle.std.specs.List.{sum_by, AllWithin, AllZip}
 use Rattle.csv.specs.declared.parser.State.{State}
 use Rattle.bsi_records.specs.Numbers.{Field}
 use Rattle.bsi_schema.specs.Columns.{Declared}
@@ -13,7 +13,6 @@ use Rattle.bsi_reading.specs.declared.rows.SourceFault.{SourceFault}
 use Rattle.bsi_reading.specs.declared.rows.SourceFault.TheVariants as source
 use Rattle.bsi_feeding.specs.Feeding.{GivesRows, HasFailed, IsReadOut}
 use Rattle.bsi_files.specs.Headers.{HasHeader, IsFirstWithout}
-use Rattle.bsi_asks.specs.Matching.{AreMatched}
 use Rattle.bsi_asks.specs.RowFiles.{IsRowFile, RowFile}
 use Rattle.bsi_files.specs.Takings.{AreGoing}
 use Rattle.bsi_asks.specs.declared.faults.FilesFault.{FilesFault}
@@ -57,7 +56,7 @@ pub record AreGoodBefore (declared : List ℕ) (texts : List (List ℕ)) (number
 
 -- these are row files, none of which is too long
 abbrev pub AreRowFiles : Declared → List (List ℕ) → Type 0
-AreRowFiles schema texts = (files : List RowFile) × AreMatched (IsRowFile schema) texts files
+AreRowFiles schema texts = (files : List RowFile) × AllZip (IsRowFile schema) texts files
 
 -- a schema is declared, each file has a header of it, and the file of this number is too long; where no gate stops a
 -- feeder, it is the first one
@@ -86,7 +85,7 @@ pub record ArePastLimit (declared : List ℕ) (texts : List (List ℕ)) : Type 0
   pub limit : ℕ
   pub schema_is : IsSchemaText declared schema limit
   pub rows : List (List Entries)
-  pub first : AreMatched (HasFirstRows schema) texts rows
+  pub first : AllZip (HasFirstRows schema) texts rows
   pub past : limit < sum_by length rows
 
 -- what a fault tells of the bytes of the schema file and of the row files, where a gate may stop a feeder and where
@@ -130,7 +129,7 @@ GaveRows rem source rows = source.end ≡ None → GivesRows rem source rows
 -- the rows that the sources gave are more than the limit
 pub record AreOverLimit {R : Type 0} (rem : R → Option (List ℕ)) (limit : ℕ) (sources : List (Source R)) : Type 0 where
   pub rows : List (List Entries)
-  pub given : AreMatched (GaveRows rem) sources rows
+  pub given : AllZip (GaveRows rem) sources rows
   pub past : limit < sum_by length rows
 
 -- a source of which more was to be read was read out

@@ -10,7 +10,7 @@ ghost use Rattle.bsi_reading.specs.Texts.{FromText};
 ghost use Rattle.bsi_parallel.specs.Replies.{IsRepliedAlone};
 ghost use Rattle.bsi_asks.specs.AskLines.{IsAskLine};
 ghost use Rattle.bsi_asks.specs.Faults.{is_late};
-ghost use Rattle.bsi_asks.specs.Matching.{AreMatched};
+ghost use Rattle.std.specs.List.{AllZip};
 ghost use Rattle.bsi_asks.specs.RowFiles.{fed_counts};
 ghost use Rattle.bsi_asks.specs.Runs.{AreLines};
 ghost use Rattle.bsi_asks.specs.Writing.{AreOut, WritesAll, WritesFirst};
@@ -19,7 +19,8 @@ ghost use Rattle.bsi_files.specs.Batches.{AreFirstReplies, IsTold, TellsAll, Tel
 
 use crate::batches::{Behind, read_batch};
 use crate::{FilesFault, NoMemory};
-use bsi_asks::{Fed, Which, arrange_answer, tell_feds};
+use bsi_asks::{Fed, Which, tell_feds};
+use bsi_groups::arrange_answer;
 use bsi_parallel::ask_all;
 use bsi_reading::{RecordSource, Watched, write_bytes};
 use bsi_records::{write_bad, write_reply};
@@ -65,10 +66,10 @@ fn answer_queries<R: Threads + AllocGlobal + Sync, A: Read + Drop, W: Write>(
 ) -> Result<(), FilesFault>
     ensures late { IfErr result (λ fault. is_late fault ≡ true) }
     ensures ok { OnOk result (IfSome (A.remaining asks) (λ bytes.
-        WritesAll (AreMatched (IsAskLine Script table.now.schema table.now.rows)) bytes
+        WritesAll (AllZip (IsAskLine Script table.now.schema table.now.rows)) bytes
         (W.contents writer.old) (W.contents writer.new))) }
     ensures part { IfErr result (λ fault. IfSome (A.remaining asks) (λ bytes.
-        WritesFirst (AreMatched (IsAskLine Script table.now.schema table.now.rows)) bytes fault
+        WritesFirst (AllZip (IsAskLine Script table.now.schema table.now.rows)) bytes fault
         (W.contents writer.old) (W.contents writer.new))) }
 {
     let mut records = RecordSource::new(rt.alloc(), Watched::new(asks));
@@ -86,10 +87,10 @@ fn answer_batches<R: Threads + AllocGlobal + Sync, A: Read + Drop, W: Write>(
     requires start { reader_state records.old.input ≡ st.StartRecord }
     ensures late { IfErr result (λ fault. is_late fault ≡ true) }
     ensures ok { OnOk result (FromText (source_of (λ w. A.remaining w.inner) records.old.input) (λ bytes.
-        WritesAll (AreMatched (IsAskLine Script table.now.schema table.now.rows)) bytes
+        WritesAll (AllZip (IsAskLine Script table.now.schema table.now.rows)) bytes
         (W.contents writer.old) (W.contents writer.new))) }
     ensures part { IfErr result (λ fault. FromText (source_of (λ w. A.remaining w.inner) records.old.input)
-        (λ bytes. WritesFirst (AreMatched (IsAskLine Script table.now.schema table.now.rows)) bytes fault
+        (λ bytes. WritesFirst (AllZip (IsAskLine Script table.now.schema table.now.rows)) bytes fault
         (W.contents writer.old) (W.contents writer.new))) }
 {
     let mut fields = ByteRecord::new(rt.alloc());

@@ -3,7 +3,7 @@
 ghost use Rattle.std.specs.Prelude.{◌≡◌, ◌≤◌, IfErr, IfOk, length, map, replicate, true};
 ghost use Rattle.bsi_feeding.specs.Feeding.{max_batch_rows};
 ghost use Rattle.bsi_files.specs.Begun.{Begins};
-ghost use Rattle.bsi_asks.specs.Matching.{AreMatched};
+ghost use Rattle.std.specs.List.{AllZip};
 ghost use Rattle.bsi_asks.specs.Faults.{is_of_headers};
 ghost use Rattle.bsi_files.specs.Headers.{IsHeaderFault, IsHeadersFault};
 ghost use Rattle.bsi_rows.specs.Table.{max_feeders};
@@ -26,7 +26,7 @@ pub(crate) fn begin_all<I: Read + Drop>(
     ensures first { IfErr result (λ fault. is_of_headers fault ≡ true) }
     ensures fault { IfErr result (IsHeadersFault schema.now (map I.remaining readers.items)) }
     ensures begun { IfOk result (λ sources.
-        AreMatched (Begins I.remaining schema.now) readers.items sources.items) }
+        AllZip (Begins I.remaining schema.now) readers.items sources.items) }
 {
     let mut sources = Vec::with_capacity(alloc, readers.len())?;
     'files: for reader in readers {

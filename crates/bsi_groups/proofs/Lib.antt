@@ -10,6 +10,7 @@ pub mod ManyNumbers
 pub mod OneColumn
 pub mod Order
 pub mod Remaining
+mod Rising
 pub mod SplitRows
 pub mod Tallied
 pub mod TalliedGroups

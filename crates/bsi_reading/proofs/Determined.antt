@@ -35,6 +35,7 @@ use Rattle.bsi_reading.specs.Pasts.{FindMemory}
 use Rattle.bsi_records.specs.Predicates.{IsPlainPredicate}
 use Rattle.bsi_reading.specs.Scripts.{AreTurns, Declaring, IsTurn, Running, Phase, set_up}
 use Rattle.bsi_records.specs.Setups.{nothing_declared}
+use Rattle.bsi_records.specs.Vocabularies.{schema_words}
 use Rattle.bsi_reading.proofs.Named.{HasNames, turn_named}
 use Rattle.bsi_records.proofs.EventWords.{no_close_total, no_load_total, no_submit_total}
 use Rattle.bsi_records.proofs.Spelling.{query_is_there, same_query}
@@ -156,41 +157,41 @@ is_text : (word text : Field) → bytes_eq word text ≡ true → word ≡ text
 is_text word text is = (bytes_eq-Decides word text).0 is
 
 -- the words of other events are no totals
-no_total : (schema : Declared) (word text : Field) (rest : List Field) → bytes_eq word text ≡ true → total_of schema (text ∷ rest) ≡ None → total_of schema (word ∷ rest) ≡ None
-no_total schema word text rest is none = ap (λ w. total_of schema (w ∷ rest)) (is_text word text is) ∙ none
+no_total : (schema : Declared) (word text : Field) (rest : List Field) → bytes_eq word text ≡ true → total_of (schema_words schema) (text ∷ rest) ≡ None → total_of (schema_words schema) (word ∷ rest) ≡ None
+no_total schema word text rest is none = ap (λ w. total_of (schema_words schema) (w ∷ rest)) (is_text word text is) ∙ none
 
 none_is_event : {P : Type 0} (e : Event) → None ≡ Some e → P
 none_is_event e is = cc is
 
-no_query : (schema : Declared) (word : Field) (feeder : ℕ) (all rest : List Field) (e : Event) → feeder_event schema word feeder rest ≡ Some e → total_of schema (word ∷ all) ≡ None
+no_query : (schema : Declared) (word : Field) (feeder : ℕ) (all rest : List Field) (e : Event) → feeder_event schema word feeder rest ≡ Some e → total_of (schema_words schema) (word ∷ all) ≡ None
 no_query schema word feeder all [] e = by (bytes_eq word (codes "submit")) (bytes_eq word (codes "load")) (bytes_eq word (codes "close")) refl refl refl
   where
     by : (a b c : Bool) → bytes_eq word (codes "submit") ≡ a → bytes_eq word (codes "load") ≡ b → bytes_eq word (codes "close") ≡ c
-        → (if a then Some (Submit feeder []) else (if b then Some (Load feeder) else (if c then Some (Close feeder) else None))) ≡ Some e → total_of schema (word ∷ all) ≡ None
-    by true b c submit load close is = no_total schema word (codes "submit") all submit (no_submit_total schema all)
-    by false true c submit load close is = no_total schema word (codes "load") all load (no_load_total schema all)
-    by false false true submit load close is = no_total schema word (codes "close") all close (no_close_total schema all)
+        → (if a then Some (Submit feeder []) else (if b then Some (Load feeder) else (if c then Some (Close feeder) else None))) ≡ Some e → total_of (schema_words schema) (word ∷ all) ≡ None
+    by true b c submit load close is = no_total schema word (codes "submit") all submit (no_submit_total (schema_words schema) all)
+    by false true c submit load close is = no_total schema word (codes "load") all load (no_load_total (schema_words schema) all)
+    by false false true submit load close is = no_total schema word (codes "close") all close (no_close_total (schema_words schema) all)
     by false false false submit load close is = none_is_event e is
 no_query schema word feeder all (value ∷ values) e = by (bytes_eq word (codes "submit")) refl
   where
     by : (a : Bool) → bytes_eq word (codes "submit") ≡ a
-        → (if a then option_map (Submit feeder) (values_in schema.signed (value ∷ values)) else None) ≡ Some e → total_of schema (word ∷ all) ≡ None
-    by true submit is = no_total schema word (codes "submit") all submit (no_submit_total schema all)
+        → (if a then option_map (Submit feeder) (values_in schema.signed (value ∷ values)) else None) ≡ Some e → total_of (schema_words schema) (word ∷ all) ≡ None
+    by true submit is = no_total schema word (codes "submit") all submit (no_submit_total (schema_words schema) all)
     by false submit is = none_is_event e is
 
 no_query_of : (schema : Declared) (word : Field) (all rest : List Field) (e : Event) (feeder : Option ℕ)
-    → option_and_then (λ f. feeder_event schema word f rest) feeder ≡ Some e → total_of schema (word ∷ all) ≡ None
+    → option_and_then (λ f. feeder_event schema word f rest) feeder ≡ Some e → total_of (schema_words schema) (word ∷ all) ≡ None
 no_query_of schema word all rest e None is = none_is_event e is
 no_query_of schema word all rest e (Some f) is = no_query schema word f all rest e is
 
-plain_no_query : (schema : Declared) (fields : List Field) (e : Event) → plain_event schema fields ≡ Some e → total_of schema fields ≡ None
+plain_no_query : (schema : Declared) (fields : List Field) (e : Event) → plain_event schema fields ≡ Some e → total_of (schema_words schema) fields ≡ None
 plain_no_query schema [] e is = none_is_event e is
 plain_no_query schema (word ∷ []) e is = none_is_event e is
 plain_no_query schema (word ∷ feeder ∷ rest) e is = no_query_of schema word (feeder ∷ rest) rest e (feeder_of feeder) is
 
 not_both : (schema : Declared) (fields : List Field) (e : Event) (query : Query) → plain_event schema fields ≡ Some e → IsQuery schema fields query → ⊥
 not_both schema fields e query is asked =
-    subst (λ found. MatchOption found ⊥ (λ f. (query.total ≡ f.0) × IsPlainPredicate schema f.1 query.pred)) (plain_no_query schema fields e is) asked
+    subst (λ found. MatchOption found ⊥ (λ f. (query.total ≡ f.0) × IsPlainPredicate (schema_words schema) f.1 query.pred)) (plain_no_query schema fields e is) asked
 
 -- ---- a turn
 

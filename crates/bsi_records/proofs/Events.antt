@@ -10,6 +10,7 @@ use Rattle.bsi_records.specs.Events.{IsEvent, IsQuery, feeder_event, only_feeder
 use Rattle.bsi_records.specs.Predicates.{IsPlainPredicate}
 use Rattle.bsi_records.specs.Numbers.{Field, feeder_of, values_in}
 use Rattle.bsi_records.specs.Reading.{IsReadAs}
+use Rattle.bsi_records.specs.Vocabularies.{schema_words}
 use Rattle.bsi_records.proofs.Fields.{behind_word, no_field}
 use Rattle.bsi_records.proofs.SpellWords.{none_is_some, same_bytes}
 
@@ -128,12 +129,12 @@ plain_never_asks schema (word ∷ text ∷ rest) query is = by (feeder_of text) 
     by (Some f) is = never_asks schema word f rest query is
 
 -- what a record that asks for no query is read as
-pub plain_read : (schema : Declared) (fields : List Field) → total_of schema fields ≡ None
+pub plain_read : (schema : Declared) (fields : List Field) → total_of (schema_words schema) fields ≡ None
     → (read : Option Event) → read ≡ plain_event schema fields → IsReadAs (IsEvent schema fields) read
 plain_read schema fields no_total read is = by read is
   where
     no_query : (query : Query) → IsQuery schema fields query → ⊥
-    no_query query asked = subst (λ o. MatchOption o ⊥ (λ found. (query.total ≡ found.0) × IsPlainPredicate schema found.1 query.pred)) no_total asked
+    no_query query asked = subst (λ o. MatchOption o ⊥ (λ found. (query.total ≡ found.0) × IsPlainPredicate (schema_words schema) found.1 query.pred)) no_total asked
 
     none : plain_event schema fields ≡ None → (event : Event) → IsEvent schema fields event → ⊥
     none absent (Submit f row) is = none_is_some (Submit f row) (sym absent ∙ is)

@@ -11,6 +11,7 @@ use Rattle.bsi_records.specs.Numbers.{Field, spelled_number}
 use Rattle.bsi_records.specs.Predicates.{IsPredicate}
 use Rattle.bsi_records.specs.Questions.{asked_total, rank_total, IsQueryIn}
 use Rattle.bsi_records.specs.Reading.{first_as}
+use Rattle.bsi_records.specs.Vocabularies.{schema_words}
 use Rattle.bsi_records.specs.declared.grammar.Grammar.TheVariants.{Index}
 use Rattle.bsi_records.proofs.SpellWords.{mapped, none_is_some, some_same}
 use Rattle.bsi_records.proofs.Spelling.{AsksBy, neither_missing, none_missing, not_missing, total_there}
@@ -18,7 +19,7 @@ use Rattle.std.proofs.lemmas.Option.{option_and_then_some}
 
 -- ---- the columns that a question reads
 
-rank_there : (schema : Declared) (fields : List Field) (found : Total × List Field) → rank_total schema fields ≡ Some found
+rank_there : (schema : Declared) (fields : List Field) (found : Total × List Field) → rank_total (schema_words schema) fields ≡ Some found
     → missing_of (length schema.columns) (columns_of_total found.0) ≡ None
 rank_there schema [] found is = absurd (none_is_some found is)
 rank_there schema (name ∷ others) found is =
@@ -30,21 +31,21 @@ rank_there schema (name ∷ others) found is =
     ∙ ap (λ (p : ℕ × List Field). missing_of (length schema.columns) (p.0 ∷ [])) (sym (some_same (c, others) column same))
     ∙ not_missing schema.columns name c place
 
-asked_there : (schema : Declared) (fields : List Field) (found : Total × List Field) → asked_total schema fields ≡ Some found
+asked_there : (schema : Declared) (fields : List Field) (found : Total × List Field) → asked_total (schema_words schema) fields ≡ Some found
     → missing_of (length schema.columns) (columns_of_total found.0) ≡ None
 asked_there schema [] found is = absurd (none_is_some found is)
 asked_there schema (word ∷ rest) found is = by (bytes_eq word (codes "rank")) is
   where
-    by : (is_rank : Bool) → (if is_rank then rank_total schema rest else total_of schema (word ∷ rest)) ≡ Some found
+    by : (is_rank : Bool) → (if is_rank then rank_total (schema_words schema) rest else total_of (schema_words schema) (word ∷ rest)) ≡ Some found
         → missing_of (length schema.columns) (columns_of_total found.0) ≡ None
     by true is = rank_there schema rest found is
     by false is = total_there schema (word ∷ rest) found is
 
 -- each of them is there
-pub question_is_there : (schema : Declared) (fields : List Field) (query : Query) → IsQueryIn Index schema fields query → missing_column (length schema.columns) query ≡ None
-question_is_there schema fields query is = by (asked_total schema fields) refl is
+pub question_is_there : (schema : Declared) (fields : List Field) (query : Query) → IsQueryIn Index (schema_words schema) fields query → missing_column (length schema.columns) query ≡ None
+question_is_there schema fields query is = by (asked_total (schema_words schema) fields) refl is
   where
-    by : (found : Option (Total × List Field)) → asked_total schema fields ≡ found → AsksBy (IsPredicate schema) found query → missing_column (length schema.columns) query ≡ None
+    by : (found : Option (Total × List Field)) → asked_total (schema_words schema) fields ≡ found → AsksBy (IsPredicate (schema_words schema)) found query → missing_column (length schema.columns) query ≡ None
     by None at none = absurd none
     by (Some found) at parts =
         neither_missing (length schema.columns) (columns_of_total query.total) (columns_of_pred query.pred)

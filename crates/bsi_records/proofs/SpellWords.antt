@@ -1,9 +1,5 @@
 -- Words, names and signs are told apart.
-use Rattle.std.proofs.Common.{◌≡◌, ℕ, Bool, true, false, ◌||◌, not, ◌&&◌, if◌then◌else◌, List, length, get_or, Option, Some, None, option_map, nat_le, true≢false, [], ◌∷◌, pos, ap, sym, ◌∙◌, refl, arith, codes}
-use Rattle.std.specs.Prelude.{◌==◌, ◌^◌, nat_lt, neg_ℤ}
-use Rattle.std.specs.Char.{is_ascii_digit, is_ascii_lowercase}
-use Rattle.std.specs.Str.Parse.{digits_value}
-use Rattle.std.proofs.lemmas.Bool.Decides.{nat_tests}
+use Rattle.std.proofs.Common.{◌≡◌, ℕ, Bool, true, false, ◌||◌, not, ◌&&◌, if◌then◌else◌, List, length, get_or, Option, Some, None, option_map, nat_le, ap, ◌∙◌, refl, codes}
 use Rattle.std.specs.Str.{bytes_eq}
 use Rattle.std.specs.List.{list_all}
 use Rattle.std.proofs.lemmas.Slice.Eq.{bytes_eq-Decides}
@@ -15,9 +11,10 @@ use Rattle.bsi_schema.specs.Columns.{AreNamed, Declared, NamedColumn, no_column,
 use Rattle.bsi_schema.specs.Names.{begins_lower, is_name, is_name_byte, is_word}
 use Rattle.bsi_rows.specs.declared.query.Pred.{Pred}
 use Rattle.bsi_records.specs.declared.predicates.Pending.TheVariants.{Column, Comparison}
-use Rattle.bsi_records.specs.Numbers.{Field, number_in, spelled_number}
+use Rattle.bsi_records.specs.Numbers.{Field}
 use Rattle.bsi_records.specs.Postfix.{after_name, after_word, op_of}
 use Rattle.bsi_records.specs.Predicates.{sign_of}
+use Rattle.bsi_records.specs.Vocabularies.{schema_words, NameNoWord, Words}
 
 pub same_bytes : (a b : Field) → bytes_eq a b ≡ true → a ≡ b
 same_bytes a b same = (bytes_eq-Decides a b).0 same
@@ -66,46 +63,14 @@ no_word columns name c named at =
     let good : is_name name ≡ true = ap is_name same ∙ All-get_or (λ column. is_name column.name ≡ true) columns c no_column found.0 named in
     last_of (begins_lower name) (nat_le (length name) 32) (list_all is_name_byte name) (is_word name) good
 
-first_of : (a b c d : Bool) → (a && b && c && d) ≡ true → a ≡ true
-first_of true b c d is = refl
-first_of false b c d is = is
-
--- it begins with a letter
-pub name_begins : (columns : List NamedColumn) (name : Field) (c : ℕ) → AreNamed columns → position_of columns name ≡ Some c → begins_lower name ≡ true
-name_begins columns name c named at =
-    let found = position-Some (λ (column : NamedColumn). bytes_eq name column.name) columns c no_column at in
-    let same : name ≡ (get_or columns c no_column).name = same_bytes _ _ found.1 in
-    let good : is_name name ≡ true = ap is_name same ∙ All-get_or (λ column. is_name column.name ≡ true) columns c no_column found.0 named in
-    first_of (begins_lower name) (nat_le (length name) 32) (list_all is_name_byte name) (not (is_word name)) good
-
--- and thus spells no number
-letter_no_digit : (byte : ℕ) → is_ascii_lowercase byte ≡ true → is_ascii_digit byte ≡ false
-letter_no_digit byte letter = grind (arith, nat_tests)
-
-letter_no_minus : (byte : ℕ) → is_ascii_lowercase byte ≡ true → (byte == 45) ≡ false
-letter_no_minus byte letter = grind (arith, nat_tests)
-
-none_spelled : (byte : ℕ) (rest : List ℕ) → is_ascii_lowercase byte ≡ true → spelled_number (byte ∷ rest) ≡ None
-none_spelled byte rest letter = ap (λ number. if number then Some (digits_value 10 (byte ∷ rest)) else None) (no_digits (nat_lt 0 (length (byte ∷ rest))) (nat_le (length (byte ∷ rest)) 20) (is_ascii_digit byte) (nat_lt (digits_value 10 (byte ∷ rest)) (2 ^ 64)) (letter_no_digit byte letter))
-  where
-    no_digits : (a b c d : Bool) → c ≡ false → (a && b && (c && list_all is_ascii_digit rest) && d) ≡ false
-    no_digits true true false d none = refl
-    no_digits true false c d none = refl
-    no_digits false b c d none = refl
-    no_digits true true true d none = absurd (true≢false none)
-
-pub no_number : (signed : Bool) (name : Field) → begins_lower name ≡ true → number_in signed name ≡ None
-no_number signed [] letter = absurd (true≢false (sym letter))
-no_number true (byte ∷ rest) letter =
-    ap (λ minus. if minus then option_map (λ n. neg_ℤ (pos n)) (spelled_number rest) else option_map pos (spelled_number (byte ∷ rest))) (letter_no_minus byte letter)
-    ∙ ap (option_map pos) (none_spelled byte rest letter)
-no_number false (byte ∷ rest) letter = ap (option_map pos) (none_spelled byte rest letter)
+pub schema_names : (schema : Declared) → AreNamed schema.columns → NameNoWord (schema_words schema)
+schema_names schema named name c at = no_word schema.columns name c named at
 
 -- so it leads to a column
-pub name_leads : (schema : Declared) (name : Field) (c : ℕ) (stack : List Pred) → AreNamed schema.columns → position_of schema.columns name ≡ Some c
-    → after_word schema stack name ≡ Some (Column c, stack)
-name_leads schema name c stack named at =
-    let apart = none_of (bytes_eq name (codes "all")) (bytes_eq name (codes "null")) (bytes_eq name (codes "and")) (bytes_eq name (codes "or")) (bytes_eq name (codes "not")) (no_word schema.columns name c named at) in
+pub name_leads : (words : Words) (name : Field) (c : ℕ) (stack : List Pred) → NameNoWord words → words.column name ≡ Some c
+    → after_word words stack name ≡ Some (Column c, stack)
+name_leads words name c stack named at =
+    let apart = none_of (bytes_eq name (codes "all")) (bytes_eq name (codes "null")) (bytes_eq name (codes "and")) (bytes_eq name (codes "or")) (bytes_eq name (codes "not")) (named name c at) in
     rw (apart.0, apart.1, apart.2, apart.3, at) refl
 
 -- a sign leads to a comparison

@@ -20,8 +20,9 @@ use Rattle.bsi_records.specs.Events.{column_total, total_of, total_of_column, Is
 use Rattle.bsi_records.specs.Numbers.{Field}
 use Rattle.bsi_records.specs.Postfix.{after_fields, begun, plain, ready, State}
 use Rattle.bsi_records.specs.Predicates.{compares_columns, IsPlainPredicate, IsPredicate, Spells}
+use Rattle.bsi_records.specs.Vocabularies.{schema_words, NameNoWord, Words}
 use Rattle.bsi_records.proofs.SpellReading.{is_read, is_spelled, only_at}
-use Rattle.bsi_records.proofs.SpellWords.{if_same, mapped, none_is_some, some_same}
+use Rattle.bsi_records.proofs.SpellWords.{if_same, mapped, none_is_some, schema_names, some_same}
 
 abbrev with : List Field → Total → Total × List Field
 with rest total = (total, rest)
@@ -67,17 +68,17 @@ unfolding only_at
 one_of None = inr (λ P is. none_is_some P (ap only_at is))
 one_of (Some state) = alone state.0 state.1
 
-pub spelled_or_not : (schema : Declared) → AreNamed schema.columns → (fields : List Field) → ((P : Pred) × Spells schema fields P) ⊎ ((P : Pred) → Spells schema fields P → ⊥)
-spelled_or_not schema named fields = elim (one_of (after_fields schema fields Nothing [])) [
-  | inl found ↦ inl (found.0, is_spelled schema fields found.0 found.1)
-  | inr none ↦ inr (λ P spelled. none (plain P) (is_read schema named fields P spelled))
+pub spelled_or_not : (words : Words) → NameNoWord words → (fields : List Field) → ((P : Pred) × Spells words fields P) ⊎ ((P : Pred) → Spells words fields P → ⊥)
+spelled_or_not words named fields = elim (one_of (after_fields words fields Nothing [])) [
+  | inl found ↦ inl (found.0, is_spelled words fields found.0 found.1)
+  | inr none ↦ inr (λ P spelled. none (plain P) (is_read words named fields P spelled))
 ]
 
 -- two predicates that the same fields spell are one, wherever their boxes lie
-pub same_plain : (schema : Declared) → AreNamed schema.columns → (fields : List Field) (P Q : Pred) → Spells schema fields P → Spells schema fields Q → plain P ≡ plain Q
+pub same_plain : (words : Words) → NameNoWord words → (fields : List Field) (P Q : Pred) → Spells words fields P → Spells words fields Q → plain P ≡ plain Q
 unfolding only_at
-same_plain schema named fields P Q one two =
-    some_same (plain P) (plain Q) (ap only_at (sym (is_read schema named fields P one) ∙ is_read schema named fields Q two))
+same_plain words named fields P Q one two =
+    some_same (plain P) (plain Q) (ap only_at (sym (is_read words named fields P one) ∙ is_read words named fields Q two))
 
 -- a predicate means the same, wherever its boxes lie
 holds_plain : (P : Pred) (row : Entries) → holds (plain P) row ≡ holds P row
@@ -90,10 +91,10 @@ holds_plain (Either' p first q second) row = ap₂ (λ a b. a || b) (holds_plain
 holds_plain (Not' p pred) row = ap not (holds_plain pred row)
 
 -- two predicates that the same fields spell mean the same
-pub same_meaning : (schema : Declared) → AreNamed schema.columns → (fields : List Field) (P Q : Pred) → Spells schema fields P → Spells schema fields Q
+pub same_meaning : (words : Words) → NameNoWord words → (fields : List Field) (P Q : Pred) → Spells words fields P → Spells words fields Q
     → (row : Entries) → holds P row ≡ holds Q row
-same_meaning schema named fields P Q one two row =
-    sym (holds_plain P row) ∙ ap (λ R. holds R row) (same_plain schema named fields P Q one two) ∙ holds_plain Q row
+same_meaning words named fields P Q one two row =
+    sym (holds_plain P row) ∙ ap (λ R. holds R row) (same_plain words named fields P Q one two) ∙ holds_plain Q row
 
 -- a column that is there is not missing
 pub not_missing : (columns : List NamedColumn) (name : Field) (c : ℕ) → position_of columns name ≡ Some c → missing_of (length columns) (c ∷ []) ≡ None
@@ -106,12 +107,12 @@ pub neither_missing : (count : ℕ) (first second : List ℕ) → missing_of cou
 neither_missing count first second one two = find-append (λ k. nat_le count k) first second ∙ ap (λ o. option_or o (missing_of count second)) one ∙ two
 
 -- the columns of a predicate that is spelled are there
-pub none_missing : (schema : Declared) (fields : List Field) (P : Pred) → Spells schema fields P → missing_of (length schema.columns) (columns_of_pred P) ≡ None
+pub none_missing : (schema : Declared) (fields : List Field) (P : Pred) → Spells (schema_words schema) fields P → missing_of (length schema.columns) (columns_of_pred P) ≡ None
 unfolding Spells
 none_missing schema fields All spelled = refl
-none_missing schema fields (Compare c op n) spelled = not_missing schema.columns spelled.0 c spelled.3
+none_missing schema fields (Compare c op n) spelled = not_missing schema.columns spelled.0 c spelled.4
 none_missing schema fields (Columns a op b) spelled =
-    neither_missing (length schema.columns) (a ∷ []) (b ∷ []) (not_missing schema.columns spelled.0 a spelled.3) (not_missing schema.columns spelled.1 b spelled.4)
+    neither_missing (length schema.columns) (a ∷ []) (b ∷ []) (not_missing schema.columns spelled.0 a spelled.3) (not_missing schema.columns spelled.1 b spelled.5)
 none_missing schema fields (Null c) spelled = not_missing schema.columns spelled.0 c spelled.2
 none_missing schema fields (Both' p first q second) spelled =
     neither_missing _ (columns_of_pred first) (columns_of_pred second) (none_missing schema spelled.0 first spelled.3) (none_missing schema spelled.1 second spelled.4)
@@ -120,10 +121,10 @@ none_missing schema fields (Either' p first q second) spelled =
 none_missing schema fields (Not' p pred) spelled = none_missing schema spelled.0 pred spelled.2
 
 -- whether the fields are a predicate
-pub predicate_or_not : (schema : Declared) → AreNamed schema.columns → (fields : List Field) → ((P : Pred) × IsPredicate schema fields P) ⊎ ((P : Pred) → IsPredicate schema fields P → ⊥)
-predicate_or_not schema named fields = elim (cases_lt 1000 (length fields)) [
+pub predicate_or_not : (words : Words) → NameNoWord words → (fields : List Field) → ((P : Pred) × IsPredicate words fields P) ⊎ ((P : Pred) → IsPredicate words fields P → ⊥)
+predicate_or_not words named fields = elim (cases_lt 1000 (length fields)) [
   | inl many ↦ inr (λ P is. omega (arith, many, is.0))
-  | inr few ↦ elim (spelled_or_not schema named fields) [
+  | inr few ↦ elim (spelled_or_not words named fields) [
     | inl found ↦ inl (found.0, (few, found.1))
     | inr none ↦ inr (λ P is. none P is.1)
   ]
@@ -140,44 +141,44 @@ compares_plain (Either' p first q second) = ap₂ (λ a b. a || b) (compares_pla
 compares_plain (Not' p pred) = compares_plain pred
 
 -- where one that is spelled compares columns, each that the same fields spell does
-pub not_plain : (schema : Declared) → AreNamed schema.columns → (fields : List Field) (P : Pred) → IsPredicate schema fields P → compares_columns P ≡ true
-    → (Q : Pred) → IsPlainPredicate schema fields Q → ⊥
-not_plain schema named fields P is compares Q other =
+pub not_plain : (words : Words) → NameNoWord words → (fields : List Field) (P : Pred) → IsPredicate words fields P → compares_columns P ≡ true
+    → (Q : Pred) → IsPlainPredicate words fields Q → ⊥
+not_plain words named fields P is compares Q other =
     let same : compares_columns P ≡ compares_columns Q =
-    sym (compares_plain P) ∙ ap compares_columns (same_plain schema named fields P Q is.1 other.0.1) ∙ compares_plain Q in
+    sym (compares_plain P) ∙ ap compares_columns (same_plain words named fields P Q is.1 other.0.1) ∙ compares_plain Q in
     true≢false (sym compares ∙ same ∙ other.1)
 
 -- whether the fields are a predicate without such a comparison
-plain_or_not : (schema : Declared) → AreNamed schema.columns → (fields : List Field)
-    → ((P : Pred) × IsPlainPredicate schema fields P) ⊎ ((P : Pred) → IsPlainPredicate schema fields P → ⊥)
-plain_or_not schema named fields = elim (predicate_or_not schema named fields) [
+plain_or_not : (words : Words) → NameNoWord words → (fields : List Field)
+    → ((P : Pred) × IsPlainPredicate words fields P) ⊎ ((P : Pred) → IsPlainPredicate words fields P → ⊥)
+plain_or_not words named fields = elim (predicate_or_not words named fields) [
   | inr none ↦ inr (λ P is. none P is.0)
   | inl found ↦ elim (cases_Bool (compares_columns found.0)) [
-    | inl compares ↦ inr (not_plain schema named fields found.0 found.1 compares)
+    | inl compares ↦ inr (not_plain words named fields found.0 found.1 compares)
     | inr plain ↦ inl (found.0, (found.1, plain))
   ]
 ]
 
 -- whether the fields are a query
 pub query_or_not : (schema : Declared) → AreNamed schema.columns → (fields : List Field) → ((query : Query) × IsQuery schema fields query) ⊎ ((query : Query) → IsQuery schema fields query → ⊥)
-query_or_not schema named fields = by (total_of schema fields) refl
+query_or_not schema named fields = by (total_of (schema_words schema) fields) refl
   where
     Is : List Field → Pred → Type 0
-    Is rest P = IsPlainPredicate schema rest P
+    Is rest P = IsPlainPredicate (schema_words schema) rest P
 
-    by : (found : Option (Total × List Field)) → found ≡ total_of schema fields → ((query : Query) × IsQuery schema fields query) ⊎ ((query : Query) → IsQuery schema fields query → ⊥)
-    by None is = inr (no_total_query Is (total_of schema fields) is)
-    by (Some found) is = elim (plain_or_not schema named found.1) [
-      | inl that ↦ inl (record { total = found.0; pred = that.0 }, is_query Is (total_of schema fields) (record { total = found.0; pred = that.0 }) found.1 is that.1)
-      | inr none ↦ inr (no_predicate_query Is (total_of schema fields) found.0 found.1 is none)
+    by : (found : Option (Total × List Field)) → found ≡ total_of (schema_words schema) fields → ((query : Query) × IsQuery schema fields query) ⊎ ((query : Query) → IsQuery schema fields query → ⊥)
+    by None is = inr (no_total_query Is (total_of (schema_words schema) fields) is)
+    by (Some found) is = elim (plain_or_not (schema_words schema) (schema_names schema named) found.1) [
+      | inl that ↦ inl (record { total = found.0; pred = that.0 }, is_query Is (total_of (schema_words schema) fields) (record { total = found.0; pred = that.0 }) found.1 is that.1)
+      | inr none ↦ inr (no_predicate_query Is (total_of (schema_words schema) fields) found.0 found.1 is none)
     ]
 
 -- what a query says of the total that is found
 query_at : (schema : Declared) (fields : List Field) (query : Query) {G : Type 0} → IsQuery schema fields query
-    → ((found : Total × List Field) → total_of schema fields ≡ Some found → query.total ≡ found.0 → IsPlainPredicate schema found.1 query.pred → G) → G
-query_at schema fields query {G} is k = by (total_of schema fields) refl is
+    → ((found : Total × List Field) → total_of (schema_words schema) fields ≡ Some found → query.total ≡ found.0 → IsPlainPredicate (schema_words schema) found.1 query.pred → G) → G
+query_at schema fields query {G} is k = by (total_of (schema_words schema) fields) refl is
   where
-    by : (found : Option (Total × List Field)) → total_of schema fields ≡ found → MatchOption found ⊥ (λ found. (query.total ≡ found.0) × IsPlainPredicate schema found.1 query.pred) → G
+    by : (found : Option (Total × List Field)) → total_of (schema_words schema) fields ≡ found → MatchOption found ⊥ (λ found. (query.total ≡ found.0) × IsPlainPredicate (schema_words schema) found.1 query.pred) → G
     by None at none = absurd none
     by (Some found) at parts = k found at parts.0 parts.1
 
@@ -189,7 +190,7 @@ same_query schema named fields first second one two =
     query_at schema fields second two λ other at_other total_other pred_other.
     let same : other ≡ found = some_same other found (sym at_other ∙ at) in (
       total ∙ ap (λ (f : Total × List Field). f.0) (sym same) ∙ sym total_other,
-      λ row. same_meaning schema named found.1 first.pred second.pred pred.0.1 (subst (λ (f : Total × List Field). Spells schema f.1 second.pred) same pred_other.0.1) row,
+      λ row. same_meaning (schema_words schema) (schema_names schema named) found.1 first.pred second.pred pred.0.1 (subst (λ (f : Total × List Field). Spells (schema_words schema) f.1 second.pred) same pred_other.0.1) row,
     )
 
 -- the column of a total is there
@@ -201,7 +202,7 @@ makes_one word makes c is =
     if_same word (codes "median") (Some Median) _ (Some makes) is (λ _ at. ap (λ (m : ℕ → Total). columns_of_total (m c)) (sym (some_same Median makes at))) λ is.
     absurd (none_is_some makes is)
 
-column_total_there : (schema : Declared) (word : Field) (rest : List Field) (found : Total × List Field) → column_total schema word rest ≡ Some found
+column_total_there : (schema : Declared) (word : Field) (rest : List Field) (found : Total × List Field) → column_total (schema_words schema) word rest ≡ Some found
     → missing_of (length schema.columns) (columns_of_total found.0) ≡ None
 column_total_there schema word [] found is = absurd (none_is_some found is)
 column_total_there schema word (name ∷ rest) found is =
@@ -210,7 +211,7 @@ column_total_there schema word (name ∷ rest) found is =
     ap (λ (f : Total × List Field). missing_of (length schema.columns) (columns_of_total f.0)) (sym (some_same (with rest (makes c)) found is))
     ∙ ap (missing_of (length schema.columns)) (makes_one word makes c word_is) ∙ not_missing schema.columns name c place
 
-pub total_there : (schema : Declared) (fields : List Field) (found : Total × List Field) → total_of schema fields ≡ Some found
+pub total_there : (schema : Declared) (fields : List Field) (found : Total × List Field) → total_of (schema_words schema) fields ≡ Some found
     → missing_of (length schema.columns) (columns_of_total found.0) ≡ None
 total_there schema [] found is = absurd (none_is_some found is)
 total_there schema (word ∷ rest) found is =

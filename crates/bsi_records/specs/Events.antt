@@ -3,12 +3,13 @@ use Rattle.std.specs.Prelude.{◌≡◌, ℕ, if◌then◌else◌, List, [], ◌
 use Rattle.std.specs.Str.{bytes_eq}
 use Rattle.bsi_rows.specs.declared.event.Event.{Event}
 use Rattle.bsi_rows.specs.declared.event.Event.TheVariants.{Submit, Load, Close, Ask}
-use Rattle.bsi_schema.specs.Columns.{Declared, position_of}
+use Rattle.bsi_schema.specs.Columns.{Declared}
 use Rattle.bsi_rows.specs.declared.query.Query.{Query}
 use Rattle.bsi_rows.specs.declared.query.Total.{Total}
 use Rattle.bsi_rows.specs.declared.query.Total.TheVariants.{Count, Sum, Least, Greatest, Median, Rows}
 use Rattle.bsi_records.specs.Numbers.{Field, feeder_of, values_in}
 use Rattle.bsi_records.specs.Predicates.{IsPlainPredicate}
+use Rattle.bsi_records.specs.Vocabularies.{schema_words, Words}
 
 -- the total of a column that a word asks for
 abbrev pub total_of_column : Field → Option (ℕ → Total)
@@ -21,24 +22,25 @@ total_of_column word =
 
 -- the total of a column that a record with this first word asks for, by the fields after the word, and the fields of
 -- its predicate, which stand after the column's name
-abbrev pub column_total : Declared → Field → List Field → Option (Total × List Field)
-column_total schema word [] = None
-column_total schema word (name ∷ rest) =
-    option_and_then (λ total. option_map (λ c. (total c, rest)) (position_of schema.columns name))
+abbrev pub column_total : Words → Field → List Field → Option (Total × List Field)
+column_total words word [] = None
+column_total words word (name ∷ rest) =
+    option_and_then (λ total. option_map (λ c. (total c, rest)) (words.column name))
     (total_of_column word)
 
 -- the total that a record asks for, and the fields of its predicate
-abbrev pub total_of : Declared → List Field → Option (Total × List Field)
-total_of schema [] = None
-total_of schema (word ∷ rest) =
+abbrev pub total_of : Words → List Field → Option (Total × List Field)
+total_of words [] = None
+total_of words (word ∷ rest) =
     if bytes_eq word (codes "count") then Some (Count, rest)
     else (if bytes_eq word (codes "list") then Some (Rows, rest)
-    else column_total schema word rest)
+    else column_total words word rest)
 
 -- the record asks for this query
 abbrev pub IsQuery : Declared → List Field → Query → Type 0
 IsQuery schema fields query =
-    MatchOption (total_of schema fields) ⊥ (λ (total, rest). (query.total ≡ total) × IsPlainPredicate schema rest query.pred)
+    MatchOption (total_of (schema_words schema) fields) ⊥
+    (λ (total, rest). (query.total ≡ total) × IsPlainPredicate (schema_words schema) rest query.pred)
 
 -- the event of a record that names a feeder, by the fields after the feeder's
 abbrev pub feeder_event : Declared → Field → ℕ → List Field → Option Event

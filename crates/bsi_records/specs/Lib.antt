@@ -6,3 +6,4 @@ pub mod Predicates
 pub mod Questions
 pub mod Reading
 pub mod Setups
+pub mod Vocabularies

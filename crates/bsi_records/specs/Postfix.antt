@@ -6,14 +6,14 @@ use Rattle.std.specs.Str.{bytes_eq}
 use Rattle.std.specs.declared.alloc.Global.{Global}
 use Rattle.bsi_orders.specs.declared.op.Op.{Op}
 use Rattle.bsi_orders.specs.declared.op.Op.TheVariants.{Eq, Ne, Lt, Le, Gt, Ge}
-use Rattle.bsi_schema.specs.Columns.{Declared, position_of}
 use Rattle.bsi_rows.specs.declared.query.Pred.{Pred, All, Compare, Columns, Null, Both', Either', Not'}
 use Rattle.bsi_records.specs.declared.grammar.QuestionError.{QuestionError}
 use Rattle.bsi_records.specs.declared.grammar.QuestionError.TheVariants.{NoMemory, Stopped}
 use Rattle.bsi_records.specs.declared.grammar.Stop.{Stop}
 use Rattle.bsi_records.specs.declared.predicates.Pending.{Pending}
 use Rattle.bsi_records.specs.declared.predicates.Pending.TheVariants.{Nothing, Column, Comparison}
-use Rattle.bsi_records.specs.Numbers.{Field, number_in}
+use Rattle.bsi_records.specs.Numbers.{Field}
+use Rattle.bsi_records.specs.Vocabularies.{Words}
 
 -- a box at no address
 abbrev pub nowhere : Box (Unit {0}) Global
@@ -73,13 +73,13 @@ negated (pred ∷ stack) = ready (Not' nowhere pred ∷ stack)
 negated [] = None
 
 -- after the first field of a token: a word, or a column's name
-abbrev pub after_word : Declared → List Pred → Field → Option State
-after_word schema stack field =
+abbrev pub after_word : Words → List Pred → Field → Option State
+after_word words stack field =
     if bytes_eq field (codes "all") then ready (All ∷ stack)
     else (if bytes_eq field (codes "and") then joined true stack
     else (if bytes_eq field (codes "or") then joined false stack
     else (if bytes_eq field (codes "not") then negated stack
-    else option_map (λ c. (Column c, stack)) (position_of schema.columns field))))
+    else option_map (λ c. (Column c, stack)) (words.column field))))
 
 -- the comparison of this sign
 abbrev pub op_of : Field → Option Op
@@ -98,23 +98,23 @@ after_name c stack field =
     if bytes_eq field (codes "null") then ready (Null c ∷ stack)
     else option_map (λ op. (Comparison c op, stack)) (op_of field)
 
--- after the field that follows a sign: a number, or else a column's name
-abbrev pub after_sign : Declared → ℕ → Op → List Pred → Field → Option State
-after_sign schema c op stack field =
-    option_or (option_map (λ n. (Nothing, Compare c op n ∷ stack)) (number_in schema.signed field))
-    (option_map (λ other. (Nothing, Columns c op other ∷ stack)) (position_of schema.columns field))
+-- after the field that follows a sign: a constant, or else a column's name
+abbrev pub after_sign : Words → ℕ → Op → List Pred → Field → Option State
+after_sign words c op stack field =
+    option_or (option_map (λ (other, n). (Nothing, Compare c other n ∷ stack)) (words.comparison c op field))
+    (option_map (λ other. (Nothing, Columns c op other ∷ stack)) (words.column field))
 
 -- after one more field, none where no predicate goes on so
-abbrev pub after_field : Declared → Pending → List Pred → Field → Option State
-after_field schema Nothing stack field = after_word schema stack field
-after_field schema (Column c) stack field = after_name c stack field
-after_field schema (Comparison c op) stack field = after_sign schema c op stack field
+abbrev pub after_field : Words → Pending → List Pred → Field → Option State
+after_field words Nothing stack field = after_word words stack field
+after_field words (Column c) stack field = after_name c stack field
+after_field words (Comparison c op) stack field = after_sign words c op stack field
 
 -- after all of these fields
-unfoldable pub after_fields : Declared → List Field → Pending → List Pred → Option State
-after_fields schema [] pending stack = begun pending stack
-after_fields schema (field ∷ fields) pending stack =
-    option_and_then (λ (next, preds). after_fields schema fields next preds) (after_field schema pending stack field)
+unfoldable pub after_fields : Words → List Field → Pending → List Pred → Option State
+after_fields words [] pending stack = begun pending stack
+after_fields words (field ∷ fields) pending stack =
+    option_and_then (λ (next, preds). after_fields words fields next preds) (after_field words pending stack field)
 
 -- the only predicate, where nothing else has begun
 abbrev pub only_of : Pending → List Pred → Option Pred

@@ -2,7 +2,6 @@
 
 ghost use Rattle.std.specs.Prelude.{◌≡◌, IfOk};
 ghost use Rattle.csv.specs.Records.{fields_of};
-ghost use Rattle.bsi_schema.specs.Columns.{position_of};
 ghost use Rattle.bsi_records.specs.Numbers.{spelled_number};
 ghost use Rattle.bsi_records.specs.Reading.{first_as, texts, was_read};
 
@@ -10,7 +9,7 @@ use crate::NoMemory;
 use crate::grammar::{Expected, Stop};
 use crate::numbers::read_number;
 use crate::records::field;
-use bsi_rows::Schema;
+use crate::vocabulary::Vocabulary;
 use csv::ByteRecord;
 use std::alloc::Global;
 
@@ -26,16 +25,16 @@ pub fn lend_fields(alloc: Global, fields: &ByteRecord) -> Result<Vec<&[u8]>, NoM
 }
 
 /// Reads the name of a column, and lends the fields behind it.
-pub(crate) fn read_column<'f>(
-    schema: &Schema,
+pub(crate) fn read_column<'f, V: Vocabulary>(
+    vocabulary: &V,
     fields: &'f [&'f [u8]],
 ) -> Result<(u32, &'f [&'f [u8]]), Stop>
-    ensures { was_read result ≡ first_as (position_of schema.now.columns) (texts fields.now) }
+    ensures { was_read result ≡ first_as (V.words vocabulary.now).column (texts fields.now) }
 {
     let Some((name, rest)) = fields.split_first() else {
         return Err(Stop::before(fields, Expected::Column));
     };
-    match schema.find(name) {
+    match vocabulary.find_column(name) {
         Some(c) => Ok((c, rest)),
         None => Err(Stop::before(fields, Expected::Column)),
     }

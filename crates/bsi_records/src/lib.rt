@@ -11,6 +11,7 @@ mod queries;
 mod questions;
 mod records;
 mod setups;
+mod vocabulary;
 
 pub use grammar::{Expected, Grammar, QuestionError, Stop};
 pub use heads::lend_fields;
@@ -22,3 +23,4 @@ pub use questions::{MAX_GROUP_COLUMNS, read_question};
 pub use records::{field, read_event, read_row};
 pub use setups::{DeclaredTable, Setup, is_begin, read_setup};
 pub use std::alloc::AllocError as NoMemory;
+pub use vocabulary::Vocabulary;

@@ -13,9 +13,8 @@ ghost use Rattle.bsi_records.specs.declared.predicates.Pending.TheVariants.{Noth
 
 use crate::NoMemory;
 use crate::grammar::{Expected, Grammar, QuestionError, Stop};
-use crate::numbers::read_in;
-use bsi_rows::{Op, Pred, Schema};
-use bsi_schema::MAX_COLUMNS;
+use crate::vocabulary::Vocabulary;
+use bsi_rows::{Op, Pred};
 use std::alloc::Global;
 
 /// The most fields of a predicate.
@@ -44,27 +43,27 @@ impl Pending {
 }
 
 /// Reads fields as a predicate of the grammar.
-pub(crate) fn read_predicate_in(
+pub(crate) fn read_predicate_in<V: Vocabulary>(
     alloc: Global,
-    schema: &Schema,
+    vocabulary: &V,
     grammar: Grammar,
     fields: &[&[u8]],
 ) -> Result<Pred, QuestionError>
-    ensures { IsAsked (IsPredicateIn grammar schema.now (texts fields.now)) result }
+    ensures { IsAsked (IsPredicateIn grammar (V.words vocabulary.now) (texts fields.now)) result }
 {
     match grammar {
-        Grammar::Script => read_plain_predicate(alloc, schema, fields),
-        Grammar::Index => read_predicate(alloc, schema, fields),
+        Grammar::Script => read_plain_predicate(alloc, vocabulary, fields),
+        Grammar::Index => read_predicate(alloc, vocabulary, fields),
     }
 }
 
 /// Reads fields as a predicate, at most 1,000 of them. It allocates memory for each part of the predicate.
-pub fn read_predicate(
+pub fn read_predicate<V: Vocabulary>(
     alloc: Global,
-    schema: &Schema,
+    vocabulary: &V,
     fields: &[&[u8]],
 ) -> Result<Pred, QuestionError>
-    ensures { IsAsked (IsPredicate schema.now (texts fields.now)) result }
+    ensures { IsAsked (IsPredicate (V.words vocabulary.now) (texts fields.now)) result }
 {
     if fields.len() > MAX_PREDICATE_FIELDS {
         return Err(QuestionError::Stopped(Stop {
@@ -72,24 +71,22 @@ pub fn read_predicate(
             expected: Expected::NoField,
         }));
     }
-    // The call makes the schema's invariant known to the proof: a column's name is none of the words.
-    prove!(schema.columns() <= MAX_COLUMNS);
+    vocabulary.know_names();
     let mut stack = Vec::new(alloc);
-    let pending = read_fields(alloc, schema, fields, &mut stack)?;
+    let pending = read_fields(alloc, vocabulary, fields, &mut stack)?;
     Ok(take_only(pending, &mut stack)?)
 }
 
 /// Reads fields as a predicate that compares columns with constants alone.
-fn read_plain_predicate(
+fn read_plain_predicate<V: Vocabulary>(
     alloc: Global,
-    schema: &Schema,
+    vocabulary: &V,
     fields: &[&[u8]],
 ) -> Result<Pred, QuestionError>
-    ensures { IsAsked (IsPlainPredicate schema.now (texts fields.now)) result }
+    ensures { IsAsked (IsPlainPredicate (V.words vocabulary.now) (texts fields.now)) result }
 {
-    // The call makes the schema's invariant known to the proof.
-    prove!(schema.columns() <= MAX_COLUMNS);
-    let pred = read_predicate(alloc, schema, fields)?;
+    vocabulary.know_names();
+    let pred = read_predicate(alloc, vocabulary, fields)?;
     if compares_columns(&pred) {
         return Err(QuestionError::Stopped(Stop::before(fields, Expected::PlainPredicate)));
     }
@@ -111,18 +108,18 @@ fn compares_columns(pred: &Pred) -> bool
 }
 
 /// Reads fields, and returns what the last ones have begun.
-fn read_fields(
+fn read_fields<V: Vocabulary>(
     alloc: Global,
-    schema: &Schema,
+    vocabulary: &V,
     fields: &[&[u8]],
     stack: &mut Vec<Pred>,
 ) -> Result<Pending, QuestionError>
     ensures { IsState result stack.new.items
-        (after_fields schema.now (texts fields.now) Nothing (newest_first stack.old.items)) }
+        (after_fields (V.words vocabulary.now) (texts fields.now) Nothing (newest_first stack.old.items)) }
 {
     let mut pending = Pending::Nothing;
     'fields: for (place, text) in fields.iter().enumerate() {
-        let Some(next) = read_field(alloc, schema, pending, text, stack)? else {
+        let Some(next) = read_field(alloc, vocabulary, pending, text, stack)? else {
             return Err(QuestionError::Stopped(Stop {
                 left: fields.len() - place,
                 expected: pending.expected(),
@@ -134,32 +131,32 @@ fn read_fields(
 }
 
 /// Reads one more field.
-fn read_field(
+fn read_field<V: Vocabulary>(
     alloc: Global,
-    schema: &Schema,
+    vocabulary: &V,
     pending: Pending,
     field: &[u8],
     stack: &mut Vec<Pred>,
 ) -> Result<Option<Pending>, NoMemory>
     ensures { IfOk result (λ read. state_of read stack.new.items
-        ≡ after_field schema.now pending (newest_first stack.old.items) field.now) }
+        ≡ after_field (V.words vocabulary.now) pending (newest_first stack.old.items) field.now) }
 {
     match pending {
-        Pending::Nothing => read_word(alloc, schema, field, stack),
+        Pending::Nothing => read_word(alloc, vocabulary, field, stack),
         Pending::Column(c) => read_after_name(c, field, stack),
-        Pending::Comparison(c, op) => read_after_sign(schema, c, op, field, stack),
+        Pending::Comparison(c, op) => read_after_sign(vocabulary, c, op, field, stack),
     }
 }
 
 /// Reads the first field of a token.
-fn read_word(
+fn read_word<V: Vocabulary>(
     alloc: Global,
-    schema: &Schema,
+    vocabulary: &V,
     field: &[u8],
     stack: &mut Vec<Pred>,
 ) -> Result<Option<Pending>, NoMemory>
     ensures { IfOk result (λ read. state_of read stack.new.items
-        ≡ after_word schema.now (newest_first stack.old.items) field.now) }
+        ≡ after_word (V.words vocabulary.now) (newest_first stack.old.items) field.now) }
 {
     if field == b"all".as_slice() {
         stack.push(Pred::All)?;
@@ -174,7 +171,7 @@ fn read_word(
     if field == b"not".as_slice() {
         return negate(alloc, stack);
     }
-    Ok(schema.find(field).map(Pending::Column))
+    Ok(vocabulary.find_column(field).map(Pending::Column))
 }
 
 /// Reads the field that follows the name of column `c`.
@@ -189,20 +186,20 @@ fn read_after_name(c: u32, field: &[u8], stack: &mut Vec<Pred>) -> Result<Option
     Ok(read_op(field).map(|op| Pending::Comparison(c, op)))
 }
 
-/// Reads the number, or the name of another column, that column `c` is compared with. No name is a number.
-fn read_after_sign(
-    schema: &Schema,
+/// Reads the constant that column `c` is compared with or, if the field is none, the name of another column.
+fn read_after_sign<V: Vocabulary>(
+    vocabulary: &V,
     c: u32,
     op: Op,
     field: &[u8],
     stack: &mut Vec<Pred>,
 ) -> Result<Option<Pending>, NoMemory>
     ensures { IfOk result (λ read. state_of read stack.new.items
-        ≡ after_sign schema.now c op (newest_first stack.old.items) field.now) }
+        ≡ after_sign (V.words vocabulary.now) c op (newest_first stack.old.items) field.now) }
 {
-    let pred = match read_in(schema.signed(), field) {
-        Some(n) => Pred::Compare(c, op, n),
-        None => match schema.find(field) {
+    let pred = match vocabulary.read_comparison(c, op, field) {
+        Some((op, n)) => Pred::Compare(c, op, n),
+        None => match vocabulary.find_column(field) {
             Some(other) => Pred::Columns(c, op, other),
             None => return Ok(None),
         },

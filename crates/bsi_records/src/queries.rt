@@ -10,6 +10,7 @@ use crate::NoMemory;
 use crate::grammar::{Expected, Grammar, QuestionError, Stop};
 use crate::heads::{lend_fields, read_column, read_count};
 use crate::predicates::read_predicate_in;
+use crate::vocabulary::Vocabulary;
 use bsi_rows::{Query, Schema, Total};
 use csv::ByteRecord;
 use std::alloc::Global;
@@ -34,64 +35,67 @@ pub fn read_query(
 
 /// Reads fields as a query: a total, and then the fields of a predicate in postfix order, at most 1,000. It allocates
 /// memory for each part of the predicate.
-pub fn read_query_in(
+pub fn read_query_in<V: Vocabulary>(
     alloc: Global,
-    schema: &Schema,
+    vocabulary: &V,
     grammar: Grammar,
     fields: &[&[u8]],
 ) -> Result<Query, QuestionError>
-    ensures { IsAsked (IsQueryIn grammar schema.now (texts fields.now)) result }
+    ensures { IsAsked (IsQueryIn grammar (V.words vocabulary.now) (texts fields.now)) result }
 {
-    let (total, rest) = read_total(schema, grammar, fields)?;
-    let pred = read_predicate_in(alloc, schema, grammar, rest)?;
+    let (total, rest) = read_total(vocabulary, grammar, fields)?;
+    let pred = read_predicate_in(alloc, vocabulary, grammar, rest)?;
     Ok(Query { total, pred })
 }
 
 /// Reads the total that fields begin with, and lends the fields behind it.
-pub(crate) fn read_total<'f>(
-    schema: &Schema,
+pub(crate) fn read_total<'f, V: Vocabulary>(
+    vocabulary: &V,
     grammar: Grammar,
     fields: &'f [&'f [u8]],
 ) -> Result<(Total, &'f [&'f [u8]]), Stop>
-    ensures { was_read result ≡ total_in grammar schema.now (texts fields.now) }
+    ensures { was_read result ≡ total_in grammar (V.words vocabulary.now) (texts fields.now) }
 {
     match grammar {
-        Grammar::Script => read_script_total(schema, fields),
-        Grammar::Index => read_index_total(schema, fields),
+        Grammar::Script => read_script_total(vocabulary, fields),
+        Grammar::Index => read_index_total(vocabulary, fields),
     }
 }
 
 /// Reads the total of an index that fields begin with, and lends the fields behind it.
-fn read_index_total<'f>(
-    schema: &Schema,
+fn read_index_total<'f, V: Vocabulary>(
+    vocabulary: &V,
     fields: &'f [&'f [u8]],
 ) -> Result<(Total, &'f [&'f [u8]]), Stop>
-    ensures { was_read result ≡ asked_total schema.now (texts fields.now) }
+    ensures { was_read result ≡ asked_total (V.words vocabulary.now) (texts fields.now) }
 {
     let Some((word, rest)) = fields.split_first() else {
         return Err(Stop::before(fields, Expected::Total));
     };
     if *word == b"rank".as_slice() {
-        return read_rank(schema, rest);
+        return read_rank(vocabulary, rest);
     }
-    read_script_total(schema, fields)
+    read_script_total(vocabulary, fields)
 }
 
 /// Reads the column and the number of a rank, and lends the fields behind them.
-fn read_rank<'f>(schema: &Schema, fields: &'f [&'f [u8]]) -> Result<(Total, &'f [&'f [u8]]), Stop>
-    ensures { was_read result ≡ rank_total schema.now (texts fields.now) }
+fn read_rank<'f, V: Vocabulary>(
+    vocabulary: &V,
+    fields: &'f [&'f [u8]],
+) -> Result<(Total, &'f [&'f [u8]]), Stop>
+    ensures { was_read result ≡ rank_total (V.words vocabulary.now) (texts fields.now) }
 {
-    let (c, rest) = read_column(schema, fields)?;
+    let (c, rest) = read_column(vocabulary, fields)?;
     let (rank, rest) = read_count(rest)?;
     Ok((Total::Rank(c, rank), rest))
 }
 
 /// Reads the total of a script that fields begin with, and lends the fields behind it.
-fn read_script_total<'f>(
-    schema: &Schema,
+fn read_script_total<'f, V: Vocabulary>(
+    vocabulary: &V,
     fields: &'f [&'f [u8]],
 ) -> Result<(Total, &'f [&'f [u8]]), Stop>
-    ensures { was_read result ≡ total_of schema.now (texts fields.now) }
+    ensures { was_read result ≡ total_of (V.words vocabulary.now) (texts fields.now) }
 {
     let Some((word, rest)) = fields.split_first() else {
         return Err(Stop::before(fields, Expected::Total));
@@ -105,7 +109,7 @@ fn read_script_total<'f>(
     let Some(total) = read_column_total(word) else {
         return Err(Stop::before(fields, Expected::Total));
     };
-    let (c, rest) = read_column(schema, rest)?;
+    let (c, rest) = read_column(vocabulary, rest)?;
     Ok((total.of(c), rest))
 }
 

@@ -197,7 +197,7 @@ few_places bs valid =
           (all_range (λ i. length (digit_places bs i) ≤ 32) (length bs) (λ k within. let e : length (digit_places bs k) ≤ 32 = omega (arith, tests_long bs k) in e)),
     )
 
-few_bitmaps : (form : Form) → IsForm form → bitmap_count form ≤ 2048
+pub few_bitmaps : (form : Form) → IsForm form → bitmap_count form ≤ 2048
 few_bitmaps (Slices w) valid = omega (arith, valid.1, length-slice_places w)
 few_bitmaps (Equality bs) valid = omega (arith, few_places bs valid)
 few_bitmaps (Range bs) valid = omega (arith, few_places bs valid)

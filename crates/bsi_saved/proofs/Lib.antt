@@ -1,5 +1,5 @@
 mod Bodies
-mod BodyWords
+pub mod BodyWords
 mod ColumnBitmaps
 mod ColumnWords
 mod Cutting

@@ -79,7 +79,7 @@ pub record LeavesAsk {S : Type 0} (rem : S → Option (List ℕ)) (input : Optio
 pub record LeavesShow {S : Type 0} (rem : S → Option (List ℕ)) (path : Bor (List ℕ)) (fault : StoreFault) (before after : Option (List ℕ)) : Type 0 where
   pub named : Names (λ named. named ≡ path) fault
   pub met : IsOfFile rem fault
-  pub part : LeavesShown fault before after
+  pub part : LeavesShown rem fault before after
 
 -- each command failed so, for some paths
 abbrev pub HasFailedSave : {S : Type 0} → (S → Option (List ℕ)) → (S → Option (List ℕ)) → Option (List ℕ) → Option (List ℕ) → Result (Unit {0}) WriteFault → Option (List ℕ) → Option (List ℕ) → Type 0

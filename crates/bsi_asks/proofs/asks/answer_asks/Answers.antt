@@ -1,5 +1,5 @@
 use Rattle.bsi_asks.specs.AskLines.{IsAskLine}
-use Rattle.bsi_asks.specs.Matching.{AreMatched}
+use Rattle.std.specs.List.{AllZip}
 use Rattle.bsi_asks.specs.Writing.{WritesAll, WritesFirst}
 use Rattle.csv.specs.Reading.{source_of}
 use Rattle.bsi_asks.proofs.Passing.{from_known, if_err, on_ok}
@@ -11,7 +11,7 @@ returns-clause-ok g c =
     let after = g.W.Write.contents c.answer_records.new.writer in
     on_ok c.answer_records.result
     (from_known (g.A.Read.remaining c.args.asks) (source_of g.A.Read.remaining c.new-records.result.input)
-    (λ bytes. WritesAll (AreMatched (IsAskLine c.args.grammar c.args.table.now.schema c.args.table.now.rows)) bytes before after) c.new-records.ensures.source)
+    (λ bytes. WritesAll (AllZip (IsAskLine c.args.grammar c.args.table.now.schema c.args.table.now.rows)) bytes before after) c.new-records.ensures.source)
     c.answer_records.ensures.ok
 
 pub returns-clause-part : goal.returns-clause-part
@@ -20,5 +20,5 @@ returns-clause-part g c =
     let after = g.W.Write.contents c.answer_records.new.writer in
     if_err c.answer_records.result
     (λ fault. from_known (g.A.Read.remaining c.args.asks) (source_of g.A.Read.remaining c.new-records.result.input)
-    (λ bytes. WritesFirst (AreMatched (IsAskLine c.args.grammar c.args.table.now.schema c.args.table.now.rows)) bytes fault before after) c.new-records.ensures.source)
+    (λ bytes. WritesFirst (AllZip (IsAskLine c.args.grammar c.args.table.now.schema c.args.table.now.rows)) bytes fault before after) c.new-records.ensures.source)
     c.answer_records.ensures.part

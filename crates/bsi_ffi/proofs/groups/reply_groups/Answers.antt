@@ -5,6 +5,7 @@ use Rattle.bsi_records.proofs.Ranked.{question_is_there}
 use Rattle.bsi_records.proofs.Spelling.{not_missing}
 use Rattle.bsi_records.specs.Questions.{IsQueryIn}
 use Rattle.bsi_records.specs.declared.grammar.Grammar.TheVariants.{Index}
+use Rattle.bsi_records.specs.Vocabularies.{schema_words}
 use Rattle.bsi_rows.specs.Answers.{columns_of_pred, columns_of_total}
 use Rattle.bsi_rows.proofs.Missing.{missing_second}
 use Rattle.bsi_schema.specs.Columns.{position_of}
@@ -16,7 +17,7 @@ pub returns-in-Ok-clause-grouped : goal.returns-in-Ok-clause-grouped
 returns-in-Ok-clause-grouped c =
     let table = c.args.opened.now.table in
     let fields : List (List ℕ) = map (λ f. f.now) c.args.fields.now in
-    let is : IsQueryIn Index table.schema fields c.in-Some.query = search rules in
+    let is : IsQueryIn Index (schema_words table.schema) fields c.in-Some.query = search rules in
     let named : position_of table.schema.columns c.args.name.now ≡ Some c.in-Some-find.by = search rules in
     let made = c.in-Ok.made.groups in
     let groups : AreGroups c.in-Some.query.total (selected_by c.in-Some.query table.rows) (c.in-Some-find.by ∷ []) table.rows made =
@@ -33,7 +34,7 @@ returns-clause-grouped c = λ other by spelled at.
     let schema = c.args.opened.now.table.schema in
     let fields : List (List ℕ) = map (λ f. f.now) c.args.fields.now in
     let query = c.in-Some.query in
-    let is : IsQueryIn Index schema fields query = search rules in
+    let is : IsQueryIn Index (schema_words schema) fields query = search rules in
     let named : position_of schema.columns c.args.name.now ≡ Some c.in-Some-find.by = search rules in
     let missing : missing_grouped (length schema.columns) query (c.in-Some-find.by ∷ []) ≡ Some c.in-Err-BadColumn.field-0-0 = search rules in
     let none : missing_grouped (length schema.columns) query (c.in-Some-find.by ∷ []) ≡ None =

@@ -5,6 +5,7 @@ use Rattle.bsi_records.proofs.Ranked.{question_is_there}
 use Rattle.bsi_records.proofs.Spelling.{not_missing}
 use Rattle.bsi_records.specs.Questions.{IsQueryIn}
 use Rattle.bsi_records.specs.declared.grammar.Grammar.TheVariants.{Index}
+use Rattle.bsi_records.specs.Vocabularies.{schema_words}
 use Rattle.bsi_rows.specs.Answers.{columns_of_pred, columns_of_total}
 use Rattle.bsi_rows.proofs.Missing.{missing_second}
 use Rattle.bsi_schema.specs.Columns.{position_of}
@@ -19,7 +20,7 @@ returns-in-Ok-clause-grouped c =
     let query = c.in-Some.query in
     let one = c.in-Some-find.one in
     let other = c.in-Some-find-2.other in
-    let is : IsQueryIn Index table.schema fields query = search rules in
+    let is : IsQueryIn Index (schema_words table.schema) fields query = search rules in
     let named : position_of table.schema.columns c.args.first.now ≡ Some one = search rules in
     let other_named : position_of table.schema.columns c.args.second.now ≡ Some other = search rules in
     let made = c.in-Ok.made.groups in
@@ -38,7 +39,7 @@ returns-in-Err-TooMany-clause-grouped c =
     let query = c.in-Some.query in
     let one = c.in-Some-find.one in
     let other = c.in-Some-find-2.other in
-    let is : IsQueryIn Index table.schema fields query = search rules in
+    let is : IsQueryIn Index (schema_words table.schema) fields query = search rules in
     let named : position_of table.schema.columns c.args.first.now ≡ Some one = search rules in
     let other_named : position_of table.schema.columns c.args.second.now ≡ Some other = search rules in
     let by = one ∷ other ∷ [] in
@@ -57,7 +58,7 @@ returns-clause-grouped c = λ asked one_at other_at spelled at at_other.
     let one = c.in-Some-find.one in
     let other = c.in-Some-find-2.other in
     let columns = length schema.columns in
-    let is : IsQueryIn Index schema fields query = search rules in
+    let is : IsQueryIn Index (schema_words schema) fields query = search rules in
     let named : position_of schema.columns c.args.first.now ≡ Some one = search rules in
     let other_named : position_of schema.columns c.args.second.now ≡ Some other = search rules in
     let missing : missing_grouped columns query (one ∷ other ∷ []) ≡ Some c.in-Err-BadColumn.field-0-0 = search rules in

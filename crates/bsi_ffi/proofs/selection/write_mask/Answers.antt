@@ -12,6 +12,7 @@ use Rattle.bsi_ffi.specs.declared.refusal.Refusal.{Refusal}
 use Rattle.bsi_ffi.specs.declared.refusal.Refusal.TheVariants.{NoRoom}
 use Rattle.bsi_records.proofs.Ranked.{question_is_there}
 use Rattle.bsi_records.specs.Predicates.{IsPredicate}
+use Rattle.bsi_records.specs.Vocabularies.{schema_words}
 use Rattle.bsi_rows.specs.Answers.{missing_column}
 use Rattle.bsi_rows.specs.declared.query.Query.{Query}
 use Rattle.bsi_rows.specs.declared.query.Total.TheVariants.{Count}
@@ -22,13 +23,13 @@ pub returns-clause-masked : goal.returns-clause-masked
 returns-clause-masked c = λ other spelled.
     let schema = c.args.opened.now.table.schema in
     let fields : List (List ℕ) = map (λ f. f.now) c.args.fields.now in
-    let spells : IsPredicate schema fields c.in-Some.pred = search rules in
+    let spells : IsPredicate (schema_words schema) fields c.in-Some.pred = search rules in
     let counted : Query = record { total = Count; pred = c.in-Some.pred } in
     let missing : missing_column (length schema.columns) counted ≡ Some c.in-Err-BadColumn.field-0-0 = search rules in
     let wrong : None ≡ Some c.in-Err-BadColumn.field-0-0 = sym (question_is_there schema (codes "count" ∷ fields) counted (refl, spells)) ∙ missing in
     subst (λ (o : Option ℕ). MatchOption o (Unit {0}) (λ place. ⊥)) wrong tt
 
-module _ (opened : Opened) (fields : List (List ℕ)) (words : List ℕ) (pred : Pred) (is : IsPredicate opened.table.schema fields pred)
+module _ (opened : Opened) (fields : List (List ℕ)) (words : List ℕ) (pred : Pred) (is : IsPredicate (schema_words opened.table.schema) fields pred)
     (found : List Bool) (found_is : found ≡ map (λ row. holds pred (row_entries row)) opened.table.rows) where
   rows : length found ≡ length opened.table.rows
   rows = ap length found_is ∙ length-map opened.table.rows (λ row. holds pred (row_entries row))
@@ -52,7 +53,7 @@ pub returns-in-Ok-clause-masked : goal.returns-in-Ok-clause-masked
 returns-in-Ok-clause-masked c =
     let opened = c.args.opened.now in
     let fields : List (List ℕ) = map (λ f. f.now) c.args.fields.now in
-    let spells : IsPredicate opened.table.schema fields c.in-Some.pred = search rules in
+    let spells : IsPredicate (schema_words opened.table.schema) fields c.in-Some.pred = search rules in
     masked opened fields c.copy_words.new.words c.in-Some.pred spells c.in-Ok.found.bits
     (c.in-Ok.ensures.1 ∙ ap (λ (t : Table). map (λ row. holds c.in-Some.pred (row_entries row)) t.rows) c.index-index.ensures)
     c.copy_words.result c.copy_words.ensures.long c.copy_words.ensures.bits c.copy_words.ensures.short

@@ -5,5 +5,5 @@ use Rattle.bsi_records.specs.declared.grammar.Grammar.{Grammar}
 use Rattle.bsi_records.proofs.predicates.read_predicate_in.Goals as goal
 
 pub returns-in-Index : goal.returns-in-Index
-returns-in-Index c =
-    subst (λ (g : Grammar). IsAsked (IsPredicateIn g c.args.schema.now (texts c.args.fields.now)) c.read_predicate.result) (sym c.in-Index.is) c.read_predicate.ensures
+returns-in-Index g c =
+    subst (λ (grammar : Grammar). IsAsked (IsPredicateIn grammar (g.V.Vocabulary.words c.args.vocabulary.now) (texts c.args.fields.now)) c.read_predicate.result) (sym c.in-Index.is) c.read_predicate.ensures

@@ -7,17 +7,17 @@ use Rattle.bsi_records.proofs.Firsts.{error_on}
 use Rattle.bsi_records.proofs.questions.read_index_question.Goals as goal
 
 pub returns-in_default : goal.returns-in_default
-returns-in_default c = no_field_asks c.args.schema.now c.args.fields.now c.in_default.ensures.cases
+returns-in_default g c = no_field_asks (g.V.Vocabulary.words c.args.vocabulary.now) c.args.fields.now c.in_default.ensures.cases
 
 pub returns-in_err-read_query_in : goal.returns-in_err-read_query_in
-returns-in_err-read_query_in c =
-    let schema = c.args.schema.now in
+returns-in_err-read_query_in g c =
+    let words = g.V.Vocabulary.words c.args.vocabulary.now in
     let fields = texts c.args.fields.now in
     let word = c.in-Some.word.now.now in
     let rest = texts c.in-Some.rest.now in
     let whole : texts c.args.fields.now ≡ c.in-Some.word.now.now ∷ texts c.in-Some.rest.now = ap texts c.in-Some.ensures.cases.0 in
-    error_on (IsQuestion Index schema fields) (IsQueryIn Index schema fields) c.from_residual.result _ c.from_residual.ensures c.in_err-read_query_in.ensures
-    (query_alone schema fields word rest whole
+    error_on (IsQuestion Index words fields) (IsQueryIn Index words fields) c.from_residual.result _ c.from_residual.ensures c.in_err-read_query_in.ensures
+    (query_alone words fields word rest whole
     (not_word word c.as_slice.result.now (codes "by") c.if-eq.ensures c.as_slice.ensures)
     (not_word word c.as_slice-2.result.now (codes "top") c.if-eq-2.ensures c.as_slice-2.ensures)
     (not_word word c.as_slice-3.result.now (codes "bottom") c.if-eq-3.ensures c.as_slice-3.ensures)

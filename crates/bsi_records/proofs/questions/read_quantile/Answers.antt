@@ -8,45 +8,45 @@ use Rattle.bsi_records.proofs.Firsts.{error_on, stopped_on}
 use Rattle.bsi_records.proofs.questions.read_quantile.Goals as goal
 
 pub returns-in_err-c : goal.returns-in_err-c
-returns-in_err-c c =
-    let schema = c.args.schema.now in
+returns-in_err-c g c =
+    let words = g.V.Vocabulary.words c.args.vocabulary.now in
     let fields = texts c.args.fields.now in
-    stopped_on (IsQuestion Index schema (codes "quantile" ∷ fields)) c.from_residual.result _ c.from_residual.ensures (no_quantile_column schema fields c.in_err-c.ensures)
+    stopped_on (IsQuestion Index words (codes "quantile" ∷ fields)) c.from_residual.result _ c.from_residual.ensures (no_quantile_column words fields c.in_err-c.ensures)
 
 pub returns-in_err-part : goal.returns-in_err-part
-returns-in_err-part c =
-    let schema = c.args.schema.now in
+returns-in_err-part g c =
+    let words = g.V.Vocabulary.words c.args.vocabulary.now in
     let fields = texts c.args.fields.now in
-    stopped_on (IsQuestion Index schema (codes "quantile" ∷ fields)) c.from_residual-in_err-part.result _ c.from_residual-in_err-part.ensures
-    (no_part schema fields c.in_ok-c.c (texts c.in_ok-c.rest.now) c.in_ok-c.ensures c.in_err-part.ensures)
+    stopped_on (IsQuestion Index words (codes "quantile" ∷ fields)) c.from_residual-in_err-part.result _ c.from_residual-in_err-part.ensures
+    (no_part words fields c.in_ok-c.c (texts c.in_ok-c.rest.now) c.in_ok-c.ensures c.in_err-part.ensures)
 
 pub returns-in_err-whole : goal.returns-in_err-whole
-returns-in_err-whole c =
-    let schema = c.args.schema.now in
+returns-in_err-whole g c =
+    let words = g.V.Vocabulary.words c.args.vocabulary.now in
     let fields = texts c.args.fields.now in
-    stopped_on (IsQuestion Index schema (codes "quantile" ∷ fields)) c.from_residual-in_err-whole.result _ c.from_residual-in_err-whole.ensures
-    (no_whole schema fields c.in_ok-c.c (texts c.in_ok-c.rest.now) c.in_ok-c.ensures
+    stopped_on (IsQuestion Index words (codes "quantile" ∷ fields)) c.from_residual-in_err-whole.result _ c.from_residual-in_err-whole.ensures
+    (no_whole words fields c.in_ok-c.c (texts c.in_ok-c.rest.now) c.in_ok-c.ensures
     c.in_ok-part.part (texts c.in_ok-part.from_whole.now) c.in_ok-part.ensures c.in_err-whole.ensures)
 
 pub returns-in_default : goal.returns-in_default
-returns-in_default c =
-    let schema = c.args.schema.now in
+returns-in_default g c =
+    let words = g.V.Vocabulary.words c.args.vocabulary.now in
     let fields = texts c.args.fields.now in
-    no_share schema fields c.in_ok-c.c (texts c.in_ok-c.rest.now) c.in_ok-c.ensures
+    no_share words fields c.in_ok-c.c (texts c.in_ok-c.rest.now) c.in_ok-c.ensures
     c.in_ok-part.part (texts c.in_ok-part.from_whole.now) c.in_ok-part.ensures c.in_ok-whole.whole (texts c.in_ok-whole.rest.now) c.in_ok-whole.ensures c.in_default.ensures
 
 pub returns-in_err-pred : goal.returns-in_err-pred
-returns-in_err-pred c =
-    let schema = c.args.schema.now in
+returns-in_err-pred g c =
+    let words = g.V.Vocabulary.words c.args.vocabulary.now in
     let fields = texts c.args.fields.now in
-    error_on (IsQuestion Index schema (codes "quantile" ∷ fields)) (IsPredicate schema (texts c.in_ok-whole.rest.now)) c.from_residual-in_err-pred.result _
+    error_on (IsQuestion Index words (codes "quantile" ∷ fields)) (IsPredicate words (texts c.in_ok-whole.rest.now)) c.from_residual-in_err-pred.result _
     c.from_residual-in_err-pred.ensures c.in_err-pred.ensures
-    (quantile_rows schema fields c.in_ok-c.c (texts c.in_ok-c.rest.now) c.in_ok-c.ensures
+    (quantile_rows words fields c.in_ok-c.c (texts c.in_ok-c.rest.now) c.in_ok-c.ensures
     c.in_ok-part.part (texts c.in_ok-part.from_whole.now) c.in_ok-part.ensures c.in_ok-whole.whole (texts c.in_ok-whole.rest.now) c.in_ok-whole.ensures)
 
 pub returns : goal.returns
-returns c =
-    let schema = c.args.schema.now in
+returns g c =
+    let words = g.V.Vocabulary.words c.args.vocabulary.now in
     let fields = texts c.args.fields.now in
-    quantile_asked schema fields c.in_ok-c.c (texts c.in_ok-c.rest.now) c.in_ok-c.ensures
+    quantile_asked words fields c.in_ok-c.c (texts c.in_ok-c.rest.now) c.in_ok-c.ensures
     c.in_ok-part.part (texts c.in_ok-part.from_whole.now) c.in_ok-part.ensures c.in_ok-whole.whole (texts c.in_ok-whole.rest.now) c.in_ok-whole.ensures c.in-Some.share c.in_ok-pred.pred c.in-Some.ensures c.in_ok-pred.ensures

@@ -1,8 +1,8 @@
 use Rattle.std.proofs.Common.{arith}
 use Rattle.bsi_rows.specs.Rows.{feeders_of}
-use Rattle.bsi_asks.specs.ReportLines.{row_text}
+use Rattle.bsi_asks.specs.ReplyLines.{row_text}
 use Rattle.bsi_asks.proofs.Listed.{parts_all, parts_more}
-use Rattle.bsi_asks.proofs.report_lines.write_each_row.Goals as goal
+use Rattle.bsi_asks.proofs.reply_lines.write_each_row.Goals as goal
 
 pub rows-preserved : goal.rows-preserved
 rows-preserved c =

@@ -1,8 +1,8 @@
 use Rattle.std.proofs.Common.{◌++◌, None, get_or, ap, ◌∙◌, arith}
-use Rattle.bsi_asks.specs.ReportLines.{entry_text}
+use Rattle.bsi_asks.specs.ReplyLines.{entry_text}
 use Rattle.bsi_asks.proofs.Entries.{first_entry, next_entry}
-use Rattle.bsi_asks.proofs.report_lines.write_entries.Goals as goal
-use Rattle.bsi_asks.proofs.report_lines.write_entries.Goals.{then-at-gt0+in_ok-extend_from_slice, else-at-gt0}
+use Rattle.bsi_asks.proofs.reply_lines.write_entries.Goals as goal
+use Rattle.bsi_asks.proofs.reply_lines.write_entries.Goals.{then-at-gt0+in_ok-extend_from_slice, else-at-gt0}
 
 pub entries-preserved : goal.entries-preserved
 entries-preserved c =

@@ -1,7 +1,7 @@
 use Rattle.std.proofs.Common.{subst}
 use Rattle.bsi_rows.specs.Answers.{IsAnswer}
-use Rattle.bsi_asks.proofs.Rising.{shown_rows}
-use Rattle.bsi_asks.proofs.asks.arrange_answer.Goals as goal
+use Rattle.bsi_groups.proofs.Rising.{shown_rows}
+use Rattle.bsi_groups.proofs.answering.arrange_answer.Goals as goal
 
 pub returns-in-Rows : goal.returns-in-Rows
 returns-in-Rows c = λ query rows is.

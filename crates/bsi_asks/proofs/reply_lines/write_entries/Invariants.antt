@@ -1,6 +1,6 @@
 use Rattle.std.proofs.Common.{◌≡◌, ◌++◌, take}
-use Rattle.bsi_asks.specs.ReportLines.{entries_text}
-use Rattle.bsi_asks.proofs.report_lines.write_entries.Given as goal
+use Rattle.bsi_asks.specs.ReplyLines.{entries_text}
+use Rattle.bsi_asks.proofs.reply_lines.write_entries.Given as goal
 
 -- the entries so far are written
 abbrev pub invariant-entries : goal.invariant-entries

@@ -1,24 +1,19 @@
-//! The lines that answer questions.
+//! The lines of replies.
 
 ghost use Rattle.std.specs.Prelude.{◌≡◌, ◌<◌, ◌++◌, OnOk, Ok, Err, length};
 ghost use Rattle.std.specs.List.{flat_map};
 ghost use Rattle.bsi_records.specs.Lines.{ask_line};
 ghost use Rattle.bsi_rows.specs.Rows.{feeders_of};
-ghost use Rattle.bsi_asks.specs.ReportLines.{count_line, entries_text, entry_text, group_text, groups_line, row_text, top_line, value_line, value_text, AreWithin};
+ghost use Rattle.bsi_asks.specs.ReplyLines.{count_line, entries_text, entry_text, group_text, groups_line, reply_line, row_text, rows_line, value_line, value_text, AreWithin, HasRowsWithin};
 ghost use Rattle.bsi_asks.specs.AskLines.{IsQuestionLine};
-ghost use Rattle.bsi_rows.specs.declared.question.Question.TheVariants.{Total};
 
 use crate::NoMemory;
-use crate::asks::arrange_answer;
-use bsi_groups::{Group, GroupError, Groups, TopRow, distinct, group_by, quantile, top};
+use bsi_groups::{Group, GroupError, Groups, QuestionReply, TopRow, answer};
 use bsi_records::{write_bad, write_reply};
-use bsi_rows::{AskError, Query, Question, Reply};
+use bsi_rows::{AskError, Question, Reply};
 use bsi_table::{Answer, Index};
 use itoa::{Buffer, Integer};
 use std::alloc::Global;
-
-/// The most groups that a report lists.
-pub const MAX_GROUPS: usize = 65_536;
 
 /// Makes `line` the line that answers a question over the rows of an index.
 pub(crate) fn write_question(
@@ -31,36 +26,24 @@ pub(crate) fn write_question(
         (IsQuestionLine table.now.schema table.now.rows question.now line.new.items) }
 {
     line.clear();
-    match question {
-        Question::Total(query) => write_total(alloc, table, query, line),
-        Question::Groups(query, by) => match group_by(alloc, table, query, by, MAX_GROUPS) {
-            Ok(groups) => write_groups(&groups, line),
-            Err(refused) => write_no_groups(refused, line),
-        },
-        Question::Top(end, c, most, pred) => {
-            match top(alloc, table, *c, *most as usize, *end, pred) {
-                Ok(rows) => write_top(&rows, table, line),
-                Err(refused) => write_refused(refused, line),
-            }
-        }
-        Question::Distinct(c, pred) => write_count(distinct(alloc, table, *c, pred), line),
-        Question::Quantile(share, c, pred) => write_found(quantile(table, *c, *share, pred), line),
-    }
+    write_reply_line(answer(alloc, table, question), table, line)
 }
 
-/// Makes `line` the line of a total.
-fn write_total(
-    alloc: Global,
-    table: &Index,
-    query: &Query,
-    line: &mut Vec<u8>,
-) -> Result<(), NoMemory>
-    ensures { OnOk result
-        (IsQuestionLine table.now.schema table.now.rows (Total query.now) line.new.items) }
+/// Appends the line of a reply over the rows of an index.
+fn write_reply_line(reply: QuestionReply, table: &Index, line: &mut Vec<u8>) -> Result<(), NoMemory>
+    requires { HasRowsWithin (length table.now.rows) reply }
+    ensures { OnOk result (line.new.items
+        ≡ line.old.items ++ reply_line (feeders_of table.now.rows) reply) }
 {
-    line.clear();
-    let reply = table.ask(query).map(|answer| arrange_answer(alloc, answer));
-    write_reply(&Reply::Answered(reply), line)
+    match reply {
+        QuestionReply::Total(reply) => write_reply(&Reply::Answered(reply), line),
+        QuestionReply::Groups(Ok(groups)) => write_groups(&groups, line),
+        QuestionReply::Groups(Err(refused)) => write_no_groups(refused, line),
+        QuestionReply::Top(Ok(rows)) => write_top(&rows, table, line),
+        QuestionReply::Top(Err(refused)) => write_refused(refused, line),
+        QuestionReply::Distinct(counted) => write_count(counted, line),
+        QuestionReply::Quantile(found) => write_found(found, line),
+    }
 }
 
 /// Appends the line of a refusal.
@@ -93,7 +76,7 @@ fn write_found(found: Result<Option<i64>, AskError>, line: &mut Vec<u8>) -> Resu
 /// Appends the line of groups.
 fn write_groups(groups: &Groups, line: &mut Vec<u8>) -> Result<(), NoMemory>
     ensures { OnOk result (line.new.items
-        ≡ line.old.items ++ groups_line (Ok groups.now.groups)) }
+        ≡ line.old.items ++ groups_line (Ok groups.now)) }
 {
     line.extend_from_slice(b"groups")?;
     write_each_group(groups, line)?;
@@ -180,7 +163,7 @@ fn write_number<I: Integer>(number: I, line: &mut Vec<u8>) -> Result<(), NoMemor
 fn write_top(rows: &[TopRow], table: &Index, line: &mut Vec<u8>) -> Result<(), NoMemory>
     requires { AreWithin (length table.now.rows) rows.now }
     ensures { OnOk result (line.new.items
-        ≡ line.old.items ++ top_line (feeders_of table.now.rows) (Ok rows.now)) }
+        ≡ line.old.items ++ rows_line (feeders_of table.now.rows) rows.now) }
 {
     line.extend_from_slice(b"top")?;
     write_each_row(rows, table, line)?;

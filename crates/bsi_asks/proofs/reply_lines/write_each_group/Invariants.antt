@@ -1,7 +1,7 @@
 use Rattle.std.proofs.Common.{◌≡◌, ◌++◌, drop}
 use Rattle.std.specs.List.{flat_map}
-use Rattle.bsi_asks.specs.ReportLines.{group_text}
-use Rattle.bsi_asks.proofs.report_lines.write_each_group.Given as goal
+use Rattle.bsi_asks.specs.ReplyLines.{group_text}
+use Rattle.bsi_asks.proofs.reply_lines.write_each_group.Given as goal
 
 -- the groups that are left make up the text
 abbrev pub invariant-groups : goal.invariant-groups

@@ -1,8 +1,8 @@
 use Rattle.std.proofs.Common.{◌≡◌, ◌++◌, drop}
 use Rattle.std.specs.List.{flat_map}
 use Rattle.bsi_rows.specs.Rows.{feeders_of}
-use Rattle.bsi_asks.specs.ReportLines.{row_text}
-use Rattle.bsi_asks.proofs.report_lines.write_each_row.Given as goal
+use Rattle.bsi_asks.specs.ReplyLines.{row_text}
+use Rattle.bsi_asks.proofs.reply_lines.write_each_row.Given as goal
 
 -- the rows that are left make up the text
 abbrev pub invariant-rows : goal.invariant-rows

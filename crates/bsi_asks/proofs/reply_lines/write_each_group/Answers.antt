@@ -1,9 +1,9 @@
 use Rattle.std.proofs.Common.{◌≡◌, ◌++◌, get_or, ap, sym, ◌∙◌, arith}
 use Rattle.std.proofs.lemmas.Option.{get_or_from_slice_get}
 use Rattle.bsi_groups.specs.Groups.{Grouped}
-use Rattle.bsi_asks.specs.ReportLines.{group_text}
+use Rattle.bsi_asks.specs.ReplyLines.{group_text}
 use Rattle.bsi_asks.proofs.Listed.{parts_all, parts_more}
-use Rattle.bsi_asks.proofs.report_lines.write_each_group.Goals as goal
+use Rattle.bsi_asks.proofs.reply_lines.write_each_group.Goals as goal
 
 pub groups-preserved : goal.groups-preserved
 groups-preserved c =
