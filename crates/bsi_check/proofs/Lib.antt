@@ -1,5 +1,6 @@
 mod Asking
 mod Counting
 mod Joined
+mod OneLine
 mod Telling
 mod Unread

@@ -1,5 +1,5 @@
 -- Reasons that are added one after another.
-use Rattle.std.proofs.Common.{◌≡◌, ℕ, zero, suc, ◌+◌, ◌<◌, ◌≤◌, Bool, true, false, ◌&&◌, List, [], ◌∷◌, ◌++◌, length, map, nat_eq, nat_le, refl, sym, ap, subst, ◌∙◌, arith, append_assoc, get_or, length-append, codes, Option, None, Some, Result, Ok, Err}
+use Rattle.std.proofs.Common.{◌≡◌, ℕ, zero, suc, ◌+◌, ◌-◌, ◌<◌, ◌≤◌, Bool, true, false, ◌&&◌, List, [], ◌∷◌, ◌++◌, length, map, nat_eq, nat_le, refl, sym, ap, subst, ◌∙◌, arith, append_assoc, get_or, length-append, codes, Option, None, Some, Result, Ok, Err}
 use Rattle.std.specs.Prelude.{All, IfOk, OnOk}
 use Rattle.std.specs.Bool.{if◌then◌else◌}
 use Rattle.std.specs.List.{concat}
@@ -18,7 +18,7 @@ use Rattle.bsi_schema.specs.Columns.{Declared}
 use Rattle.bsi_check.specs.Reports.{AreAsksFound}
 use Rattle.bsi_check.specs.declared.named.NamedFile.{NamedFile}
 use Rattle.bsi_check.specs.Checks.{has_good_asks, is_clean}
-use Rattle.bsi_check.specs.Reasons.{bad_lines, fault_why, first_bad, is_line_end, max_told, one_line, reason_line, HasTold, HasToldOne, HasToldSome, IsOneLine, TellsAsks, TellsBad, TellsFile, TellsFirst, TellsOneUnless, TellsUnless, TellsUnread}
+use Rattle.bsi_check.specs.Reasons.{fault_why, first_bad, is_line_end, max_told, more_why, more_whys, one_line, reason_line, HasTold, HasToldOne, HasToldSome, IsOneLine, TellsAsks, TellsBad, TellsFile, TellsFirst, TellsOneUnless, TellsUnless, TellsUnread}
 
 -- ---- of one file
 
@@ -102,23 +102,20 @@ first_some path bad a b told = (told.0, told.2)
 
 pub bad_few : (path : List ℕ) (bad : ℕ) (a b : List ℕ) → bad ≤ max_told → TellsFirst path bad a b → TellsBad path bad a b
 bad_few path bad a b few told =
-    (told.0, told.1 ∙ (first_in bad few ∙ sym (ap (λ b. if b then bad else suc max_told) (le-leb bad max_told few))), told.2)
+    let none : more_whys bad ≡ [] = ap (λ b. if b then [] else more_why (bad - max_told) ∷ []) (le-leb bad max_told few) in
+    (told.0, told.1, subst (λ whys. HasTold path whys a b) (sym (ap (λ more. told.0 ++ more) none ∙ append-nil told.0)) told.2)
 
-pub bad_many : (path : List ℕ) (bad : ℕ) (a b c : List ℕ) → max_told < bad → TellsFirst path bad a b → HasToldOne path b c → TellsBad path bad a c
-bad_many path bad a b c many told more = (
-  told.0 ++ more.0 ∷ [],
-  omega (
-    arith,
-    length-append told.0 (more.0 ∷ []),
-    told.1,
-    first_full bad (omega (arith, many)),
-    ap (λ b. if b then bad else suc max_told) (lt-leb bad max_told many),
-  ),
-  told_more path told.0 (more.0 ∷ []) a b c told.2 more.1,
-)
+pub bad_many : (path : List ℕ) (bad : ℕ) (a b c : List ℕ) → max_told < bad → TellsFirst path bad a b
+    → HasTold path (more_why (bad - max_told) ∷ []) b c → TellsBad path bad a c
+bad_many path bad a b c many told more =
+    let one : more_whys bad ≡ more_why (bad - max_told) ∷ [] = ap (λ b. if b then [] else more_why (bad - max_told) ∷ []) (lt-leb bad max_told many) in (
+      told.0,
+      told.1,
+      subst (λ whys. HasTold path (told.0 ++ whys) a c) (sym one) (told_more path told.0 (more_why (bad - max_told) ∷ []) a b c told.2 more),
+    )
 
 pub bad_some : (path : List ℕ) (bad : ℕ) (a b : List ℕ) → TellsBad path bad a b → HasToldSome path a b
-bad_some path bad a b told = (told.0, told.2)
+bad_some path bad a b told = (told.0 ++ more_whys bad, told.2)
 
 -- a file that was not read to its end, after some of its reasons
 pub told_unread : (path : List ℕ) (fault : SourceFault) (a b c : List ℕ) → (fault ≡ source.NoMemory → ⊥) → HasToldSome path a b → HasTold path (fault_why fault ∷ []) b c
@@ -134,12 +131,12 @@ unread_told path fault a b c (Ok file) found not some told =
 
 -- ---- reasons are told just where a file is not good
 
-some_lines : (bad : ℕ) → 0 < bad → 0 < bad_lines bad
-some_lines bad some = by (nat_le bad max_told) refl
+some_first : (bad : ℕ) → 0 < bad → 0 < first_bad bad
+some_first bad some = by (nat_le bad max_told) refl
   where
-    by : (b : Bool) → nat_le bad max_told ≡ b → 0 < bad_lines bad
-    by true e = omega (arith, some, ap (λ b. if b then bad else suc max_told) e)
-    by false e = omega (arith, ap (λ b. if b then bad else suc max_told) e)
+    by : (b : Bool) → nat_le bad max_told ≡ b → 0 < first_bad bad
+    by true e = omega (arith, some, ap (λ b. if b then bad else max_told) e)
+    by false e = omega (arith, ap (λ b. if b then bad else max_told) e)
 
 one_more : (path : List ℕ) (a b : List ℕ) → HasToldOne path a b → length a < length b
 one_more path a b told = omega (arith, told_long path (told.0 ∷ []) a b told.1)
@@ -150,14 +147,15 @@ bad_more path bad a b told = by (nat_eq bad 0) refl
     by : (r : Bool) → nat_eq bad 0 ≡ r → TellsUnless r a b
     by true e = none bad ((Decides-eqb bad 0).0 e) told
       where
-        empty : (whys : List (List ℕ)) → length whys ≡ 0 → HasTold path whys a b → b ≡ a
+        empty : (whys : List (List ℕ)) → length whys ≡ 0 → HasTold path (whys ++ more_whys 0) a b → b ≡ a
         empty [] few is = is.1 ∙ append-nil a
         empty (why ∷ whys) few is = absurd (omega arith)
 
         none : (n : ℕ) → n ≡ 0 → TellsBad path n a b → b ≡ a
         none zero is has = empty has.0 has.1 has.2
         none (suc n) is has = absurd (omega arith)
-    by false e = omega (arith, told_long path told.0 a b told.2, told.1, some_lines bad (positive bad e))
+    by false e =
+        omega (arith, told_long path (told.0 ++ more_whys bad) a b told.2, length-append told.0 (more_whys bad), told.1, some_first bad (positive bad e))
       where
         positive : (n : ℕ) → nat_eq n 0 ≡ false → 0 < n
         positive zero p = cc (p)

@@ -1,5 +1,5 @@
 -- The reasons that a check tells, a line each.
-use Rattle.std.specs.Prelude.{◌≡◌, ◌≢◌, ℕ, suc, ◌<◌, Bool, true, false, if◌then◌else◌, ◌||◌, nat_eq, nat_le, All, List, [], ◌∷◌, ◌++◌, length, map, Option, None, Some, IfSome, codes}
+use Rattle.std.specs.Prelude.{◌≡◌, ◌≢◌, ℕ, ◌<◌, ◌-◌, Bool, true, false, if◌then◌else◌, ◌||◌, nat_eq, nat_le, All, List, [], ◌∷◌, ◌++◌, length, map, Option, None, Some, IfSome, codes, decimal}
 use Rattle.std.specs.List.{concat}
 use Rattle.bsi_records.specs.declared.setups.DeclaredTable.{DeclaredTable}
 use Rattle.bsi_reading.specs.FaultTexts.{source_fault_text}
@@ -56,17 +56,22 @@ max_told = 100
 abbrev pub first_bad : ℕ → ℕ
 first_bad bad = if nat_le bad max_told then bad else max_told
 
--- and one line more says how many others there are
-abbrev pub bad_lines : ℕ → ℕ
-bad_lines bad = if nat_le bad max_told then bad else suc max_told
-
 -- the reasons of the first bad ones were added, of so many
 abbrev pub TellsFirst : List ℕ → ℕ → List ℕ → List ℕ → Type 0
 TellsFirst path bad before after = (whys : List (List ℕ)) × (length whys ≡ first_bad bad) × HasTold path whys before after
 
--- and how many others there are
+-- how many more there are
+abbrev pub more_why : ℕ → List ℕ
+more_why more = codes " and " ++ decimal more ++ codes " more bad records"
+
+-- which is told if not all of so many are
+abbrev pub more_whys : ℕ → List (List ℕ)
+more_whys bad = if nat_le bad max_told then [] else more_why (bad - max_told) ∷ []
+
+-- the reasons of the first bad ones were added, and how many more there are
 abbrev pub TellsBad : List ℕ → ℕ → List ℕ → List ℕ → Type 0
-TellsBad path bad before after = (whys : List (List ℕ)) × (length whys ≡ bad_lines bad) × HasTold path whys before after
+TellsBad path bad before after =
+    (whys : List (List ℕ)) × (length whys ≡ first_bad bad) × HasTold path (whys ++ more_whys bad) before after
 
 -- ---- what is told of a file
 

@@ -1,6 +1,6 @@
 //! The lines of reasons.
-ghost use Rattle.std.specs.Prelude.{◌≡◌, ◌∷◌, ◌++◌, [], codes, if◌then◌else◌, OnOk};
-ghost use Rattle.bsi_check.specs.Reasons.{is_line_end, one_line, reason_line, HasTold, HasToldOne};
+ghost use Rattle.std.specs.Prelude.{◌≡◌, ◌-◌, ◌∷◌, ◌++◌, [], codes, if◌then◌else◌, OnOk};
+ghost use Rattle.bsi_check.specs.Reasons.{is_line_end, max_told, more_why, one_line, reason_line, HasTold, HasToldOne};
 
 use crate::NoMemory;
 use bsi_reasons::{count_line_feeds, count_lone_returns};
@@ -85,7 +85,8 @@ pub(crate) fn tell_more(
     path: &str,
     bad: u64,
 ) -> Result<(), NoMemory>
-    ensures { OnOk result (HasToldOne path.now reasons.old.items reasons.new.items) }
+    ensures { OnOk result
+        (HasTold path.now (more_why (bad - max_told) ∷ []) reasons.old.items reasons.new.items) }
 {
     let more = bad.saturating_sub(MAX_TOLD);
     let why = format!(in alloc; " and {more} more bad records")?;

@@ -1,12 +1,12 @@
 -- What is asked of a kept index.
-use Rattle.std.specs.Prelude.{◌≡◌, ◌≢◌, ◌⊎◌, ◌++◌, Bool, false, List, ℕ, Option, None, IfSome, codes, length}
+use Rattle.std.specs.Prelude.{◌≡◌, ◌≢◌, ◌⊎◌, Bool, false, List, ℕ, Option, None, IfSome}
 use Rattle.std.specs.Io.KnownBytes.{Appends}
-use Rattle.bsi_reading.specs.SchemaTexts.{IsSchemaText}
-use Rattle.bsi_store.specs.Lines.{count_line}
+use Rattle.bsi_reading.specs.Waiting.{IsCut}
+use Rattle.bsi_store.specs.Lines.{IsShownText}
 use Rattle.bsi_rows.specs.Table.{Table}
 use Rattle.bsi_asks.specs.AskLines.{IsAskLine}
 use Rattle.bsi_records.specs.declared.grammar.Grammar.TheVariants.{Index}
-use Rattle.bsi_asks.specs.Matching.{AreMatched}
+use Rattle.std.specs.List.{AllZip}
 use Rattle.bsi_asks.specs.Writing.{WritesAll, WritesFirst}
 use Rattle.bsi_store.specs.declared.fault.StoreFault.{StoreFault}
 use Rattle.bsi_store.specs.declared.fault.StoreFault.TheVariants.{Run}
@@ -36,27 +36,32 @@ pub record HasAsked {S : Type 0} (rem : S → Option (List ℕ)) (so_far : Bool)
     : Type 0 where
   pub table : Table
   pub kept : IsKeptIn rem so_far table
-  pub answered : IfSome asks (λ asked. WritesAll (AreMatched (IsAskLine Index table.schema table.rows)) asked before after)
+  pub answered : IfSome asks (λ asked. WritesAll (AllZip (IsAskLine Index table.schema table.rows)) asked before after)
 
 -- what a fault leaves of the answers: the output is as it was, or the first lines were put there that answer the questions
 -- of a text over a table that a file keeps
 abbrev pub LeavesAnswers : {S : Type 0} → (S → Option (List ℕ)) → Bool → Option (List ℕ) → Option (List ℕ) → Option (List ℕ) → StoreFault → Type 0
 LeavesAnswers rem so_far asks before after (Run fault) =
     (after ≡ before) ⊎ ((table : Table) × IsKeptIn rem so_far table
-    × IfSome asks (λ asked. WritesFirst (AreMatched (IsAskLine Index table.schema table.rows)) asked fault before after))
+    × IfSome asks (λ asked. WritesFirst (AllZip (IsAskLine Index table.schema table.rows)) asked fault before after))
 LeavesAnswers rem so_far asks before after fault = after ≡ before
 
--- a file was opened that keeps a table, and a text that declares its columns and its limit, how many feeders and rows it
--- has, and some more were put after what a writer held
+-- a file was opened that keeps a table, and the text that tells what it is was put after what a writer held
 pub record HasShown {S : Type 0} (rem : S → Option (List ℕ)) (before after : Option (List ℕ)) : Type 0 where
   pub table : Table
   pub kept : IsKeptIn rem false table
   pub text : List ℕ
-  pub declares : IsSchemaText text table.schema table.limit
-  pub sizes : List ℕ
-  pub written : Appends before after
-      (text ++ (count_line (codes "feeders") table.feeders ++ (count_line (codes "rows") (length table.rows) ++ sizes)))
+  pub shown : IsShownText table text
+  pub written : Appends before after text
 
--- what a fault leaves of what a kept index is: the output is as it was, unless it could not be written
-abbrev pub LeavesShown : StoreFault → Option (List ℕ) → Option (List ℕ) → Type 0
-LeavesShown fault before after = (after ≡ before) ⊎ (fault ≡ Run Write)
+-- a first part of it was
+pub record HasBegunShown {S : Type 0} (rem : S → Option (List ℕ)) (before after : Option (List ℕ)) : Type 0 where
+  pub table : Table
+  pub kept : IsKeptIn rem false table
+  pub text : List ℕ
+  pub shown : IsShownText table text
+  pub cut : IsCut before after text
+
+-- what a fault leaves of what a kept index is: the output is as it was or, where it could not be written, has a first part
+abbrev pub LeavesShown : {S : Type 0} → (S → Option (List ℕ)) → StoreFault → Option (List ℕ) → Option (List ℕ) → Type 0
+LeavesShown rem fault before after = (after ≡ before) ⊎ ((fault ≡ Run Write) × HasBegunShown rem before after)

@@ -1,7 +1,7 @@
-use Rattle.std.proofs.Common.{ℕ, List}
-use Rattle.std.specs.Io.KnownBytes.{Appends}
+use Rattle.std.proofs.Common.{◌≡◌, ◌++◌, length, take}
+use Rattle.bsi_store.specs.Lines.{size_lines}
 use Rattle.bsi_store.proofs.showing.tell_sizes.Given as goal
 
--- some lines were written
+-- the lines of the columns so far
 abbrev pub invariant-columns : goal.invariant-columns
-invariant-columns g l = (lines : List ℕ) × Appends (g.W.Write.contents l.initial.writer) (g.W.Write.contents l.writer) lines
+invariant-columns l = l.text.items ≡ l.initial.text.items ++ size_lines (length l.index.rows) (take l.c l.index.schema.columns)
