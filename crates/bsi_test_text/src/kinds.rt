@@ -2,7 +2,7 @@
 
 use bsi_kinds::{
     BooleanForm, DateForm, DateOrder, Dictionary, Kind, NoMemory, Op, TimeForm, TimeUnit,
-    compare_decimal, compare_time, read_date, read_decimal, read_time,
+    compare_decimal, compare_time, read_date, read_decimal, read_rounded, read_time,
 };
 use std::alloc::Global;
 
@@ -41,6 +41,42 @@ const DECIMALS: [(&str, Option<i64>); 27] = [
 fn decimals_are_read(rt: HostRuntime) {
     for (text, want) in DECIMALS {
         assert!(rt; read_decimal(b'.', 2, text.as_bytes()) == want, "{text}");
+    }
+}
+
+/// Places and texts, and the numbers nearest to them.
+const ROUNDED: [(u32, &str, Option<i64>); 22] = [
+    (2, "0.125", Some(12)),
+    (2, "0.135", Some(14)),
+    (2, "-0.125", Some(-12)),
+    (2, "-0.135", Some(-14)),
+    (2, "0.1250000001", Some(13)),
+    (2, "-0.1250000001", Some(-13)),
+    (2, "0.1249999999", Some(12)),
+    (2, "1e-5", Some(0)),
+    (0, "2.5", Some(2)),
+    (0, "3.5", Some(4)),
+    (0, "-0.5", Some(0)),
+    (0, "25e-1", Some(2)),
+    (0, "0.5e1", Some(5)),
+    (0, "49.9e-2", Some(0)),
+    (0, "50.1e-2", Some(1)),
+    (2, "0.30000000000000004", Some(30)),
+    (18, "1.0000000000000000005", Some(1_000_000_000_000_000_000)),
+    (18, "1.0000000000000000015", Some(1_000_000_000_000_000_002)),
+    (0, "9223372036854775807", Some(i64::MAX)),
+    (0, "9223372036854775807.5", None),
+    (0, "1844674407370955161.4", Some(1_844_674_407_370_955_161)),
+    (2, "12a", None),
+];
+
+#[test]
+fn decimals_are_rounded(rt: HostRuntime) {
+    for (places, text, want) in ROUNDED {
+        assert!(rt;
+            read_rounded(b'.', places, text.as_bytes()) == want,
+            "{text}"
+        );
     }
 }
 

@@ -8,7 +8,11 @@ mod calls;
 #[cfg(test)]
 mod ends;
 #[cfg(test)]
+mod inferring;
+#[cfg(test)]
 mod kinds;
+#[cfg(test)]
+mod logicals;
 #[cfg(test)]
 mod parts;
 #[cfg(test)]

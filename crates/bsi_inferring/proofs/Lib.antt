@@ -1,0 +1,9 @@
+pub mod Alike
+pub mod Choosing
+pub mod Inserting
+pub mod Outcomes
+pub mod Plain
+pub mod Spans
+pub mod Steps
+pub mod Taking
+pub mod Widening

@@ -1,0 +1,5 @@
+mod Building
+mod Called
+mod Exactly
+mod Plain
+mod Saying

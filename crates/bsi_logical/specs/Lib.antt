@@ -1,0 +1,5 @@
+pub mod Dialects
+pub mod Entries
+pub mod Logical
+pub mod LogicalTexts
+pub mod Records

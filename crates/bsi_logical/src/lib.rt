@@ -1,0 +1,16 @@
+//! Schemas of kinds: whole numbers as an index has them, what they stand for, and how row files write it.
+#![tactic(auto)]
+
+mod describing;
+mod dialect;
+mod kind_words;
+mod logical;
+mod logical_text;
+mod refusal;
+
+pub use bsi_kinds::{Comparison, Kind, NoMemory, Op};
+pub use describing::describe_logical;
+pub use dialect::Dialect;
+pub use logical::LogicalSchema;
+pub use logical_text::{LogicalFault, read_logical};
+pub use refusal::{DeclareError, Refusal};
