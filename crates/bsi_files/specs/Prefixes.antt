@@ -1,0 +1,51 @@
+-- What a run has of each file if a gate may stop its feeders.
+use Rattle.std.specs.Prelude.{◌≡◌, ◌≤◌, ⊤, ℕ, suc, true, List, [], ◌∷◌, ◌++◌, length}
+use Rattle.csv.specs.declared.parser.State.{State}
+use Rattle.bsi_schema.specs.Columns.{Declared}
+use Rattle.bsi_syntax.specs.Bytes.{Bytes}
+use Rattle.bsi_syntax.specs.Numbers.{Field}
+use Rattle.bsi_rows.specs.Rows.{Entries, SourcedRow}
+use Rattle.bsi_rows.specs.Runs.{rows_from}
+use Rattle.bsi_input.specs.RowFiles.{bad_count, good_rows, is_header}
+use Rattle.bsi_input.specs.SchemaTexts.{IsSchemaText}
+use Rattle.bsi_input.specs.Texts.{AreFirstRecords}
+use Rattle.bsi_answers.specs.RowFiles.{FedCounts}
+use Rattle.bsi_answers.specs.Runs.{AreLines}
+
+-- The bytes begin with a header and records, of which `bad` are bad. The good ones begin with these rows.
+pub record HasPrefix (schema : Declared) (bytes : Bytes) (rows : List Entries) (bad : ℕ) : Type 0 where
+  pub header : List Field
+  pub records : List (List Field)
+  pub state : State
+  pub rest : List ℕ
+  pub unsent : List Entries
+  pub first : AreFirstRecords bytes (header ∷ records) state rest
+  pub header_is : is_header schema header ≡ true
+  pub rows_are : good_rows schema header records ≡ rows ++ unsent
+  pub bad_is : bad ≡ bad_count schema header records
+
+-- Each feeder from n on has as many rows as it accepted, and the good rows of its file begin with them.
+abbrev pub ArePrefixes : Declared → List SourcedRow → ℕ → List (List ℕ) → List FedCounts → Type 0
+ArePrefixes schema rows n [] [] = ⊤
+ArePrefixes schema rows n (bytes ∷ texts) (counts ∷ others) =
+    (length (rows_from n rows) ≡ counts.accepted) × HasPrefix schema bytes (rows_from n rows) counts.bad
+    × ArePrefixes schema rows (suc n) texts others
+ArePrefixes schema rows n texts counts = ⊥
+
+-- The rows are first good rows of each file and no others, within the limit.
+pub record HasLoadedPrefixes (schema : Declared) (limit : ℕ) (texts : List Bytes) (rows : List SourcedRow)
+    (counts : List FedCounts) : Type 0 where
+  pub each : ArePrefixes schema rows 0 texts counts
+  pub none : (f : ℕ) → length texts ≤ f → rows_from f rows ≡ []
+  pub within : length rows ≤ limit
+
+-- The lines of a run whose feeders a gate may stop, over first rows of each file.
+pub record IsPrefixRun (declared : List ℕ) (texts : List Bytes) (records : List (List Field)) (lines : List Bytes)
+    : Type 0 where
+  pub schema : Declared
+  pub limit : ℕ
+  pub rows : List SourcedRow
+  pub counts : List FedCounts
+  pub schema_is : IsSchemaText declared schema limit
+  pub loaded : HasLoadedPrefixes schema limit texts rows counts
+  pub lines_are : AreLines schema rows counts records lines
