@@ -1,4 +1,4 @@
-//! Shows on a terminal how far a run over files is.
+//! How far a run over files is, on a terminal.
 
 use arrayvec::ArrayString;
 use bsi_shell::{Gate, Stopping};

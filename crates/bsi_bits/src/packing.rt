@@ -13,10 +13,10 @@ pub fn trim(words: &mut Vec<u64>, n: u64)
     ensures len { vec_len words.new ≡ vec_len words.old }
     ensures capacity { vec_capacity words.new ≡ vec_capacity words.old }
 {
-    let used = n % 64;
-    if used != 0 {
+    let kept = n % 64;
+    if kept != 0 {
         let last = (n / 64) as usize;
-        words[last] &= (1 << used) - 1;
+        words[last] &= (1 << kept) - 1;
     }
 }
 

@@ -1,124 +1,121 @@
--- What a check finds in the row files and the asks of a run.
-use Rattle.std.specs.Prelude.{◌≡◌, ⊤, ◌⊎◌, ℕ, ◌+◌, ◌≤◌, Bool, true, false, nat_eq, List, [], ◌∷◌, length}
+-- What a check finds of the row files and the asks of a run.
+use Rattle.std.specs.Prelude.{◌≡◌, ⊤, ◌⊎◌, ℕ, ◌+◌, ◌≤◌, Bool, true, false, nat_eq, List, [], ◌∷◌, length, Option}
 use Rattle.csv.specs.Reading.{strip_bom}
 use Rattle.csv.specs.declared.parser.State.{State}
 use Rattle.csv.specs.declared.reader.Reader.{Reader}
-use Rattle.bsi_syntax.specs.Bytes.{Bytes, KnownBytes}
-use Rattle.bsi_syntax.specs.Events.{IsQuery}
-use Rattle.bsi_syntax.specs.Numbers.{Field}
+use Rattle.bsi_records.specs.Events.{IsQuery}
+use Rattle.bsi_records.specs.Numbers.{Field}
 use Rattle.bsi_rows.specs.Rows.{Entries}
 use Rattle.bsi_rows.specs.declared.query.Query.{Query}
 use Rattle.bsi_schema.specs.Columns.{Declared}
-use Rattle.bsi_input.specs.RowFiles.{is_header}
-use Rattle.bsi_input.specs.Sources.{counts_of, max_records, HasNext, HasNoHeader, HasReadRecords, HasReadRows, IsOver, IsWholeFile, Layout}
-use Rattle.bsi_input.specs.Texts.{AreAllRecords, AreFirstRecords, AreTooMany}
-use Rattle.bsi_input.specs.declared.rows.SourceFault.TheVariants as source
-use Rattle.bsi_check.specs.declared.finding.AsksFinding.{AsksFinding}
-use Rattle.bsi_check.specs.declared.finding.AsksFinding.TheVariants as asks
-use Rattle.bsi_check.specs.declared.finding.FileCounts.{FileCounts}
-use Rattle.bsi_check.specs.declared.finding.FileFinding.{FileFinding}
-use Rattle.bsi_check.specs.declared.finding.FileFinding.TheVariants.{Counted, NoHeader, Unread}
+use Rattle.bsi_reading.specs.RowFiles.{is_header}
+use Rattle.bsi_reading.specs.Sources.{counts_of, max_records, HasNext, HasNoHeader, HasRead, HasTaken, IsOver, IsWholeFile, Layout}
+use Rattle.bsi_reading.specs.Texts.{AreAllRecords, AreFirstRecords, AreTooMany}
+use Rattle.bsi_reading.specs.declared.rows.SourceFault.TheVariants as source
+use Rattle.bsi_check.specs.declared.found.AsksFound.{AsksFound}
+use Rattle.bsi_check.specs.declared.found.AsksFound.TheVariants as asks
+use Rattle.bsi_check.specs.declared.found.FileCounts.{FileCounts}
+use Rattle.bsi_check.specs.declared.found.FileFound.{FileFound}
+use Rattle.bsi_check.specs.declared.found.FileFound.TheVariants.{Counted, NoHeader, Unread}
 
 -- ---- a row file
 
 abbrev pub layout_of : Declared → List Field → Layout
 layout_of schema header = record { schema = schema; header = header }
 
--- All records that a reader had left were read and counted, and so were the bad ones among them.
-pub record HasCounted {R : Type 0} (rem : R → KnownBytes) (layout : Layout) (input : Reader R)
+-- all records that a reader had left were read, so many, and so many of them are bad
+pub record HasCounted {R : Type 0} (rem : R → Option (List ℕ)) (layout : Layout) (input : Reader R)
     (counts : FileCounts) : Type 0 where
   pub at : Reader R
   pub rows : List Entries
-  pub read_so_far : HasReadRows rem layout input at (counts_of 0 0) (counts_of counts.records counts.bad) rows
+  pub taken : HasTaken rem layout input at (counts_of 0 0) (counts_of counts.records counts.bad) rows
   pub over : IsOver rem at
 
--- More than 1,000,000 records can be read from the input: `at` is the reader after the first million.
-pub record HasTooManyRecords {R : Type 0} (rem : R → KnownBytes) (input : Reader R) : Type 0 where
+-- a reader has read 1,000,000 records, and has one more
+pub record HasTooMany {R : Type 0} (rem : R → Option (List ℕ)) (input : Reader R) : Type 0 where
   pub at : Reader R
   pub records : List (List Field)
-  pub read : HasReadRecords rem input at records
+  pub read : HasRead rem input at records
   pub many : length records ≡ max_records
   pub more : HasNext rem at
 
--- The text is a row file of the schema. The counts are of the records after its header, and of the bad ones.
-pub record IsCountedFile (schema : Declared) (counts : FileCounts) (text : Bytes) : Type 0 where
+-- the text is a row file of this schema, with so many records after its header, of which so many are bad
+pub record IsCounted (schema : Declared) (counts : FileCounts) (text : List ℕ) : Type 0 where
   pub header : List Field
   pub rows : List Entries
   pub named : is_header schema header ≡ true
   pub whole : IsWholeFile (layout_of schema header) (strip_bom text) (counts_of 0 0)
       (counts_of counts.records counts.bad) rows
 
--- The text is a header of the schema, and more than 1,000,000 records follow it.
-pub record IsTooLongRowFile (schema : Declared) (text : Bytes) : Type 0 where
+-- the text is a header of this schema, and 1,000,000 records and one more follow it
+pub record IsTooLongFile (schema : Declared) (text : List ℕ) : Type 0 where
   pub header : List Field
   pub records : List (List Field)
   pub state : State
   pub rest : List ℕ
   pub named : is_header schema header ≡ true
-  -- The first records of the text are the header and `records`.
   pub first : AreFirstRecords text (header ∷ records) state rest
-  -- `records` are 1,000,000, and one more follows.
   pub too_long : AreTooMany records state rest
 
--- The finding that a check has for a row file with this text. A fault of the reader says nothing of the text.
-abbrev pub IsFileFinding : Declared → FileFinding → List ℕ → Type 0
-IsFileFinding schema (Counted counts) text = IsCountedFile schema counts text
-IsFileFinding schema NoHeader text = HasNoHeader schema (strip_bom text)
-IsFileFinding schema (Unread source.TooLong) text = IsTooLongRowFile schema text
-IsFileFinding schema (Unread source.Read) text = ⊤
-IsFileFinding schema (Unread fault) text = ⊥
+-- what is found of a row file of this text; a fault of the reader says nothing of the text
+abbrev pub IsFound : Declared → FileFound → List ℕ → Type 0
+IsFound schema (Counted counts) text = IsCounted schema counts text
+IsFound schema NoHeader text = HasNoHeader schema (strip_bom text)
+IsFound schema (Unread source.TooLong) text = IsTooLongFile schema text
+IsFound schema (Unread source.Read) text = ⊤
+IsFound schema (Unread fault) text = ⊥
 
--- All records of the file are good.
-abbrev pub is_clean : FileFinding → Bool
+-- all its records are good
+abbrev pub is_clean : FileFound → Bool
 is_clean (Counted counts) = nat_eq counts.bad 0
 is_clean NoHeader = false
 is_clean (Unread fault) = false
 
 -- ---- the asks
 
--- The record asks a query.
-abbrev pub AsksQuery : Declared → List Field → Type 0
-AsksQuery schema fields = (query : Query) × IsQuery schema fields query
+-- the record asks for a query
+abbrev pub IsAsked : Declared → List Field → Type 0
+IsAsked schema fields = (query : Query) × IsQuery schema fields query
 
--- The record asks no query.
-abbrev pub AsksNoQuery : Declared → List Field → Type 0
-AsksNoQuery schema fields = (query : Query) → IsQuery schema fields query → ⊥
+-- the record asks for none
+abbrev pub IsNoQuery : Declared → List Field → Type 0
+IsNoQuery schema fields = (query : Query) → IsQuery schema fields query → ⊥
 
--- The verdict on a record: true if it asks a query, and false if it asks none.
+-- what is said of a record: that it asks for a query, or that it asks for none
 abbrev pub IsAskVerdict : Declared → List Field → Bool → Type 0
-IsAskVerdict schema fields true = AsksQuery schema fields
-IsAskVerdict schema fields false = AsksNoQuery schema fields
+IsAskVerdict schema fields true = IsAsked schema fields
+IsAskVerdict schema fields false = IsNoQuery schema fields
 
--- `bad` of the records ask no query, and each of the others asks one.
+-- so many of the records ask for none, and the others for a query each
 unfoldable pub HaveBadAsks : Declared → List (List Field) → ℕ → Type 0
 HaveBadAsks schema [] bad = bad ≡ 0
 HaveBadAsks schema (fields ∷ records) bad =
-    (AsksQuery schema fields × HaveBadAsks schema records bad)
-    ⊎ (AsksNoQuery schema fields × (others : ℕ) × (bad ≡ others + 1) × HaveBadAsks schema records others)
+    (IsAsked schema fields × HaveBadAsks schema records bad)
+    ⊎ (IsNoQuery schema fields × (others : ℕ) × (bad ≡ others + 1) × HaveBadAsks schema records others)
 
--- The text has at most 1,000,000 records, and `bad` of them ask no query.
-pub record AreCountedAsks (schema : Declared) (bad : ℕ) (text : Bytes) : Type 0 where
+-- the text has at most 1,000,000 records, and so many of them ask for no query
+pub record AreCountedAsks (schema : Declared) (bad : ℕ) (text : List ℕ) : Type 0 where
   pub records : List (List Field)
   pub all : AreAllRecords text records
   pub few : length records ≤ max_records
   pub asked : HaveBadAsks schema records bad
 
--- The text has more than 1,000,000 records.
-pub record AreTooManyAsks (text : Bytes) : Type 0 where
+-- the text has 1,000,000 records, and one more
+pub record AreTooManyAsks (text : List ℕ) : Type 0 where
   pub records : List (List Field)
   pub state : State
   pub rest : List ℕ
   pub first : AreFirstRecords text records state rest
   pub too_long : AreTooMany records state rest
 
--- The finding that a check has for asks with this text. A fault of the reader says nothing of the text.
-abbrev pub IsAsksFinding : Declared → AsksFinding → List ℕ → Type 0
-IsAsksFinding schema (asks.Counted bad) text = AreCountedAsks schema bad text
-IsAsksFinding schema (asks.Unread source.TooLong) text = AreTooManyAsks text
-IsAsksFinding schema (asks.Unread source.Read) text = ⊤
-IsAsksFinding schema (asks.Unread fault) text = ⊥
+-- what is found of the asks of this text; a fault of the reader says nothing of the text
+abbrev pub IsAsksFound : Declared → AsksFound → List ℕ → Type 0
+IsAsksFound schema (asks.Counted bad) text = AreCountedAsks schema bad text
+IsAsksFound schema (asks.Unread source.TooLong) text = AreTooManyAsks text
+IsAsksFound schema (asks.Unread source.Read) text = ⊤
+IsAsksFound schema (asks.Unread fault) text = ⊥
 
--- All asks were read, and none is bad.
-abbrev pub has_good_asks : AsksFinding → Bool
+-- the asks were read to their end, and none is bad
+abbrev pub has_good_asks : AsksFound → Bool
 has_good_asks (asks.Counted bad) = nat_eq bad 0
 has_good_asks (asks.Unread fault) = false

@@ -10,29 +10,27 @@ pub data AnyForm : Type 0 where
   equality_under : List ℕ → AnyForm
   range_under : List ℕ → AnyForm
 
--- the form of a column
 abbrev pub any_form : AnyColumn → AnyForm
 any_form (Slices c) = slices_of c.width
 any_form (Equality c) = equality_under c.bases
 any_form (Range c) = range_under c.bases
 
--- the size of a form: each number is below the size
+-- what each number of a form is below
 abbrev pub size_in_form : AnyForm → ℕ
 size_in_form (slices_of width) = 2 ^ width
 size_in_form (equality_under bs) = product bs
 size_in_form (range_under bs) = product bs
 
--- the size of a column: each number is below the size
+-- what each number is below
 abbrev pub any_size : AnyColumn → ℕ
 any_size c = size_in_form (any_form c)
 
--- the numbers and nulls, in order of the rows
 abbrev pub any_entries : AnyColumn → List (Option ℕ)
 any_entries (Slices c) = c.entries
 any_entries (Equality c) = c.entries
 any_entries (Range c) = c.entries
 
--- for how many more entries there is room
+-- how many more entries there is room for
 abbrev pub any_room : AnyColumn → ℕ
 any_room (Slices c) = c.room
 any_room (Equality c) = c.room

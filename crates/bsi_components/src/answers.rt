@@ -1,4 +1,4 @@
-//! What a component answers of the digits of selected rows: the digit of a rank.
+//! What a component answers of the digits of found rows: the digit of a rank.
 
 /// A digit, and a rank, from 0, among the rows that have it.
 #[derive(Clone, Copy, Debug, PartialEq, Eq)]

@@ -13,7 +13,7 @@ mod range;
 mod reads;
 
 pub use binary_places::BinaryPlaces;
-pub use bsi_kernels::RankedRows;
+pub use bsi_words::RankedRows;
 pub use component::Component;
 pub use encoding::Encoding;
 pub use equality::{Equality, EqualityComponent};

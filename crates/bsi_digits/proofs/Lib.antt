@@ -1,11 +1,9 @@
-pub mod BlockEntries
 pub mod CallerLemmas
-mod Comparing
-mod DigitLists
-mod Parts
 mod Products
-mod Reciprocals
+mod Parts
+mod DigitLists
+mod Comparing
 mod Refusals
 mod Twos
-pub mod Unique
-mod WeightLists
+mod KeptWeights
+mod Reciprocals

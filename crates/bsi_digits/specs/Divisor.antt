@@ -1,21 +1,20 @@
--- The reciprocal that is stored with a divisor.
+-- What is kept beside a divisor.
 use Rattle.std.specs.Prelude.{◌≡◌, ℕ, ◌+◌, ◌-◌, ◌/◌, ◌^◌, ◌≤◌}
 use Rattle.std.specs.Int.{w64, leading_zeros}
 
--- the greatest divisor; each dividend is below the greatest divisor, which makes the quotient exact
+-- the greatest divisor; a number that is divided is below it, which makes the quotient exact
 abbrev pub max_divisor : ℕ
 max_divisor = 2 ^ 63
 
--- the number of binary digits of the number before the divisor: two to this power is the least power of two from the
--- divisor on
+-- how many binary digits the number before the divisor has: two to this power is the least power that is no smaller than
+-- the divisor
 abbrev pub shift_of : ℕ → ℕ
 shift_of d = 64 - leading_zeros w64 (d - 1)
 
--- 2 ^ (63 + shift) over the divisor, rounded up
+-- 2 ^ (63 + shift) parts of one, over the divisor, rounded up
 abbrev pub reciprocal_of : ℕ → ℕ
 reciprocal_of d = (2 ^ (63 + shift_of d) + d - 1) / d
 
--- a divisor with its reciprocal and shift
 pub record IsDivisor (divisor reciprocal shift : ℕ) : Type 0 where
   pub some : 1 ≤ divisor
   pub small : divisor ≤ max_divisor

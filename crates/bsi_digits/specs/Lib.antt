@@ -1,12 +1,5 @@
-pub mod Blocks
 pub mod Digits
-pub mod Divisor
-pub mod Offsets
-pub mod Orders
-pub mod Ranks
 pub mod Refusal
-pub mod Rows
-pub mod Signed
-pub mod Totals
 pub mod Weights
-pub mod WholeNumbers
+pub mod Divisor
+pub mod Signed

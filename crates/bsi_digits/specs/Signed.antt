@@ -5,7 +5,7 @@ use Rattle.std.specs.Prelude.{ℕ, ◌^◌, ℤ, pos, neg_ℤ, ◌≤ℤ◌, ◌
 abbrev pub least_i64 : ℤ
 least_i64 = neg_ℤ (pos (2 ^ 63))
 
--- one more than the greatest number of 64 bits
+-- what each number of 64 bits is below
 abbrev pub end_of_i64 : ℕ
 end_of_i64 = 2 ^ 63
 

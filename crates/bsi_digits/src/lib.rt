@@ -1,14 +1,11 @@
-//! The arithmetic below bitmaps: a number as digits under a list of bases, and what comparisons and totals say of numbers
-//! in an order.
+//! A number as digits under a list of bases.
 #![tactic(auto)]
 
 mod bases;
 mod bases_error;
 mod divisor;
 pub mod laws;
-mod op;
 
 pub use bases::{Bases, DigitStep, MAX_BASE};
 pub use bases_error::BasesError;
-pub use op::Op;
 pub use std::alloc::AllocError as NoMemory;

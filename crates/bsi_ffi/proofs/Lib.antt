@@ -1,11 +1,11 @@
 pub mod AsBox
 pub mod AskedOn
 pub mod Flat
-pub mod ColumnInputs
-pub mod InputRows
-pub mod FileBytes
+pub mod GivenColumns
+pub mod GivenRows
+pub mod KeptBytes
 pub mod NotNullWords
 pub mod RowsByColumn
 pub mod Steps
-pub mod Statuses
+pub mod Telling
 pub mod Zips

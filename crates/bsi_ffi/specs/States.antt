@@ -1,19 +1,19 @@
--- The index of a handle.
+-- What a handle holds.
 use Rattle.std.specs.Prelude.{Bool, true, false, Option, Some, None}
-use Rattle.bsi_ffi.specs.declared.state.HandleState.{HandleState}
-use Rattle.bsi_ffi.specs.declared.state.HandleState.TheVariants.{Moved, Owned, Shared}
-use Rattle.bsi_ffi.specs.OpenIndex.{OpenIndex}
+use Rattle.bsi_ffi.specs.declared.state.State.{State}
+use Rattle.bsi_ffi.specs.declared.state.State.TheVariants.{Alone, Shared, Moved}
+use Rattle.bsi_ffi.specs.Opened.{Opened}
 
--- The index of a handle. A closed handle has none.
-abbrev pub opened_in : Option HandleState → Option OpenIndex
+-- the index that a handle holds; a closed handle holds none
+abbrev pub opened_in : Option State → Option Opened
 opened_in None = None
-opened_in (Some (Owned opened)) = Some opened
+opened_in (Some (Alone opened)) = Some opened
 opened_in (Some (Shared opened)) = Some opened.value
 opened_in (Some Moved) = None
 
--- Several handles share the index.
-abbrev pub is_shared : Option HandleState → Bool
+-- several handles hold the index
+abbrev pub is_shared : Option State → Bool
 is_shared None = false
-is_shared (Some (Owned opened)) = false
+is_shared (Some (Alone opened)) = false
 is_shared (Some (Shared opened)) = true
 is_shared (Some Moved) = false

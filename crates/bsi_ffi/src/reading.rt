@@ -1,13 +1,13 @@
-//! Reads the text of a schema from memory.
+//! The text of a schema file, read from memory.
 
 ghost use Rattle.std.specs.Prelude.{◌≡◌, ℕ, List, IfErr, IfOk, OnOk};
-ghost use Rattle.bsi_input.specs.SchemaTexts.{IsSchemaFault, IsSchemaText};
-ghost use Rattle.bsi_ffi.specs.Calls.{IsFeederCount, IsNewIndex, IsTextRefusal};
+ghost use Rattle.bsi_reading.specs.SchemaTexts.{IsSchemaFault, IsSchemaText};
+ghost use Rattle.bsi_ffi.specs.Calls.{IsFeederCount, IsNew, IsTextRefusal};
 
-use crate::open_index::OpenIndex;
+use crate::opened::Opened;
 use crate::refusal::Refusal;
-use bsi_input::{SchemaFault, SourceFault, read_schema};
-use bsi_syntax::DeclaredTable;
+use bsi_reading::{SchemaFault, SourceFault, read_schema};
+use bsi_records::DeclaredTable;
 use bsi_table::Index;
 use std::alloc::Global;
 
@@ -17,10 +17,10 @@ pub(crate) fn open_text(
     text: &[u8],
     feeders: u32,
     bad_record: &mut u64,
-) -> Result<OpenIndex, Refusal>
+) -> Result<Opened, Refusal>
     requires feeders { IsFeederCount feeders }
     requires zero { bad_record.old ≡ 0 }
-    ensures opened { IfOk result (IsNewIndex text.now feeders) }
+    ensures opened { IfOk result (IsNew text.now feeders) }
     ensures zero { OnOk result (bad_record.new ≡ 0) }
     ensures refused { IfErr result (IsTextRefusal text.now bad_record.new) }
 {
@@ -29,7 +29,7 @@ pub(crate) fn open_text(
         // There is a column, and the limit is that of a record, so only memory can be refused.
         return Err(Refusal::NoMemory);
     };
-    Ok(OpenIndex::new(text.to_vec(alloc)?, index))
+    Ok(Opened::new(text.to_vec(alloc)?, index))
 }
 
 /// Reads the columns and the limit that the text declares. If a record is bad, it writes the record's number, from 1.

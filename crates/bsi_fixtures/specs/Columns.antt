@@ -7,21 +7,21 @@ use Rattle.bsi_fixtures.specs.declared.columns.TestForm.{TestForm}
 use Rattle.bsi_fixtures.specs.declared.columns.TestForm.TheVariants.{Slices, Equality, Range}
 use Rattle.bsi_fixtures.specs.declared.columns.Wide.{Wide}
 
--- the form of a column of a width, with the bases least significant first
+-- the form of a column so wide; its bases stand least significant first
 abbrev pub column_form : TestForm → Wide → AnyForm
 column_form Slices wide = slices_of wide.width
 column_form Equality wide = equality_under (reverse wide.bases.now)
 column_form Range wide = range_under (reverse wide.bases.now)
 
--- a column can have `width` slices
+-- a column can have so many slices
 abbrev pub IsWidth : ℕ → Type 0
 IsWidth width = (1 ≤ width) × (width ≤ max_slices)
 
--- the list is an accepted list of bases, as written
+-- a list is one of bases, as written
 abbrev pub AreBases : List ℕ → Type 0
 AreBases list = refusal list ≡ None
 
--- there is a column of the form and the width
+-- there is a column of the form so wide
 abbrev pub IsWide : TestForm → Wide → Type 0
 IsWide Slices wide = IsWidth wide.width
 IsWide Equality wide = AreBases wide.bases.now

@@ -11,17 +11,17 @@ use Rattle.bsi_fixtures.specs.declared.columns.TestForm.{TestForm}
 use Rattle.bsi_fixtures.specs.declared.columns.TestForm.TheVariants.{Slices, Equality, Range}
 use Rattle.bsi_fixtures.specs.declared.columns.Wide.{Wide}
 
--- the form of a column, with the bases least significant first
+-- the form that a column is kept in; its bases stand least significant first
 abbrev pub stored_form : TestForm → Wide → StoredForm
 stored_form Slices wide = stored_slices wide.width
 stored_form Equality wide = stored_equality (reverse wide.bases.now)
 stored_form Range wide = stored_range (reverse wide.bases.now)
 
--- the column as a schema declares the column
+-- the column as its schema declares it
 abbrev pub as_column : DeclaredColumn → NamedColumn
 as_column column = named_column column.name.now (stored_form column.form column.wide) column.offset
 
--- the numbers of the column do not begin at 0
+-- it takes numbers from another one than 0 up
 abbrev pub has_offset : DeclaredColumn → Bool
 has_offset column = not (int_eq column.offset (pos 0))
 

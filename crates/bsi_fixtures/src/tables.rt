@@ -10,7 +10,7 @@ use crate::columns::{TestForm, Wide};
 use bsi_table::{ColumnSpec, Pred, Row, Schema, SchemaError};
 use std::alloc::Global;
 
-/// A column that is declared: its name, its form, and the least number that it accepts.
+/// A column that is declared: its name, its form, and the least number that it takes.
 #[derive(Clone, Copy)]
 pub struct DeclaredColumn<'a> {
     /// The name.
@@ -49,7 +49,7 @@ fn spec(alloc: Global, form: TestForm, wide: Wide) -> Result<ColumnSpec, NoMemor
 fn add_once(alloc: Global, schema: &mut Schema, column: DeclaredColumn) -> Result<(), SchemaError>
     ensures added { OnOk result (schema.new
         ≡ with_column schema.old (as_column column.entry) (has_offset column.entry)) }
-    ensures unchanged { OnErr result (schema.new ≡ schema.old) }
+    ensures kept { OnErr result (schema.new ≡ schema.old) }
 {
     let spec = spec(alloc, column.form, column.wide)?;
     if column.offset == 0 {
@@ -64,7 +64,7 @@ fn add_once(alloc: Global, schema: &mut Schema, column: DeclaredColumn) -> Resul
 pub fn add(alloc: Global, schema: &mut Schema, column: DeclaredColumn) -> Result<(), SchemaError>
     ensures added { OnOk result (schema.new
         ≡ with_column schema.old (as_column column.entry) (has_offset column.entry)) }
-    ensures unchanged { OnErr result (schema.new ≡ schema.old) }
+    ensures kept { OnErr result (schema.new ≡ schema.old) }
 {
     match add_once(alloc, schema, column) {
         Err(SchemaError::NoMemory) => add_once(alloc, schema, column),

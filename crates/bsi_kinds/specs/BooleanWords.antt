@@ -1,7 +1,7 @@
 -- The words of booleans.
 use Rattle.bsi_kinds.specs.Decimals.{Field}
 
--- The word for false, and the word for true.
+-- the word of what is false, and that of what is true
 pub record BooleanWords : Type 0 where
   pub no : Field
   pub yes : Field

@@ -47,7 +47,7 @@ pub fn read_boolean(form: &BooleanForm, text: &[u8]) -> Option<i64>
     }
 }
 
-/// Appends the word of 1 or 0, or a prefix of it.
+/// Appends the word of 1 or 0, or a first part of it.
 pub fn write_boolean(form: &BooleanForm, number: i64, line: &mut Vec<u8>) -> Result<(), NoMemory>
     ensures { OnOk result (line.new.items ≡ line.old.items ++ boolean_text form.now number) }
 {

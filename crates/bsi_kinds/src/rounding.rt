@@ -18,7 +18,7 @@ pub fn read_rounded(point: u8, places: u32, text: &[u8]) -> Option<i64>
 {
     match read_decimal(point, places, text) {
         None => round(point, places, text),
-        exact => exact,
+        found => found,
     }
 }
 

@@ -49,7 +49,7 @@ impl Core {
         limit: u64,
     ) -> Result<Core, MakeError>
         ensures ok { IfOk result (λ core. core ≡ new_machine schema capacities.items limit) }
-        ensures accepted { OnOk result (sizes_refusal schema capacities.items limit ≡ None) }
+        ensures taken { OnOk result (sizes_refusal schema capacities.items limit ≡ None) }
         ensures refused { IfErr result
             (IsFirstOr MakeError.NoMemory (sizes_refusal schema capacities.items limit)) }
     {

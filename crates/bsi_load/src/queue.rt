@@ -1,4 +1,4 @@
-//! A feeder of a machine: the queue of its rows.
+//! What a machine keeps of a feeder: the queue of its rows.
 
 ghost use Rattle.std.specs.Prelude.{◌≡◌, if◌then◌else◌};
 

@@ -2,5 +2,4 @@ pub mod Dialects
 pub mod Entries
 pub mod Logical
 pub mod LogicalTexts
-pub mod Meanings
 pub mod Records

@@ -12,7 +12,7 @@ use Rattle.bsi_kinds.specs.declared.kind.Kind.TheVariants.{Decimal}
 use Rattle.bsi_logical.specs.Dialects.{is_dialect, usual_dialect}
 use Rattle.bsi_logical.specs.declared.dialect.Dialect.{Dialect}
 
--- A logical schema: columns of whole numbers with a limit of rows, their titles and kinds, and how row files are written.
+-- columns of whole numbers and the most rows, the title and the kind of each column, and how row files are written
 pub record Logical : Type 0 where
   pub schema : Declared
   pub limit : ℕ
@@ -21,11 +21,11 @@ pub record Logical : Type 0 where
   pub dialect : Dialect
   pub nulls : List Field
 
--- The names of the columns of a schema.
+-- the names of the columns of a schema
 abbrev pub names_of : Declared → List Field
 names_of schema = map (λ column. column.name) schema.columns
 
--- Plain columns: each is of whole numbers, and its title is its name.
+-- plain columns: each is of whole numbers, and its title is its name
 abbrev pub plain_logical : Declared → ℕ → Logical
 plain_logical schema limit = record {
   schema = schema;
@@ -36,11 +36,11 @@ plain_logical schema limit = record {
   nulls = [];
 }
 
--- The schema before any declaration: no column.
+-- no column
 abbrev pub nothing_said : Logical
 nothing_said = plain_logical no_columns max_rows
 
--- The name, the title and the kind of column c.
+-- the name, the title and the kind of column c
 abbrev pub name_of : Logical → ℕ → Field
 name_of l c = (column_at l.schema.columns c).name
 
@@ -53,20 +53,17 @@ title_of l c = title_at l.titles c
 abbrev pub kind_of : Logical → ℕ → Kind
 kind_of l c = kind_at l.kinds c
 
--- The column that has the text as its title, or else as its name.
-abbrev pub column_called : Logical → Field → Option ℕ
-column_called l text =
+-- the column of this title, or else of this name
+abbrev pub place_of : Logical → Field → Option ℕ
+place_of l text =
     option_or (position (λ title. bytes_eq text title) l.titles) (position_of l.schema.columns text)
 
--- A valid logical schema.
+-- each column has a title and a kind; a title is no other column's title or name
 pub record IsLogical (l : Logical) : Type 0 where
-  -- Each column has a title, and there are no more titles than columns.
   pub titled : length l.titles ≡ length l.schema.columns
   pub few : length l.titles ≤ max_columns
-  -- Each column has a kind.
   pub kinded : length l.kinds ≡ length l.schema.columns
   pub kinds : All IsKind l.kinds
-  -- Titles are distinct, and no title is another column's name.
   pub titles : (a b : ℕ) → a < length l.titles → b < length l.titles → title_of l a ≡ title_of l b → a ≡ b
   pub names : (a b : ℕ) → a < length l.titles → b < length l.titles → title_of l a ≡ name_of l b → a ≡ b
   pub dialect : IsTrue (is_dialect l.dialect)

@@ -1,10 +1,10 @@
--- The text of a logical schema: what its records say, one after another.
+-- The text of a schema of kinds: what its records say, one after another.
 use Rattle.std.specs.Prelude.{◌≡◌, ℕ, ◌+◌, ◌<◌, ◌≤◌, List, [], ◌∷◌, ◌++◌, length, Result, Ok, Err, IsOk}
 use Rattle.csv.specs.declared.parser.State.{State}
 use Rattle.bsi_kinds.specs.Decimals.{Field}
-use Rattle.bsi_input.specs.Sources.{max_records}
-use Rattle.bsi_input.specs.Texts.{AreAllRecords, AreFirstRecords, AreTooMany}
-use Rattle.bsi_input.specs.declared.rows.SourceFault.TheVariants as source
+use Rattle.bsi_reading.specs.Sources.{max_records}
+use Rattle.bsi_reading.specs.Texts.{AreAllRecords, AreFirstRecords, AreTooMany}
+use Rattle.bsi_reading.specs.declared.rows.SourceFault.TheVariants as source
 use Rattle.bsi_logical.specs.Logical.{nothing_said, Logical}
 use Rattle.bsi_logical.specs.Records.{record_said, Said}
 use Rattle.bsi_logical.specs.declared.logical_text.LogicalFault.{LogicalFault}
@@ -12,49 +12,46 @@ use Rattle.bsi_logical.specs.declared.logical_text.LogicalFault.TheVariants.{Bad
 use Rattle.bsi_logical.specs.declared.refusal.DeclareError.{DeclareError}
 use Rattle.bsi_logical.specs.declared.refusal.DeclareError.TheVariants.{NoMemory, Refused}
 use Rattle.bsi_logical.specs.declared.refusal.Refusal.{Refusal}
-use Rattle.bsi_syntax.specs.Bytes.{Bytes}
 
--- What a list of records says after the ones before it.
+-- what is said next
 abbrev pub said_then : (Logical → Said) → Said → Said
 said_then next (Ok l) = next l
 said_then next (Err why) = Err why
 
--- What records say, one after another.
+-- what records say, one after another
 abbrev pub records_said : Logical → List (List Field) → Said
 records_said l [] = Ok l
 records_said l (fields ∷ records) = said_then (λ after. records_said after records) (record_said l fields)
 
--- The records of the bytes, at most 1,000,000, say a logical schema.
-pub record Says (bytes : Bytes) (l : Logical) : Type 0 where
+-- the records of these bytes, at most 1,000,000, say this
+pub record Says (bytes : List ℕ) (l : Logical) : Type 0 where
   pub records : List (List Field)
   pub all : AreAllRecords bytes records
   pub few : length records ≤ max_records
   pub said : records_said nothing_said records ≡ Ok l
 
--- The bytes say a logical schema of one column or more.
-pub record IsLogicalText (bytes : Bytes) (l : Logical) : Type 0 where
+-- these bytes say this schema, of one column or more
+pub record IsLogicalText (bytes : List ℕ) (l : Logical) : Type 0 where
   pub says : Says bytes l
   pub some : 0 < length l.schema.columns
 
 -- ---- texts that say no schema
 
--- The record of a number, from 1, is refused for a reason, after the records before it.
-pub record IsRefusedRecord (bytes : Bytes) (number : ℕ) (why : Refusal) : Type 0 where
+-- the record of this number, from 1, says nothing after those before it, for this reason
+pub record IsBadRecord (bytes : List ℕ) (number : ℕ) (why : Refusal) : Type 0 where
   pub records : List (List Field)
   pub fields : List Field
   pub before : Logical
   pub state : State
   pub rest : List ℕ
-  -- The text begins with `records`, and `fields` are the next record.
   pub first : AreFirstRecords bytes (records ++ fields ∷ []) state rest
   pub number_is : number ≡ length records + 1
   pub few : number ≤ max_records
-  -- The records before it say the schema `before`.
   pub said : records_said nothing_said records ≡ Ok before
   pub bad : record_said before fields ≡ Err why
 
--- The first 1,000,000 records say a logical schema, and one more record follows.
-pub record SaysTooLong (bytes : Bytes) : Type 0 where
+-- the first 1,000,000 records say something, and there is one more
+pub record SaysTooLong (bytes : List ℕ) : Type 0 where
   pub records : List (List Field)
   pub state : State
   pub rest : List ℕ
@@ -62,28 +59,28 @@ pub record SaysTooLong (bytes : Bytes) : Type 0 where
   pub too_long : AreTooMany records state rest
   pub said : IsOk (records_said nothing_said records)
 
--- The records say no column.
-pub record SaysNoColumn (bytes : Bytes) : Type 0 where
+-- the records say no column
+pub record SaysNoColumn (bytes : List ℕ) : Type 0 where
   pub logical : Logical
   pub says : Says bytes logical
   pub none : length logical.schema.columns ≡ 0
 
--- What a fault means for the bytes. The text has no header, so no fault is of one.
+-- what the fault that ends the reading tells of the bytes; none is of a header, since such a text has no header
 abbrev pub IsLogicalFault : List ℕ → LogicalFault → Type 0
-IsLogicalFault bytes (BadRecord number why) = IsRefusedRecord bytes number why
+IsLogicalFault bytes (BadRecord number why) = IsBadRecord bytes number why
 IsLogicalFault bytes NoColumns = SaysNoColumn bytes
 IsLogicalFault bytes (Source source.TooLong) = SaysTooLong bytes
 IsLogicalFault bytes (Source source.BadHeader) = ⊥
 IsLogicalFault bytes (Source fault) = Unit {0}
 
--- The fault of a record that was not carried out.
+-- the fault of a record that was not carried out
 abbrev pub fault_of : ℕ → DeclareError → LogicalFault
 fault_of number (Refused why) = BadRecord number why
 fault_of number NoMemory = Source source.NoMemory
 
--- A text that says a schema is read as that schema, unless its reader fails or memory is refused.
+-- a text that says a schema is read as that one, unless its reader fails or memory is refused
 abbrev pub Reads : Logical → Result Logical LogicalFault → Type 0
-Reads l (Ok read) = read ≡ l
+Reads l (Ok found) = found ≡ l
 Reads l (Err (Source source.Read)) = Unit {0}
 Reads l (Err (Source source.NoMemory)) = Unit {0}
 Reads l (Err fault) = ⊥

@@ -1,20 +1,19 @@
 -- A share of a whole.
 use Rattle.std.specs.Prelude.{ℕ, ◌-◌, ◌*◌, ◌/◌, ◌<◌, ◌≤◌, ◌&&◌, nat_lt, nat_le, if◌then◌else◌, Option, Some, None}
 
--- a fraction: numerator over denominator
+-- so many parts of a whole
 pub record Share : Type 0 where
-  pub numerator : ℕ
-  pub denominator : ℕ
+  pub part : ℕ
+  pub whole : ℕ
 
--- a share is a fraction from 0 to 1
+-- a whole has parts, and a share no more than these
 abbrev pub IsShare : ℕ → ℕ → Type 0
-IsShare numerator denominator = (0 < denominator) × (numerator ≤ denominator)
+IsShare part whole = (0 < whole) × (part ≤ whole)
 
--- the share of numerator over denominator, or none if that is no fraction from 0 to 1
 abbrev pub share_of : ℕ → ℕ → Option Share
-share_of numerator denominator =
-    if nat_lt 0 denominator && nat_le numerator denominator then Some (record { numerator = numerator; denominator = denominator }) else None
+share_of part whole =
+    if nat_lt 0 whole && nat_le part whole then Some (record { part = part; whole = whole }) else None
 
--- the rank, from 0, of a share of `count` numbers: the last rank times the share, rounded down
+-- the rank, from 0, at the end of a share of so many numbers, rounded down
 abbrev pub share_rank : Share → ℕ → ℕ
-share_rank share count = (count - 1) * share.numerator / share.denominator
+share_rank share count = (count - 1) * share.part / share.whole

@@ -32,7 +32,7 @@ pub enum SubmitRefused {
 
 /// Why no row is loaded, in the order of the checks. A running system answers the same, where the rows of a feeder wait
 /// in a ring: there `Empty` says that no row is seen, and `Ended` that the feeder is settled and all its rows are
-/// loaded.
+/// taken.
 #[derive(Clone, Copy, Debug, PartialEq, Eq)]
 pub enum LoadRefused {
     /// There is no such feeder.

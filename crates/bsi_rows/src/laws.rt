@@ -2,10 +2,10 @@
 //! as any contract is.
 
 ghost use Rattle.std.specs.Prelude.{◌≡◌, ◌↔◌, ◌-◌, ◌/◌, ℤ, List, [], ◌∷◌, Option, length};
-ghost use Rattle.bsi_digits.specs.WholeNumbers.{IsSignedMedianOf};
+ghost use Rattle.bsi_orders.specs.WholeNumbers.{IsSignedMedianOf};
 ghost use Rattle.bsi_rows.specs.declared.event.Event.{Event};
 ghost use Rattle.bsi_rows.specs.declared.event.Reply.{Reply};
-ghost use Rattle.bsi_digits.specs.Ranks.{IsSignedRankOf};
+ghost use Rattle.bsi_orders.specs.Ranks.{IsSignedRankOf};
 ghost use Rattle.bsi_rows.specs.Shown.{Shown, IsLawful};
 ghost use Rattle.bsi_rows.specs.Runs.{Done, AreLawful, IsConserved, StaysClosed, past_of, shown_after};
 

@@ -32,9 +32,9 @@ pub enum Form {
     Range(Bases),
 }
 
-/// What a schema stores of a column beside its name: its form, and the least number that it accepts.
+/// What a schema keeps of a column beside its name: its form, and the least number that it takes.
 #[derive(Debug, Drop)]
-pub(crate) struct Layout {
+pub(crate) struct Kind {
     pub(crate) form: Form,
     pub(crate) offset: i64,
 }
@@ -95,11 +95,11 @@ impl Form {
     }
 }
 
-impl Clone for Layout {
-    ghost is_clone = { λ layout made. made ≡ layout };
+impl Clone for Kind {
+    ghost is_clone = { λ kind made. made ≡ kind };
 
-    fn clone(&self) -> Result<Layout, NoMemory> {
-        Ok(Layout {
+    fn clone(&self) -> Result<Kind, NoMemory> {
+        Ok(Kind {
             form: self.form.copy()?,
             offset: self.offset,
         })

@@ -40,7 +40,7 @@ fn is_name_byte(byte: u8) -> bool
 }
 
 /// Returns whether the text is one of the words that predicates are written with.
-pub fn is_word(text: &[u8]) -> bool
+fn is_word(text: &[u8]) -> bool
     ensures { result ≡ is_word text.now }
 {
     text == b"all".as_slice()

@@ -3,7 +3,7 @@ ghost use Rattle.std.specs.Prelude.{IfErr, IfOk};
 ghost use Rattle.bsi_shell.specs.Checks.{HasReportedOver, LeavesCheck};
 ghost use Rattle.bsi_shell.specs.FileRuns.{IsOpenFault};
 
-use crate::files::{RunFault, open_file};
+use crate::files::{RunFault, open_one};
 use crate::paths::CheckPaths;
 use bsi_check::{CheckFault, NamedFile, check_files};
 use bsi_files::FilesFault;
@@ -26,14 +26,14 @@ impl From<CheckFault> for RunFault<'_> {
 }
 
 /// Opens the files, checks them, and flushes the output. It returns whether there was no reason.
-pub(crate) fn check_paths<'a, R: AllocGlobal + Files<File = S>, S: Read + Drop, O: Write>(
+pub(crate) fn check_over<'a, R: AllocGlobal + Files<File = S>, S: Read + Drop, O: Write>(
     rt: &R,
     paths: &CheckPaths<'a>,
     output: &mut O,
 ) -> Result<bool, RunFault<'a>>
     ensures reported { IfOk result
         (HasReportedOver S.remaining (O.contents output.old) (O.contents output.new)) }
-    ensures after_fault { IfErr result (λ fault.
+    ensures left { IfErr result (λ fault.
         LeavesCheck S.remaining fault (O.contents output.old) (O.contents output.new)) }
 {
     let schema = open_named(rt, paths.schema)?;
@@ -53,7 +53,7 @@ fn open_named<'a, R: Files<File = S>, S: Read + Drop>(
 ) -> Result<NamedFile<'a, S>, RunFault<'a>>
     ensures { IfErr result IsOpenFault }
 {
-    let reader = open_file(rt, path)?;
+    let reader = open_one(rt, path)?;
     Ok(NamedFile { path, reader })
 }
 

@@ -3,19 +3,19 @@
 #![tactic(auto)]
 
 mod check;
-mod fault_lines;
 mod files;
+mod kept;
 mod paths;
 mod request;
-mod store_commands;
+mod telling;
 mod words;
 
 pub use bsi_files::{FaultText, FeedEnd, FilesFault, Gate, Go, Stopping, Which, feed, run_files};
 pub use bsi_store::LockFile;
 pub use bsi_system::{
-    Analyst, AnalystRefused, BatchRefused, Closing, Feeder, History, LoadRefused, Loader, NoMemory,
-    OpenRefused, SettleRefused, SubmitRefused, System, SystemTag, Told, open,
+    Analyst, AnalystRefused, BatchRefused, Closing, Feeder, History, LoadRefused, Loader, Naming,
+    NoMemory, OpenRefused, SettleRefused, SubmitRefused, System, Told, open,
 };
 pub use bsi_text::{ScriptFault, WriteFault};
-pub use fault_lines::write_fault;
+pub use telling::tell_fault;
 pub use words::{CommandEnd, run_words};

@@ -7,7 +7,8 @@ ghost use Rattle.bsi_shell.specs.Commands.{subcommand_of};
 ghost use Rattle.bsi_shell.specs.Requests.{IsRequestOf};
 
 use crate::paths::{CheckPaths, Paths};
-use bsi_store::{AddPaths, AskPaths, SavePaths};
+use bsi_adding::{AddPaths, SavePaths};
+use bsi_store::AskPaths;
 use clap::error::ErrorKind;
 use clap::{Arg, ArgAction, ArgMatches, Command, Error};
 use std::alloc::{AllocError, Global};
@@ -19,15 +20,15 @@ pub(crate) enum Subcommand {
     Script,
     /// Runs over files.
     Files,
-    /// Says what a run over files would not accept.
+    /// Says what a run over files would not take.
     Check,
-    /// Saves the rows of files in a file.
+    /// Keeps the rows of files in a file.
     Save,
-    /// Adds rows to a saved index.
+    /// Adds rows to a kept index.
     Add,
-    /// Answers questions over a saved index.
+    /// Answers questions over a kept index.
     Ask,
-    /// Says what a saved index is.
+    /// Says what a kept index is.
     Show,
 }
 
@@ -40,13 +41,13 @@ enum Argument {
     Asks,
     /// That file, which may be left out.
     AsksIfGiven,
-    /// The file that is to get the rows.
+    /// The file that is to keep the rows.
     To,
-    /// The file of an index.
-    Index,
-    /// Whether a file that is not whole is read as far as it goes.
+    /// The file that keeps an index.
+    Kept,
+    /// Whether a file that is not whole is taken as far as it goes.
     SoFar,
-    /// Whether a file that is no index is replaced.
+    /// Whether a file that keeps no index is replaced.
     Force,
     /// The row files, one or more.
     Rows,
@@ -69,12 +70,12 @@ const COMMANDS: [(&str, &[Argument]); 7] = [
             Argument::Rows,
         ],
     ),
-    ("add", &[Argument::SoFar, Argument::Index, Argument::Rows]),
+    ("add", &[Argument::SoFar, Argument::Kept, Argument::Rows]),
     (
         "ask",
-        &[Argument::SoFar, Argument::Index, Argument::AsksIfGiven],
+        &[Argument::SoFar, Argument::Kept, Argument::AsksIfGiven],
     ),
-    ("show", &[Argument::Index]),
+    ("show", &[Argument::Kept]),
 ];
 
 impl Argument {
@@ -85,7 +86,7 @@ impl Argument {
             Argument::Asks => option(alloc, "asks").required(true),
             Argument::AsksIfGiven => option(alloc, "asks"),
             Argument::To => option(alloc, "to").required(true),
-            Argument::Index => Arg::new(alloc, "kept").required(true),
+            Argument::Kept => Arg::new(alloc, "kept").required(true),
             Argument::SoFar => option(alloc, "so-far").action(ArgAction::SetTrue),
             Argument::Force => option(alloc, "force").action(ArgAction::SetTrue),
             Argument::Rows => Arg::new(alloc, "rows")
@@ -108,15 +109,15 @@ pub(crate) enum Request<'a> {
     Script,
     /// Run over files.
     Files(Paths<'a>),
-    /// Say what a run over files would not accept.
+    /// Say what a run over files would not take.
     Check(CheckPaths<'a>),
-    /// Save the rows of files in a file.
+    /// Keep the rows of files in a file.
     Save(SavePaths<'a>),
-    /// Add rows to a saved index.
+    /// Add rows to a kept index.
     Add(AddPaths<'a>),
-    /// Answer questions over a saved index.
+    /// Answer questions over a kept index.
     Ask(AskPaths<'a>),
-    /// Say what the saved index of this path is.
+    /// Say what the kept index of this path is.
     Show(&'a str),
     /// The words are not a command.
     Wrong,
@@ -205,7 +206,7 @@ fn command_of<'a>(
     Ok(command)
 }
 
-/// Reads the paths from the matches of the command `files`.
+/// Takes the paths from the matches of the command `files`.
 fn read_paths<'a>(alloc: Global, files: &ArgMatches<'a>) -> Result<Request<'a>, AllocError>
     ensures { IfOk result (IsRequestOf Subcommand.Files) }
 {
@@ -223,7 +224,7 @@ fn read_paths<'a>(alloc: Global, files: &ArgMatches<'a>) -> Result<Request<'a>, 
     Ok(Request::Files(Paths { schema, asks, rows }))
 }
 
-/// Reads the paths from the matches of the command `check`.
+/// Takes the paths from the matches of the command `check`.
 fn read_check_paths<'a>(alloc: Global, files: &ArgMatches<'a>) -> Result<Request<'a>, AllocError>
     ensures { IfOk result (IsRequestOf Subcommand.Check) }
 {
@@ -235,7 +236,7 @@ fn read_check_paths<'a>(alloc: Global, files: &ArgMatches<'a>) -> Result<Request
     Ok(Request::Check(CheckPaths { schema, asks, rows }))
 }
 
-/// Reads the paths from the matches of the command `save`.
+/// Takes the paths from the matches of the command `save`.
 fn read_save_paths<'a>(alloc: Global, given: &ArgMatches<'a>) -> Result<Request<'a>, AllocError>
     ensures { IfOk result (IsRequestOf Subcommand.Save) }
 {
@@ -259,11 +260,11 @@ fn read_save_paths<'a>(alloc: Global, given: &ArgMatches<'a>) -> Result<Request<
     }))
 }
 
-/// Reads the paths from the matches of the command `add`.
+/// Takes the paths from the matches of the command `add`.
 fn read_add_paths<'a>(alloc: Global, given: &ArgMatches<'a>) -> Result<Request<'a>, AllocError>
     ensures { IfOk result (IsRequestOf Subcommand.Add) }
 {
-    let (Some(index), Some(rows)) = (given.get_str("kept"), given.get_strs("rows")) else {
+    let (Some(kept), Some(rows)) = (given.get_str("kept"), given.get_strs("rows")) else {
         return Ok(Request::Wrong);
     };
     if rows.is_empty() {
@@ -271,35 +272,27 @@ fn read_add_paths<'a>(alloc: Global, given: &ArgMatches<'a>) -> Result<Request<'
     }
     let rows = rows.to_vec(alloc)?;
     let so_far = given.get_flag("so-far");
-    Ok(Request::Add(AddPaths {
-        index,
-        rows,
-        so_far,
-    }))
+    Ok(Request::Add(AddPaths { kept, rows, so_far }))
 }
 
-/// Reads the paths from the matches of the command `ask`.
+/// Takes the paths from the matches of the command `ask`.
 fn read_ask_paths<'a>(given: &ArgMatches<'a>) -> Request<'a>
     ensures { IsRequestOf Subcommand.Ask result }
 {
-    let Some(index) = given.get_str("kept") else {
+    let Some(kept) = given.get_str("kept") else {
         return Request::Wrong;
     };
     let asks = given.get_str("asks");
     let so_far = given.get_flag("so-far");
-    Request::Ask(AskPaths {
-        index,
-        asks,
-        so_far,
-    })
+    Request::Ask(AskPaths { kept, asks, so_far })
 }
 
-/// Reads the paths from the matches of the command `show`.
+/// Takes the path from the matches of the command `show`.
 fn read_show_path<'a>(given: &ArgMatches<'a>) -> Request<'a>
     ensures { IsRequestOf Subcommand.Show result }
 {
     match given.get_str("kept") {
-        Some(index) => Request::Show(index),
+        Some(kept) => Request::Show(kept),
         None => Request::Wrong,
     }
 }

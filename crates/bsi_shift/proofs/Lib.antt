@@ -1,5 +1,5 @@
 pub mod Comparing
 pub mod Moving
-pub mod ColumnComparisons
+pub mod Relating
 pub mod Shifting
 pub mod Totals

@@ -1,9 +1,9 @@
 pub mod Blocks
 pub mod Spans
 pub mod Decisions
-pub mod Extremes
+pub mod Ends
 pub mod Exchanges
 pub mod NotNull
 pub mod Related
 pub mod Slices
-pub mod PairRelations
+pub mod Standings

@@ -1,3 +1,1 @@
-mod Failing
 mod Named
-mod Notes

@@ -1,24 +1,16 @@
-//! Indexes that are saved in files, by their paths: made of row files, added to, opened, asked and shown.
+//! Indexes that are kept in files, by their paths: opened, asked and shown.
 #![tactic(auto)]
 
-mod add;
-mod add_file;
-mod ask;
+mod asking;
 mod fault;
-mod lines;
-mod lock;
-mod new_file;
+mod locks;
 mod opening;
-mod save;
-mod show;
-mod summary;
-mod target;
+mod showing;
+mod telling;
 
-pub use add::{AddPaths, add_rows};
-pub use ask::{AskPaths, ask_input, ask_over};
+pub use asking::{AskPaths, ask_input, ask_over};
 pub use fault::{FileFault, FileText, MAX_FILE_TEXT, StoreFault};
-pub use lines::push_count_line;
-pub use lock::LockFile;
-pub use opening::{open_file, read_saved};
-pub use save::{SavePaths, save_rows};
-pub use show::show_index;
+pub use locks::LockFile;
+pub use opening::{open_one, read_kept};
+pub use showing::show_index;
+pub use telling::tell_count;

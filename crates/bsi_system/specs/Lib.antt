@@ -1,4 +1,3 @@
+pub mod Channels
 pub mod Opening
-pub mod Readers
-pub mod Rings
 pub mod Running

@@ -21,16 +21,16 @@ pub(crate) fn selects<C: Column>(
     column: &C,
     op: Op,
     constant: u64,
-    expected: &[bool],
+    wanted: &[bool],
 ) -> Result<bool, NoMemory> {
-    let selection = compared(column, op, constant)?;
-    Ok(has_bits(&selection, expected))
+    let found = compared(column, op, constant)?;
+    Ok(has_bits(&found, wanted))
 }
 
 /// Returns whether each of those comparisons selects what it should.
 pub(crate) fn selects_shown<C: Column>(column: &C) -> Result<bool, NoMemory> {
-    for (op, constant, expected) in SHOWN {
-        if !selects(column, op, constant, &expected)? {
+    for (op, constant, wanted) in SHOWN {
+        if !selects(column, op, constant, &wanted)? {
             return Ok(false);
         }
     }
@@ -67,12 +67,12 @@ fn nulls_once(column: &AnyColumn) -> Result<Bits, NoMemory> {
 }
 
 // Whether the nulls are these rows.
-fn nulls_are(column: &AnyColumn, expected: &[bool]) -> Result<bool, NoMemory> {
+fn nulls_are(column: &AnyColumn, wanted: &[bool]) -> Result<bool, NoMemory> {
     let nulls = match nulls_once(column) {
         Err(_) => nulls_once(column)?,
         Ok(nulls) => nulls,
     };
-    Ok(has_bits(&nulls, expected))
+    Ok(has_bits(&nulls, wanted))
 }
 
 fn answers_shown(column: &AnyColumn) -> Result<bool, MakingError> {
@@ -105,8 +105,8 @@ const COUNTED: [(Op, u64, u64); 14] = [
 
 // Whether each of those comparisons selects as many rows as it should.
 fn counts_shown(column: &AnyColumn) -> Result<bool, NoMemory> {
-    for (op, constant, expected) in COUNTED {
-        if compared(column, op, constant)?.count() != expected {
+    for (op, constant, wanted) in COUNTED {
+        if compared(column, op, constant)?.count() != wanted {
             return Ok(false);
         }
     }

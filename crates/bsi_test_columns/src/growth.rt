@@ -56,8 +56,8 @@ fn copied(column: &AnyColumn) -> Result<AnyColumn, NoMemory> {
     }
 }
 
-// Whether a copy shows three rows and accepts a fourth.
-fn accepts_a_fourth(copy: &mut AnyColumn) -> Result<bool, MakingError> {
+// Whether a copy shows three rows and takes a fourth.
+fn takes_a_fourth(copy: &mut AnyColumn) -> Result<bool, MakingError> {
     let alike = selects_shown(copy)?;
     append(copy, &[Some(4)])?;
     Ok(alike && copy.len() == 4)
@@ -65,24 +65,24 @@ fn accepts_a_fourth(copy: &mut AnyColumn) -> Result<bool, MakingError> {
 
 fn is_copied(column: &AnyColumn) -> Result<bool, MakingError> {
     let mut copy = copied(column)?;
-    accepts_a_fourth(&mut copy)
+    takes_a_fourth(&mut copy)
 }
 
-// Whether the column has its three rows still.
-fn is_unchanged(column: &AnyColumn) -> Result<bool, MakingError> {
+// Whether the column then keeps its three rows.
+fn keeps_its_rows(column: &AnyColumn) -> Result<bool, MakingError> {
     Ok(is_copied(column)? && column.len() == 3 && selects_shown(column)?)
 }
 
-fn is_independent(alloc: Global, form: TestForm) -> Result<bool, MakingError> {
+fn stands_apart(alloc: Global, form: TestForm) -> Result<bool, MakingError> {
     let column = three_rows(alloc, form)?;
-    is_unchanged(&column)
+    keeps_its_rows(&column)
 }
 
 #[test]
-fn copies_are_independent_of_their_column(rt: HostRuntime) {
+fn copies_stand_apart_from_their_column(rt: HostRuntime) {
     for form in FORMS {
         assert!(rt;
-            matches!(is_independent(rt.alloc(), form), Ok(true)),
+            matches!(stands_apart(rt.alloc(), form), Ok(true)),
             "{form:?}"
         );
     }

@@ -82,15 +82,15 @@ fn setups_are_read(alloc: Global) -> Result<bool, NoMemory> {
     does_setups(alloc, &mut table)
 }
 
-// Whether a submission's fields from index 2 on are these entries, or none.
+// Whether a submission's fields from place 2 on are these entries, or none.
 fn is_row(
     alloc: Global,
     schema: &Schema,
     line: &str,
     want: Option<&[Option<i128>]>,
 ) -> Result<bool, NoMemory> {
-    let read = row(alloc, schema, line)?;
-    Ok(match (&read, want) {
+    let found = row(alloc, schema, line)?;
+    Ok(match (&found, want) {
         (None, None) => true,
         (Some(row), Some(entries)) => row.values() == entries,
         _ => false,
@@ -107,8 +107,8 @@ fn rows_are_read(alloc: Global, schema: &Schema) -> Result<bool, NoMemory> {
 
 // What a query asks of the rows that it selects.
 fn total(alloc: Global, schema: &Schema, line: &str) -> Result<Option<Total>, NoMemory> {
-    let read = query(alloc, schema, line)?;
-    Ok(match &read {
+    let found = query(alloc, schema, line)?;
+    Ok(match &found {
         None => None,
         Some(query) => Some(query.total),
     })

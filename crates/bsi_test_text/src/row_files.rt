@@ -44,12 +44,12 @@ fn next<R: Read + Drop>(
     }
 }
 
-// Whether a call filled the row with these entries, or answered the rest.
-fn is_given(answer: Result<bool, SourceFault>, row: &Row, want: GivenRow<'_>) -> bool {
-    match (answer, want) {
+// Whether a call filled the row with these entries, or told the rest.
+fn is_given(found: Result<bool, SourceFault>, row: &Row, want: GivenRow<'_>) -> bool {
+    match (found, want) {
         (Ok(false), Ok(None)) => true,
         (Ok(true), Ok(Some(entries))) => row.values() == entries,
-        (Err(fault), Err(expected)) => fault == expected,
+        (Err(fault), Err(wanted)) => fault == wanted,
         _ => false,
     }
 }
@@ -63,12 +63,12 @@ fn gives_each<R: Read + Drop>(
     is_own: bool,
 ) -> Result<bool, SourceFault> {
     for given in file.want {
-        let answer = next(source, row, is_own);
-        if answer == Err(SourceFault::NoMemory) {
+        let found = next(source, row, is_own);
+        if found == Err(SourceFault::NoMemory) {
             let again = next(source, row, is_own);
-            return if again == answer { answer } else { Ok(false) };
+            return if again == found { found } else { Ok(false) };
         }
-        if !is_given(answer, row, *given) {
+        if !is_given(found, row, *given) {
             return Ok(false);
         }
     }

@@ -2,7 +2,7 @@
 
 use crate::ends::{broken, whole};
 use bsi_fixtures::TextReader;
-use bsi_input::describe_schema;
+use bsi_reading::describe_schema;
 use bsi_text::{SchemaFault, SourceFault, read_schema};
 use std::alloc::Global;
 

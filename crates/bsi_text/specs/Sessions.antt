@@ -1,7 +1,7 @@
--- The phase of a session.
+-- A session as what its script has come to.
 use Rattle.bsi_text.specs.declared.session.Session.{Session}
 use Rattle.bsi_text.specs.declared.session.Session.TheVariants as session
-use Rattle.bsi_input.specs.Scripts.{Phase, Declaring, Running}
+use Rattle.bsi_reading.specs.Scripts.{Phase, Declaring, Running}
 
 abbrev pub phase_of : Session → Phase
 phase_of (session.Declaring setup) = Declaring setup

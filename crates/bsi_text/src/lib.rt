@@ -4,10 +4,10 @@
 mod script;
 mod session;
 
-pub use bsi_input::{
+pub use bsi_reading::{
     RecordSource, RowSource, SchemaFault, SourceFault, WriteFault, laws, read_schema, write_bytes,
 };
-pub use bsi_syntax::{
+pub use bsi_records::{
     DeclaredTable, NoMemory, read_number, read_query, read_row, read_setup, read_signed, write_bad,
     write_fed, write_reply,
 };

@@ -5,10 +5,10 @@ use crate::binary_places::BinaryPlaces;
 use crate::building::{are_below, digit_of_place, make_bitmaps, with_places};
 use crate::component::Component;
 use crate::encoding::Encoding;
-use crate::places::stored_places;
+use crate::places::kept_places;
 use crate::reads::Reads;
 use bsi_bits::{Bitmaps, Bits};
-use bsi_kernels::spans::assign;
+use bsi_words::spans::copy_in;
 use std::marker::PhantomData;
 
 impl<M: Reads> BinaryPlaces for Component<M> {
@@ -36,7 +36,7 @@ impl<M: Reads> BinaryPlaces for Component<M> {
         if places.is_empty() {
             self.eq_span_into(digit_of_place(self.base(), k), at, span);
         } else {
-            assign(&places[k], at, span);
+            copy_in(&places[k], at, span);
         }
     }
 
@@ -45,9 +45,9 @@ impl<M: Reads> BinaryPlaces for Component<M> {
         if !are_below(alloc, &places, base)? {
             return Ok(None);
         }
-        let stored = stored_places(base);
-        let made = make_bitmaps::<M>(alloc, &places, base, stored)?;
-        let bitmaps = Bitmaps::from_vectors(with_places(made, places, stored));
+        let kept = kept_places(base);
+        let made = make_bitmaps::<M>(alloc, &places, base, kept)?;
+        let bitmaps = Bitmaps::from_vectors(with_places(made, places, kept));
         Ok(Some(Component {
             base,
             bitmaps,

@@ -1,4 +1,4 @@
-//! Whether two logical schemas are the same.
+//! Whether two schemas of kinds are the same.
 
 ghost use Rattle.std.specs.Prelude.{◌≡◌, ◌↔◌, map, IsTrue};
 

@@ -1,5 +1,5 @@
 use Rattle.std.proofs.Common.{rules}
-use Rattle.bsi_input.specs.SchemaTexts.{IsSchemaFault}
+use Rattle.bsi_reading.specs.SchemaTexts.{IsSchemaFault}
 use Rattle.bsi_ffi.proofs.reading.read_declared.Goals as goal
 
 -- the bytes in memory are those that were read

@@ -1,0 +1,2 @@
+mod Failing
+mod Notes

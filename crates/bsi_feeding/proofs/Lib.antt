@@ -1,0 +1,2 @@
+mod Feeds
+mod Filled

@@ -1,0 +1,75 @@
+-- Rows of columns, block by block.
+use Rattle.std.proofs.Common.{◌≡◌, ◌<◌, ℕ, ◌+◌, List, [], ◌∷◌, ◌++◌, true, refl, ap, sym, subst, ◌∙◌, zero, suc, arith, append_assoc}
+use Rattle.std.specs.Prelude.{IsTrue}
+use Rattle.std.proofs.lemmas.List.{append-nil}
+use Rattle.std.proofs.lemmas.List.FromFn.{map-range_with_len_more}
+use Rattle.std.proofs.lemmas.List.Elements.{All-nil, All-push}
+use Rattle.bsi_schema.specs.Columns.{fits, NamedColumn}
+use Rattle.bsi_rows.specs.Rows.{FedRow}
+use Rattle.bsi_rows.specs.Table.{with_rows, AreFitting, AreFrom, Table}
+use Rattle.bsi_ffi.specs.declared.columns.GivenColumn.{GivenColumn}
+use Rattle.bsi_ffi.specs.Columns.{given_rows, row_of}
+
+-- one row more
+given_rows-more : (feeder : ℕ) (columns : List GivenColumn) (from n : ℕ)
+    → given_rows feeder columns from (n + 1) ≡ given_rows feeder columns from n ++ (feeder, row_of columns (from + n)) ∷ []
+unfolding given_rows
+given_rows-more feeder columns from n = map-range_with_len_more (λ r. (feeder, row_of columns r)) from n (from + n) refl
+
+-- no row
+given_rows-none : (feeder : ℕ) (columns : List GivenColumn) (from : ℕ) → given_rows feeder columns from 0 ≡ []
+unfolding given_rows
+given_rows-none feeder columns from = refl
+
+-- a block behind another
+pub given_rows-append : (feeder : ℕ) (columns : List GivenColumn) (from a b : ℕ)
+    → given_rows feeder columns from (a + b) ≡ given_rows feeder columns from a ++ given_rows feeder columns (from + a) b
+given_rows-append feeder columns from a zero =
+    let none : a + 0 ≡ a = omega arith in
+    ap (given_rows feeder columns from) none ∙ sym (ap (λ (more : List FedRow). given_rows feeder columns from a ++ more) (given_rows-none feeder columns (from + a)) ∙ append-nil _)
+given_rows-append feeder columns from a (suc b) =
+    let next : a + suc b ≡ a + b + 1 = omega arith in
+    let last : from + (a + b) ≡ from + a + b = omega arith in
+    let one : b + 1 ≡ suc b = omega arith in
+    ap (given_rows feeder columns from) next ∙ given_rows-more feeder columns from (a + b)
+    ∙ ap (λ (rows : List FedRow). rows ++ (feeder, row_of columns (from + (a + b))) ∷ []) (given_rows-append feeder columns from a b)
+    ∙ append_assoc (given_rows feeder columns from a) (given_rows feeder columns (from + a) b) ((feeder, row_of columns (from + (a + b))) ∷ [])
+    ∙ ap (λ (rows : List FedRow). given_rows feeder columns from a ++ rows)
+    (ap (λ (r : ℕ). given_rows feeder columns (from + a) b ++ (feeder, row_of columns r) ∷ []) last
+    ∙ sym (given_rows-more feeder columns (from + a) b) ∙ ap (given_rows feeder columns (from + a)) one)
+
+-- an index with no row more
+pub with_none : (t : Table) (feeder : ℕ) (columns : List GivenColumn) → with_rows t (given_rows feeder columns 0 0) ≡ t
+with_none t feeder columns =
+    ap (λ (more : List FedRow). record t { rows = t.rows ++ more }) (given_rows-none feeder columns 0) ∙ ap (λ (rows : List FedRow). record t { rows = rows }) (append-nil t.rows)
+
+-- an index with a block more
+pub with_block : (t u v : Table) (feeder : ℕ) (columns : List GivenColumn) (a b c : ℕ)
+    → u ≡ with_rows t (given_rows feeder columns 0 a) → v ≡ with_rows u (given_rows feeder columns a b) → a + b ≡ c
+    → v ≡ with_rows t (given_rows feeder columns 0 c)
+with_block t u v feeder columns a b c first next all =
+    let zero_first : 0 + a ≡ a = omega arith in
+    next ∙ ap (λ (w : Table). with_rows w (given_rows feeder columns a b)) first
+    ∙ ap (λ (rows : List FedRow). record t { rows = rows }) (append_assoc t.rows (given_rows feeder columns 0 a) (given_rows feeder columns a b))
+    ∙ ap (λ (rows : List FedRow). record t { rows = t.rows ++ rows })
+    (ap (λ (r : ℕ). given_rows feeder columns 0 a ++ given_rows feeder columns r b) (sym zero_first) ∙ sym (given_rows-append feeder columns 0 a b) ∙ ap (given_rows feeder columns 0) all)
+
+-- rows that fit
+pub fitting-given_rows : (declared : List NamedColumn) (feeder : ℕ) (columns : List GivenColumn) (from n : ℕ)
+    → ((r : ℕ) → r < from + n → fits declared (row_of columns r) ≡ true) → AreFitting declared (given_rows feeder columns from n)
+fitting-given_rows declared feeder columns from zero each =
+    subst (AreFitting declared) (sym (given_rows-none feeder columns from)) (All-nil (λ (row : FedRow). IsTrue (fits declared row.1)))
+fitting-given_rows declared feeder columns from (suc n) each =
+    let one : suc n ≡ n + 1 = omega arith in
+    subst (AreFitting declared) (sym (ap (given_rows feeder columns from) one ∙ given_rows-more feeder columns from n))
+    (All-push (λ (row : FedRow). IsTrue (fits declared row.1)) (given_rows feeder columns from n) (feeder, row_of columns (from + n))
+    (fitting-given_rows declared feeder columns from n (λ r within. each r (omega (arith, within)))) (each (from + n) (omega arith)))
+
+-- rows of a feeder that there is
+pub from-given_rows : (feeders feeder : ℕ) (columns : List GivenColumn) (from n : ℕ) → feeder < feeders → AreFrom feeders (given_rows feeder columns from n)
+from-given_rows feeders feeder columns from zero there =
+    subst (AreFrom feeders) (sym (given_rows-none feeder columns from)) (All-nil (λ (row : FedRow). row.0 < feeders))
+from-given_rows feeders feeder columns from (suc n) there =
+    let one : suc n ≡ n + 1 = omega arith in
+    subst (AreFrom feeders) (sym (ap (given_rows feeder columns from) one ∙ given_rows-more feeder columns from n))
+    (All-push (λ (row : FedRow). row.0 < feeders) (given_rows feeder columns from n) (feeder, row_of columns (from + n)) (from-given_rows feeders feeder columns from n there) there)

@@ -1,0 +1,104 @@
+-- The rows of a found set, and their entries in a first column and in others.
+use Rattle.std.proofs.Common.{◌≡◌, ℕ, Bool, true, false, List, [], ◌∷◌, Option, ℤ, All, Contains, map, filter, refl, ap, sym, subst, ◌∙◌}
+use Rattle.std.specs.Prelude.{◌&&◌}
+use Rattle.std.specs.List.{items_where_true}
+use Rattle.std.specs.Simd.Lanes.{zip2}
+use Rattle.std.proofs.lemmas.Simd.{map-map}
+use Rattle.std.proofs.lemmas.List.Elements.{All-cons, All-contains, All-contains_itself, All-filter, All-head, All-map, All-nil, All-tail, All-weaker, filter_passes}
+use Rattle.bsi_schema.specs.Columns.{entry_at}
+use Rattle.bsi_rows.specs.Rows.{row_entries, FedRow}
+use Rattle.bsi_groups.specs.Entries.{is_entry}
+use Rattle.bsi_groups.specs.ColumnGroups.{column_entries_at, rows_with_entry}
+use Rattle.bsi_groups.specs.Groups.{entries_at, entries_in}
+use Rattle.bsi_groups.proofs.Order.{entry_is, is_itself}
+use Rattle.bsi_groups.proofs.Remaining.{entries_passing, unfiltered}
+
+-- what a map makes of the items of a found set
+pub found_map : {X Y : Type 0} (f : X → Y) (found : List Bool) (xs : List X) → items_where_true found (map f xs) ≡ map f (items_where_true found xs)
+found_map f [] [] = refl
+found_map f [] (x ∷ xs) = refl
+found_map f (b ∷ found) [] = refl
+found_map f (true ∷ found) (x ∷ xs) = ap (λ ys. f x ∷ ys) (found_map f found xs)
+found_map f (false ∷ found) (x ∷ xs) = found_map f found xs
+
+module _ {X : Type 0} where
+  -- what holds of each that a map makes
+  pub unmapped : {Y : Type 0} (P : Y → Type 0) (f : X → Y) (xs : List X) → All P (map f xs) → All (λ x. P (f x)) xs
+  unmapped P f [] all = All-nil (λ x. P (f x))
+  unmapped P f (x ∷ xs) all = All-cons (λ x. P (f x)) x xs (All-head P (f x) (map f xs) all) (unmapped P f xs (All-tail P (f x) (map f xs) all))
+
+  -- what holds of two facts of each
+  pub both : (P Q R : X → Type 0) → ((x : X) → P x → Q x → R x) → (xs : List X) → All P xs → All Q xs → All R xs
+  both P Q R then_so [] all others = All-nil R
+  both P Q R then_so (x ∷ xs) all others =
+      All-cons R x xs (then_so x (All-head P x xs all) (All-head Q x xs others)) (both P Q R then_so xs (All-tail P x xs all) (All-tail Q x xs others))
+
+-- a row's entry in a column
+abbrev pub entry_in : ℕ → FedRow → Option ℤ
+entry_in c row = entry_at (row_entries row) c
+
+module _ (found : List Bool) (first : ℕ) (others : List ℕ) (rows : List FedRow) where
+  -- the found rows
+  abbrev pub found_rows : List FedRow
+  found_rows = items_where_true found rows
+
+  pub firsts_are : column_entries_at found first rows ≡ map (entry_in first) found_rows
+  firsts_are = found_map (entry_in first) found rows
+
+  pub keys_are : entries_at found (first ∷ others) rows ≡ map (entries_in (first ∷ others)) found_rows
+  keys_are = found_map (entries_in (first ∷ others)) found rows
+
+  module _ (e : Option ℤ) where
+    has : FedRow → Bool
+    has row = is_entry e (entry_in first row)
+
+    -- the other entries of the rows that have this first one
+    abbrev pub other_entries : List (List (Option ℤ))
+    other_entries = entries_at (rows_with_entry found first rows e) others rows
+
+    others_are : other_entries ≡ map (entries_in others) (filter has found_rows)
+    unfolding has
+    others_are =
+        found_map (entries_in others) (rows_with_entry found first rows e) rows
+        ∙ ap (λ bits. map (entries_in others) (items_where_true (zip2 ◌&&◌ bits found) rows)) (map-map (is_entry e) (entry_in first) rows)
+        ∙ ap (map (entries_in others)) (entries_passing has rows found)
+
+    -- what holds of them holds of each such row's
+    pub of_others : (P : List (Option ℤ) → Type 0) → All P other_entries → All (λ row. entry_in first row ≡ e → P (entries_in others row)) found_rows
+    unfolding has
+    of_others P all =
+        All-weaker (λ row. has row ≡ true → P (entries_in others row)) (λ row. entry_in first row ≡ e → P (entries_in others row))
+        (λ row holds is. holds (ap (is_entry e) is ∙ is_itself e)) found_rows
+        (unfiltered (λ row. P (entries_in others row)) has found_rows (unmapped P (entries_in others) (filter has found_rows) (subst (All P) others_are all)))
+
+    -- a found row has both
+    pub both_there : All (λ ys. Contains (entries_at found (first ∷ others) rows) (e ∷ ys)) other_entries
+    unfolding has
+    both_there =
+        subst (All P) (sym others_are)
+        (All-map P (entries_in others) (filter has found_rows)
+        (both There (λ row. has row ≡ true) (λ row. P (entries_in others row))
+        (λ row there is. subst (λ x. Contains keys (x ∷ entries_in others row)) (entry_is e (entry_in first row) is) there) (filter has found_rows)
+        (All-filter has There found_rows (unmapped (Contains keys) (entries_in (first ∷ others)) found_rows (subst (All (Contains keys)) keys_are (All-contains_itself keys))))
+        (filter_passes has found_rows)))
+      where
+        keys : List (List (Option ℤ))
+        keys = entries_at found (first ∷ others) rows
+
+        P : List (Option ℤ) → Type 0
+        P ys = Contains keys (e ∷ ys)
+
+        There : FedRow → Type 0
+        There row = Contains keys (entries_in (first ∷ others) row)
+
+    -- a first entry has others
+    pub others_of : Contains (column_entries_at found first rows) e → (ys : List (Option ℤ)) × Contains other_entries ys
+    others_of there =
+        All-contains P (map (entry_in first) found_rows) e
+        (All-map P (entry_in first) found_rows
+        (All-weaker (λ row. entry_in first row ≡ e → Contains other_entries (entries_in others row)) (λ row. P (entry_in first row)) (λ row holds is. (entries_in others row, holds is)) found_rows
+        (of_others (Contains other_entries) (All-contains_itself other_entries))))
+        (subst (λ entries. Contains entries e) firsts_are there) refl
+      where
+        P : Option ℤ → Type 0
+        P x = x ≡ e → (ys : List (Option ℤ)) × Contains other_entries ys

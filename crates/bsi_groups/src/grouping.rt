@@ -1,0 +1,172 @@
+//! Groups of rows, and the total of a query over each.
+
+ghost use Rattle.std.specs.Prelude.{◌≡◌, ◌<◌, ◌≤◌, ◌∷◌, [], None, length, IfErr, IfOk, OnOk};
+ghost use Rattle.bsi_rows.specs.Answers.{columns_of_total, missing_of};
+ghost use Rattle.bsi_groups.specs.Groups.{missing_grouped, selected_by, AreGroups, IsGroupRefusal, IsRefusedOver};
+
+use crate::column::group_found;
+use crate::groups::{Groups, groups_alone};
+use crate::taking::{first_entry, take_rows};
+use bsi_bits::Bits;
+use bsi_table::{Index, Query, Total};
+use std::alloc::{AllocError, Global};
+
+/// The refusals of a call for groups, in the order in which they are checked.
+#[derive(Clone, Copy, Debug, PartialEq, Eq)]
+pub enum GroupError {
+    /// There is no column of this number. It is the first one that the query reads and that is missing, as for
+    /// `Index::ask`, or else the first of the columns of the groups.
+    BadColumn(u32),
+    /// There would be more groups than asked for.
+    TooMany,
+    /// Memory was refused.
+    NoMemory,
+}
+
+impl From<AllocError> for GroupError {
+    ghost use Rattle.bsi_groups.specs.declared.grouping.GroupError.TheVariants.{NoMemory};
+
+    ghost from_gives = { λ _ e. e ≡ NoMemory };
+
+    fn from(_refused: AllocError) -> GroupError {
+        GroupError::NoMemory
+    }
+}
+
+/// Puts the rows that a query selects in groups by their entries in the columns `by`, and answers the query's total for
+/// each. The groups come in order of the first column's numbers, null last, and those of one first entry in order of the
+/// second's, and so on; by no column all rows are one group. There may be `most` of them.
+///
+/// By one column it passes over that about twice for each group, makes a bit for each row, and does what the total does.
+/// Where the total is a count, a sum, or the least or greatest number, and an entry of the column may be few numbers, at
+/// most 65,536 and at most eight for each row, it does so for the first 32 groups alone. Those behind them it makes in one
+/// pass, with 64 bytes for each of these numbers. Elsewhere it copies and sorts the numbers that are left behind the first
+/// 256 groups, and so tells then whether there are too many. By more columns it passes over the first one about twice for
+/// each entry there, and does the same by the others for the rows of each.
+pub fn group_by(
+    alloc: Global,
+    index: &Index,
+    query: &Query,
+    by: &[u32],
+    most: usize,
+) -> Result<Groups, GroupError>
+    ensures there { OnOk result
+        (missing_grouped (length index.now.schema.columns) query.now by.now ≡ None) }
+    ensures columns { IfOk result (λ groups. groups.columns ≡ length by.now) }
+    ensures groups { IfOk result (λ groups. AreGroups query.now.total
+        (selected_by query.now index.now.rows) by.now index.now.rows groups.groups) }
+    ensures few { IfOk result (λ groups. length groups.groups ≤ most) }
+    ensures refused { IfErr result
+        (IsGroupRefusal index.now.schema index.now.rows query.now by.now most) }
+{
+    let columns = index.schema().columns();
+    if let Some(missing) = query.missing_column(columns) {
+        return Err(GroupError::BadColumn(missing));
+    }
+    if let Some(missing) = missing_among(columns, by) {
+        return Err(GroupError::BadColumn(missing));
+    }
+    // Each column that the predicate reads is there, so only memory can be refused.
+    let Ok(found) = index.select(&query.pred) else {
+        return Err(GroupError::NoMemory);
+    };
+    groups_found(alloc, index, query.total, by, found, most)
+}
+
+/// Returns the first of these columns that is none of the first `columns`.
+fn missing_among(columns: u32, by: &[u32]) -> Option<u32>
+    ensures { result ≡ missing_of columns by.now }
+{
+    by.iter().copied().find(|c| *c >= columns)
+}
+
+/// Puts the rows of a found set in groups, as `group_by` does.
+fn groups_found(
+    alloc: Global,
+    index: &Index,
+    total: Total,
+    by: &[u32],
+    found: Bits,
+    most: usize,
+) -> Result<Groups, GroupError>
+    requires by { missing_of (length index.now.schema.columns) by.now ≡ None }
+    requires there { missing_of (length index.now.schema.columns) (columns_of_total total) ≡ None }
+    requires same { length found.bits ≡ length index.now.rows }
+    ensures columns { IfOk result (λ groups. groups.columns ≡ length by.now) }
+    ensures groups { IfOk result (λ groups.
+        AreGroups total found.bits by.now index.now.rows groups.groups) }
+    ensures few { IfOk result (λ groups. length groups.groups ≤ most) }
+    ensures refused { IfErr result (IsRefusedOver found.bits by.now index.now.rows most) }
+{
+    if by.is_empty() {
+        return group_all(alloc, index, total, &found, most);
+    }
+    if by.len() == 1 {
+        return groups_by_one(alloc, index, total, by[0], found, most);
+    }
+    let (first, others) = (by[0], &by[1..]);
+    let column = index.column(first);
+    let mut rest = found;
+    let mut groups = Groups::new(alloc, by.len());
+    // Each entry of the first column makes a group or more.
+    'entries: for _ in 0..most {
+        let Some(entry) = first_entry(column, &rest)? else {
+            return Ok(groups);
+        };
+        let rows = take_rows(column, entry, &mut rest)?;
+        let room = most - groups.len();
+        let behind = groups_found(alloc, index, total, others, rows, room)?;
+        groups = groups.with_behind(entry, behind)?;
+    }
+    match first_entry(column, &rest)? {
+        None => Ok(groups),
+        Some(_) => Err(GroupError::TooMany),
+    }
+}
+
+/// Puts the rows of a found set in groups by one column.
+fn groups_by_one(
+    alloc: Global,
+    index: &Index,
+    total: Total,
+    by: u32,
+    found: Bits,
+    most: usize,
+) -> Result<Groups, GroupError>
+    requires by { by < length index.now.schema.columns }
+    requires there { missing_of (length index.now.schema.columns) (columns_of_total total) ≡ None }
+    requires same { length found.bits ≡ length index.now.rows }
+    ensures columns { IfOk result (λ groups. groups.columns ≡ 1) }
+    ensures groups { IfOk result (λ groups.
+        AreGroups total found.bits (by ∷ []) index.now.rows groups.groups) }
+    ensures few { IfOk result (λ groups. length groups.groups ≤ most) }
+    ensures refused { IfErr result (IsRefusedOver found.bits (by ∷ []) index.now.rows most) }
+{
+    let made = group_found(alloc, index, total, by, found, most)?;
+    Ok(groups_alone(alloc, made)?)
+}
+
+/// Makes the rows of a found set one group, by no column.
+fn group_all(
+    alloc: Global,
+    index: &Index,
+    total: Total,
+    found: &Bits,
+    most: usize,
+) -> Result<Groups, GroupError>
+    requires there { missing_of (length index.now.schema.columns) (columns_of_total total) ≡ None }
+    requires same { length found.now.bits ≡ length index.now.rows }
+    ensures columns { IfOk result (λ groups. groups.columns ≡ 0) }
+    ensures groups { IfOk result (λ groups.
+        AreGroups total found.now.bits [] index.now.rows groups.groups) }
+    ensures few { IfOk result (λ groups. length groups.groups ≤ most) }
+    ensures refused { IfErr result (IsRefusedOver found.now.bits [] index.now.rows most) }
+{
+    if found.count() == 0 {
+        return Ok(Groups::new(alloc, 0));
+    }
+    if most == 0 {
+        return Err(GroupError::TooMany);
+    }
+    Ok(Groups::of_all(alloc, index.total(found, total)?)?)
+}

@@ -1,0 +1,187 @@
+//! What a column may have, as far as its fields were seen.
+
+ghost use Rattle.std.specs.Prelude.{◌≡◌, ◌⊎◌, true, false, map, IsTrue, IfOk, OnOk};
+ghost use Rattle.bsi_kinds.specs.Decimals.{Field};
+ghost use Rattle.bsi_inferring.specs.Candidates.{first_candidate, AreJoined};
+ghost use Rattle.bsi_inferring.specs.Digits.{AreJoinedDecimals};
+ghost use Rattle.bsi_inferring.specs.Columns.{has_left, is_null, GathersOn, HasJoinedKinds, HasNextKinds, HasSameKinds, IsAlike, IsBegun, IsBegunWithTexts, KeepsBoth, KeepsOnly, LooksFor, MissesTexts, Takes, WasNull, WasText};
+
+use crate::NoMemory;
+use crate::candidate::{Candidate, find_left, join_each, take_each};
+use crate::decimals::Decimals;
+use crate::form::FORMS;
+use crate::gathered::Gathered;
+use crate::nulls::is_word;
+use crate::seen::Seen;
+use crate::text_set::TextSet;
+use bsi_kinds::DateOrder;
+use std::alloc::Global;
+
+/// The kinds that a column may have, as far as its fields were seen.
+#[derive(Drop)]
+pub struct Candidates {
+    pub(crate) point: u8,
+    pub(crate) decimals: Decimals,
+    pub(crate) forms: Vec<Candidate>,
+    pub(crate) nulls: TextSet,
+    pub(crate) gathered: Gathered,
+}
+
+impl Candidates {
+    /// Begins a column of which no field was seen. Decimals have this point. Of dates that have the year last, those of
+    /// this order are looked for; without it both, and dates of which each may be read both ways are a doubt.
+    pub fn new(alloc: Global, point: u8, order: Option<DateOrder>) -> Result<Candidates, NoMemory>
+        ensures begun { IfOk result (IsBegun point order) }
+        ensures forms { IfOk result (LooksFor point) }
+    {
+        let forms = list_forms(alloc, order)?;
+        Ok(Candidates {
+            point,
+            decimals: Decimals {
+                places: 0,
+                seen: Seen::Nothing,
+                spelled: true,
+            },
+            forms,
+            nulls: TextSet::new(alloc),
+            gathered: Gathered::new(alloc),
+        })
+    }
+
+    /// Begins a column of texts, of which no field was seen.
+    pub fn of_texts(alloc: Global) -> Candidates
+        ensures { IsBegunWithTexts result }
+    {
+        Candidates {
+            point: b'.',
+            decimals: Decimals {
+                places: 0,
+                seen: Seen::Fallen,
+                spelled: false,
+            },
+            forms: Vec::new(alloc),
+            nulls: TextSet::new(alloc),
+            gathered: Gathered::new(alloc),
+        }
+    }
+
+    /// Takes the next field of the column. `words` are the null words, by which a field says no more than an empty one,
+    /// unless the column has texts. If memory runs out, the column may miss this field, and no other.
+    pub fn take(&mut self, words: &[Vec<u8>], field: &[u8]) -> Result<(), NoMemory>
+        ensures field { OnOk result (Takes self.new field.now) }
+        ensures kept { (f : Field) → Takes self.old f → Takes self.new f }
+
+        // A null leaves the candidates as they were.
+        ensures null { is_null (map (λ w. w.items) words.now) field.now ≡ true →
+            HasSameKinds self.old self.new }
+
+        // A value leaves those that read it.
+        ensures value { is_null (map (λ w. w.items) words.now) field.now ≡ false →
+            HasNextKinds field.now self.old self.new }
+
+        ensures texts { GathersOn field.now self.old self.new }
+        ensures only { KeepsOnly (map (λ w. w.items) words.now) field.now self.old self.new }
+        ensures alike { IsAlike self.old self.new }
+    {
+        if field.is_empty() {
+            Ok(())
+        } else if is_word(words, field) {
+            self.take_null(field)
+        } else {
+            self.take_value(field)
+        }
+    }
+
+    /// Takes the fields of another part of the column, which began alike. If memory runs out, the column may miss some of
+    /// those.
+    pub fn join(&mut self, other: Candidates) -> Result<(), NoMemory>
+        requires { IsAlike self.old other }
+        ensures kept { (f : Field) → Takes self.old f → Takes self.new f }
+        ensures joined { OnOk result ((f : Field) → Takes other f → Takes self.new f) }
+        ensures alike { IsAlike self.old self.new }
+        ensures kinds { HasJoinedKinds self.old other self.new }
+        ensures missing { MissesTexts self.new → MissesTexts self.old ⊎ MissesTexts other }
+        ensures only { KeepsBoth self.old other self.new }
+    {
+        let Candidates {
+            point: _,
+            decimals,
+            forms,
+            nulls,
+            gathered,
+        } = other;
+        self.join_kinds(decimals, &forms);
+        self.nulls.add_all(nulls)?;
+        self.gathered.join(gathered)
+    }
+
+    /// Joins the candidates with those of another part of the column.
+    fn join_kinds(&mut self, decimals: Decimals, forms: &[Candidate])
+        requires { map (λ c. c.form) self.old.forms.items ≡ map (λ c. c.form) forms.now }
+        ensures point { self.new.point ≡ self.old.point }
+        ensures decimals { AreJoinedDecimals self.old.decimals decimals self.new.decimals }
+        ensures forms { AreJoined self.old.forms.items forms.now self.new.forms.items }
+        ensures nulls { self.new.nulls ≡ self.old.nulls }
+        ensures gathered { self.new.gathered ≡ self.old.gathered }
+    {
+        self.decimals = self.decimals.join(decimals);
+        join_each(&mut self.forms, forms);
+    }
+
+    /// Takes a null word.
+    fn take_null(&mut self, word: &[u8]) -> Result<(), NoMemory>
+        ensures field { OnOk result (Takes self.new word.now) }
+        ensures kept { (f : Field) → Takes self.old f → Takes self.new f }
+        ensures same { HasSameKinds self.old self.new }
+        ensures texts { GathersOn word.now self.old self.new }
+        ensures nulls { (f : Field) → WasNull self.new f → WasNull self.old f ⊎ (f ≡ word.now) }
+        ensures only { (f : Field) → WasText self.new f → WasText self.old f ⊎ (f ≡ word.now) }
+    {
+        self.nulls.add(word)?;
+        self.gathered.add(word)
+    }
+
+    /// Takes a field that is not null.
+    fn take_value(&mut self, field: &[u8]) -> Result<(), NoMemory>
+        ensures field { OnOk result (Takes self.new field.now) }
+        ensures kept { (f : Field) → Takes self.old f → Takes self.new f }
+        ensures next { HasNextKinds field.now self.old self.new }
+        ensures texts { GathersOn field.now self.old self.new }
+        ensures nulls { self.new.nulls ≡ self.old.nulls }
+        ensures only { (f : Field) → WasText self.new f → WasText self.old f ⊎ (f ≡ field.now) }
+    {
+        self.read_value(field);
+        if self.has_left() {
+            self.gathered.leave();
+            return Ok(());
+        }
+        self.gathered.add(field)
+    }
+
+    /// Gives each candidate a field that is not null.
+    fn read_value(&mut self, field: &[u8])
+        ensures next { HasNextKinds field.now self.old self.new }
+        ensures nulls { self.new.nulls ≡ self.old.nulls }
+        ensures gathered { self.new.gathered ≡ self.old.gathered }
+    {
+        self.decimals = self.decimals.with(self.point, field);
+        take_each(&mut self.forms, field);
+    }
+
+    /// Returns whether a candidate is left, or each field that is not null is a decimal at least.
+    fn has_left(&self) -> bool
+        ensures { result ≡ has_left self.now }
+    {
+        self.decimals.spelled || find_left(&self.forms).is_some()
+    }
+}
+
+/// Makes a list of the forms that a column may have, of which no field was seen.
+fn list_forms(alloc: Global, order: Option<DateOrder>) -> Result<Vec<Candidate>, NoMemory>
+    ensures { IfOk result (λ forms. forms.items ≡ map (first_candidate order) FORMS) }
+{
+    FORMS
+        .iter()
+        .map(|form| Candidate::first(*form, order))
+        .collect(alloc)
+}

@@ -1,0 +1,87 @@
+//! Which of the candidates of a column is meant.
+
+ghost use Rattle.std.specs.Prelude.{◌≡◌, ℕ};
+ghost use Rattle.bsi_kinds.specs.Decimals.{Field};
+ghost use Rattle.bsi_inferring.specs.Candidates.{EachTakes};
+ghost use Rattle.bsi_inferring.specs.Choices.{choice_of, date_choice, form_choice, order_choice, HasFewPlaces, IsChosenFor, IsSeen};
+ghost use Rattle.bsi_inferring.specs.Columns.{TakesValue};
+
+use crate::candidate::{Candidate, find_left, has_month_first};
+use crate::candidates::Candidates;
+use crate::form::Form;
+use crate::seen::Seen;
+use crate::span::Span;
+use bsi_kinds::{DateForm, DateOrder, MAX_PLACES};
+
+/// What is meant of the candidates of a column.
+#[derive(Clone, Copy, Debug, PartialEq, Eq)]
+pub(crate) enum Choice {
+    /// None: each field is null.
+    Nothing,
+    /// Decimals of so many places.
+    Decimals(u32, Span),
+    /// A form.
+    Form(Form, Span),
+    /// Decimals that need too many digits, and have so many places.
+    Digits(usize),
+    /// Dates, of which day or month may stand first, with this sign between two numbers.
+    Orders(u8),
+    /// Texts.
+    Texts,
+}
+
+impl Candidates {
+    /// Chooses the first candidate that is left.
+    pub(crate) fn choose(&self) -> Choice
+        ensures is { result ≡ choice_of self.now.decimals self.now.forms.items }
+        ensures few { HasFewPlaces result }
+        ensures takes { (f : Field) → TakesValue self.now f → IsChosenFor self.now.point result f }
+    {
+        match self.decimals.seen {
+            Seen::Nothing => Choice::Nothing,
+            Seen::Numbers(span) if self.decimals.places <= MAX_PLACES as usize => {
+                Choice::Decimals(self.decimals.places as u32, span)
+            }
+            _ => self.choose_form(),
+        }
+    }
+
+    /// Chooses the first form that is left.
+    fn choose_form(&self) -> Choice
+        ensures is { result ≡ form_choice self.now.decimals self.now.forms.items }
+        ensures few { HasFewPlaces result }
+        ensures takes { (f : Field) → TakesValue self.now f → IsChosenFor self.now.point result f }
+    {
+        match find_left(&self.forms) {
+            Some((form, span)) => choose_order(form, span, &self.forms),
+            None if self.decimals.spelled => Choice::Digits(self.decimals.places),
+            None => Choice::Texts,
+        }
+    }
+}
+
+/// Chooses a form, unless it has dates that may also have the month first.
+fn choose_order(form: Form, span: Span, candidates: &[Candidate]) -> Choice
+    ensures is { result ≡ order_choice candidates.now (form, span) }
+    ensures few { HasFewPlaces result }
+    ensures takes { (point : ℕ) → (f : Field) → EachTakes candidates.now f →
+        IsSeen form span f → IsChosenFor point result f }
+{
+    match form {
+        Form::Date(date) => choose_date(date, span, candidates),
+        _ => Choice::Form(form, span),
+    }
+}
+
+/// Chooses a form of dates, unless dates may also have the month first.
+fn choose_date(form: DateForm, span: Span, candidates: &[Candidate]) -> Choice
+    ensures is { result ≡ date_choice candidates.now span form }
+    ensures few { HasFewPlaces result }
+    ensures takes { (point : ℕ) → (f : Field) → EachTakes candidates.now f →
+        IsSeen (Form.Date form) span f → IsChosenFor point result f }
+{
+    match form.order {
+        DateOrder::DayFirst if has_month_first(candidates, form.sign) => Choice::Orders(form.sign),
+        _ => Choice::Form(Form::Date(form), span),
+    }
+}

@@ -1,0 +1,2 @@
+pub mod BlockEntries
+pub mod Unique

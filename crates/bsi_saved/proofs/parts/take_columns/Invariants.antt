@@ -1,0 +1,18 @@
+use Rattle.std.proofs.Common.{◌≡◌, ◌++◌, ◌-◌, ◌<◌, ℕ, List, length}
+use Rattle.bsi_rows.specs.Rows.{FedRow}
+use Rattle.bsi_schema.specs.Columns.{column_at}
+use Rattle.bsi_table.specs.Kept.{kept_at, Keeps}
+use Rattle.bsi_saved.specs.Saved.{columns_words, AreRows}
+use Rattle.bsi_saved.specs.Taking.{kept_words}
+use Rattle.bsi_saved.proofs.parts.take_columns.Given as goal
+
+-- the columns so far; behind their words stand those of the other columns of any rows that all words are of
+abbrev pub invariant-columns : goal.invariant-columns
+invariant-columns l = record {
+  many : length l.columns.items ≡ l.c;
+  keeps : (k : ℕ) → k < l.c → Keeps (column_at l.schema.columns k) (kept_at l.columns.items k) l.rows;
+  words : l.words ≡ kept_words l.schema l.columns.items l.c ++ l.rest;
+  others : (others : List FedRow) (rest : List ℕ) (feeders : ℕ) → AreRows l.schema feeders others → length others ≡ l.rows
+      → l.words ≡ columns_words l.schema others 0 (length l.schema.columns) ++ rest
+      → l.rest ≡ columns_words l.schema others l.c (length l.schema.columns - l.c) ++ rest;
+}

@@ -1,0 +1,45 @@
+//! An index that goes to a writer.
+
+ghost use Rattle.std.specs.Prelude.{◌≡◌, ◌≤◌, IfErr, OnErr, OnOk, length};
+ghost use Rattle.std.specs.Io.KnownBytes.{Appends};
+ghost use Rattle.bsi_table.specs.Index.{table_of};
+ghost use Rattle.bsi_reading.specs.Waiting.{IsCut};
+ghost use Rattle.bsi_saved.specs.Saved.{kept_file, max_notes, MayBeKept};
+
+use crate::SaveFault;
+use crate::body::body_of;
+use bsi_kept::write_segment;
+use bsi_table::Index;
+use std::alloc::Global;
+use std::io::Write;
+
+/// The most bytes of notes.
+pub const MAX_NOTES: usize = 1 << 16;
+
+/// Writes a segment with all rows of an index, and with notes, of which it keeps the bytes. After a fault, what went out
+/// is a first part of the segment, and nothing where memory was refused. It keeps the words of the segment while it
+/// writes.
+///
+/// By `keeps` the segment is one that `read_index` opens again.
+///
+/// A file begins with one segment. Rows of an index of the same schema, feeders and limit are added by a further segment
+/// behind it, whose notes then count.
+pub fn write_index<W: Write>(
+    alloc: Global,
+    index: &Index,
+    notes: &[u8],
+    writer: &mut W,
+) -> Result<(), SaveFault>
+    requires { length notes.now ≤ max_notes }
+    ensures ok { OnOk result (Appends (W.contents writer.old) (W.contents writer.new)
+        (kept_file (table_of index.now) notes.now)) }
+    ensures part { OnErr result (IsCut (W.contents writer.old) (W.contents writer.new)
+        (kept_file (table_of index.now) notes.now)) }
+    ensures keeps { OnOk result (MayBeKept (table_of index.now) notes.now) }
+    ensures none { IfErr result (λ fault. fault ≡ SaveFault.NoMemory →
+        W.contents writer.new ≡ W.contents writer.old) }
+{
+    let words = body_of(alloc, index, notes)?;
+    write_segment(writer, &words)?;
+    Ok(())
+}

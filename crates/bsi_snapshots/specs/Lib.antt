@@ -1,3 +1,0 @@
-pub mod Versions
-pub mod History
-pub mod Questions

@@ -1,0 +1,3 @@
+pub mod Editions
+pub mod History
+pub mod Questions
