@@ -21,7 +21,7 @@ build:
 lib:
 	@crates/bsi_c/library
 
-demo: build
+demo:
 	@tools/demo
 
 # It rests on the proofs that earlier checks kept in the crates' folders out/, and is no verdict. Rattle's own compiler builds what is run

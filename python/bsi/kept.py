@@ -243,6 +243,8 @@ def replace(path: Path, data: Any) -> None:
     name = os.path.realpath(os.fspath(path))
     if os.path.isdir(name):
         raise IsADirectoryError(errno.EISDIR, os.strerror(errno.EISDIR), os.fspath(path))
+    if os.path.islink(path) and not os.path.exists(name):
+        raise FileNotFoundError(errno.ENOENT, os.strerror(errno.ENOENT), os.fspath(path))
     # (opened first, so that a folder that can't be opened leaves the old file)
     folder = os.open(os.path.dirname(name), os.O_RDONLY | os.O_DIRECTORY)
     try:

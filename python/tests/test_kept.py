@@ -317,6 +317,10 @@ def test_a_link_stays_a_link(tmp_path, path):
     os.symlink(path, link)
     small().save(link)
     assert link.is_symlink() and len(bsi.open(path)) == 4 and os.stat(path).st_mode & 0o777 == 0o640
+    os.unlink(path)
+    with pytest.raises(FileNotFoundError):
+        small().save(link)
+    assert link.is_symlink() and not os.path.exists(path)
 
 
 def test_two_writers_at_once(path):

@@ -196,9 +196,9 @@ int main(void) {
     uint64_t bad;
     size_t none = 7;
     check(bsi_save(&index, notes, sizeof notes, bytes, sizeof bytes, &none) == BSI_CLOSED && none == 7, "save: a closed handle");
-    check(opens(&index, schema, 2, &bad) == BSI_OK, "an index of two feeders");
+    check(opens(&index, schema, 64, &bad) == BSI_OK, "an index of 64 feeders");
     append(&index, 0, ROWS / 2);
-    append(&index, 1, ROWS / 2);
+    append(&index, 63, ROWS / 2);
     ask_all(&index, &wanted);
     of_saving(&index);
     ask_all(&index, &found);

@@ -203,9 +203,10 @@ static uint32_t save(bsi_index *index, size_t *size) {
 
 static uint32_t open_kept(bsi_index *index, size_t size) {
     size_t notes_len;
-    uint64_t whole = 0;
+    uint64_t whole = 1;
     uint32_t status = bsi_open_kept(index, kept, size, notes, sizeof notes, &notes_len, &whole);
-    wrong += !is_fair(status) || index->full != !status || (!status && (whole != size || notes_len != sizeof notes));
+    wrong += !is_fair(status) || index->full != !status || (status && whole && whole != size)
+        || (!status && (whole != size || notes_len != sizeof notes));
     return status;
 }
 

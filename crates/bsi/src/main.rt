@@ -1,10 +1,10 @@
-//! `main` alone: it hands its words and the standard streams to the shell, and ends with the status that the shell
+//! `main` alone: it hands its arguments and the standard streams to `bsi_shell`, and ends with the status that this
 //! returns.
 #![tactic(auto)]
 
 mod progress;
 
-use bsi_shell::{ScriptFault, run_words, tell_fault};
+use bsi_shell::{ScriptFault, run_words, write_fault};
 use progress::Progress;
 use std::io::IsTerminal;
 use std::process::ExitCode;
@@ -12,15 +12,15 @@ use std::rt::Env;
 use std::{env, io};
 
 fn main(rt: HostRuntime) -> ExitCode {
-    let (mut output, mut faults) = (rt.stdout(), rt.stderr());
+    let (mut output, mut stderr) = (rt.stdout(), rt.stderr());
     match read_words(&rt) {
         Ok(words) => {
-            let progress = Progress::new(&rt, faults.is_terminal());
-            let ended = run_words(&rt, words, rt.stdin(), &mut output, &mut faults, &progress);
+            let progress = Progress::new(&rt, stderr.is_terminal());
+            let ended = run_words(&rt, words, rt.stdin(), &mut output, &mut stderr, &progress);
             ExitCode::from(ended.status)
         }
         Err(_) => {
-            let _ = tell_fault(ScriptFault::NoMemory.text(), &mut faults);
+            let _ = write_fault(ScriptFault::NoMemory.text(), &mut stderr);
             ExitCode::from(1)
         }
     }

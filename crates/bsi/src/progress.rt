@@ -1,4 +1,4 @@
-//! How far a run over files is, on a terminal.
+//! Shows on a terminal how far a run over files is.
 
 use arrayvec::ArrayString;
 use bsi_shell::{Gate, Stopping};

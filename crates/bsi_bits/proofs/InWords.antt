@@ -63,7 +63,7 @@ module _ (bits : List Bool) (words : List ℕ) (packed : IsPacked (length bits) 
         few = words_long ∙ omega (arith, long, packed.few);
         clear = λ i past. elim (cases_lt i (64 * (end - start))) [
           | inl inside ↦ bit_of-chunk start (end - start) words i inside ∙ packed.clear (64 * start + i) (omega (arith, long))
-          | inr behind ↦ bit_past some_words i (omega (arith, words_long))
+          | inr after ↦ bit_past some_words i (omega (arith, words_long))
         ];
       }
 
@@ -89,26 +89,26 @@ count_pairs_in IsFit word_of bit bitwise less bits others words other_words pack
     fits IsFit word_of bit bitwise fit less
     ∙ ap₂ (λ fs bs. count_by (λ b. b) (zip2 bit fs bs)) (sym (some_bits_are bits words packed is start end forward within)) (sym (some_bits_are others other_words other_packed other_is start end forward other_within))
 
--- the items that are found in two stretches, one after the other
-pub items_where_true-append : {X : Type 0} (found : List Bool) (items : List X) (others : List Bool) (rest : List X) → length found ≡ length items
-    → items_where_true (found ++ others) (items ++ rest) ≡ items_where_true found items ++ items_where_true others rest
+-- the items that are found in two chunks, one after the other
+pub items_where_true-append : {X : Type 0} (selection : List Bool) (items : List X) (others : List Bool) (rest : List X) → length selection ≡ length items
+    → items_where_true (selection ++ others) (items ++ rest) ≡ items_where_true selection items ++ items_where_true others rest
 items_where_true-append [] [] others rest same = refl
 items_where_true-append [] (x ∷ items) others rest same = absurd (omega arith)
-items_where_true-append (f ∷ found) [] others rest same = absurd (omega arith)
-items_where_true-append (false ∷ found) (x ∷ items) others rest same = items_where_true-append found items others rest (omega arith)
-items_where_true-append (true ∷ found) (x ∷ items) others rest same = ap (λ xs. x ∷ xs) (items_where_true-append found items others rest (omega arith))
+items_where_true-append (f ∷ selection) [] others rest same = absurd (omega arith)
+items_where_true-append (false ∷ selection) (x ∷ items) others rest same = items_where_true-append selection items others rest (omega arith)
+items_where_true-append (true ∷ selection) (x ∷ items) others rest same = ap (λ xs. x ∷ xs) (items_where_true-append selection items others rest (omega arith))
 
-module _ {X : Type 0} (found : List Bool) (items : List X) (same : length items ≡ length found) where
+module _ {X : Type 0} (selection : List Bool) (items : List X) (same : length items ≡ length selection) where
   -- the found items in the words before the m-th are those before the i-th, and those in the words from there on
-  pub found_more : (i m : ℕ) → i ≤ m → items_where_true (take (64 * m) found) (take (64 * m) items)
-      ≡ items_where_true (take (64 * i) found) (take (64 * i) items) ++ items_where_true (in_words i m found) (in_words i m items)
-  found_more i m forward =
+  pub selected_more : (i m : ℕ) → i ≤ m → items_where_true (take (64 * m) selection) (take (64 * m) items)
+      ≡ items_where_true (take (64 * i) selection) (take (64 * i) items) ++ items_where_true (in_words i m selection) (in_words i m items)
+  selected_more i m forward =
       let next : 64 * m ≡ 64 * i + 64 * (m - i) = omega arith in
-      let long : length (take (64 * i) found) ≡ length (take (64 * i) items) = length-take (64 * i) found ∙ ap (min (64 * i)) (sym same) ∙ sym (length-take (64 * i) items) in
-      ap (λ k. items_where_true (take k found) (take k items)) next
-      ∙ ap₂ items_where_true (take-add (64 * i) (64 * (m - i)) found) (take-add (64 * i) (64 * (m - i)) items)
-      ∙ items_where_true-append (take (64 * i) found) (take (64 * i) items) (in_words i m found) (in_words i m items) long
+      let long : length (take (64 * i) selection) ≡ length (take (64 * i) items) = length-take (64 * i) selection ∙ ap (min (64 * i)) (sym same) ∙ sym (length-take (64 * i) items) in
+      ap (λ k. items_where_true (take k selection) (take k items)) next
+      ∙ ap₂ items_where_true (take-add (64 * i) (64 * (m - i)) selection) (take-add (64 * i) (64 * (m - i)) items)
+      ∙ items_where_true-append (take (64 * i) selection) (take (64 * i) items) (in_words i m selection) (in_words i m items) long
 
   -- no word is left
-  pub found_all : (m : ℕ) → length found ≤ 64 * m → items_where_true (take (64 * m) found) (take (64 * m) items) ≡ items_where_true found items
-  found_all m past = ap₂ items_where_true (take_all (64 * m) found past) (take_all (64 * m) items (omega (arith, same)))
+  pub selected_all : (m : ℕ) → length selection ≤ 64 * m → items_where_true (take (64 * m) selection) (take (64 * m) items) ≡ items_where_true selection items
+  selected_all m past = ap₂ items_where_true (take_all (64 * m) selection past) (take_all (64 * m) items (omega (arith, same)))

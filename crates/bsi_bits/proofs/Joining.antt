@@ -14,7 +14,7 @@ use Rattle.bsi_bits.proofs.Splicing.{splices_over}
 -- the new words have the old bits before place n, and those of `more` from there on
 pub record Joins (n count : ℕ) (more old new : List ℕ) : Type 0 where
   pub few : length new ≡ (n + count + 63) / 64
-  pub kept : (i : ℕ) → i < n → bit_of new i ≡ bit_of old i
+  pub unchanged : (i : ℕ) → i < n → bit_of new i ≡ bit_of old i
   pub joined : (j : ℕ) → bit_of new (n + j) ≡ bit_of more j
 
 pub joined_packed : (n count : ℕ) (more old new : List ℕ) → n + count ≤ 2 ^ 32 → IsPacked count more → Joins n count more old new → IsPacked (n + count) new
@@ -36,7 +36,7 @@ joined_bits n count more old new joins =
       | inl before ↦
           get_or_append_left (bits_of n old) (bits_of count more) false i (omega (arith, long_old))
           ∙ get_or-bits_of n old i false before
-          ∙ sym (joins.kept i before)
+          ∙ sym (joins.unchanged i before)
       | inr from ↦
           let place : n + (i - n) ≡ i = omega arith in
           get_or-append_right (bits_of n old) (bits_of count more) n i false long_old from
@@ -47,10 +47,10 @@ joined_bits n count more old new joins =
 
 -- the words of the others behind whole words
 module _ (n count : ℕ) (words more : List ℕ) (packed : IsPacked n words) (more_packed : IsPacked count more) (first : n % 64 ≡ 0) where
-  pub joins_behind : Joins n count more words (words ++ more)
-  joins_behind = record {
+  pub joins_after : Joins n count more words (words ++ more)
+  joins_after = record {
     few = length-append words more ∙ omega (arith, packed.few, more_packed.few);
-    kept = λ i below. ap (λ w. bit_at w (i % 64) == 1) (get_or_append_left words more 0 (i / 64) (omega (arith, packed.few)));
+    unchanged = λ i below. ap (λ w. bit_at w (i % 64) == 1) (get_or_append_left words more 0 (i / 64) (omega (arith, packed.few)));
     joined = λ j.
         let long : length words ≡ n / 64 = omega (arith, packed.few) in
         let word : (n + j) / 64 - n / 64 ≡ j / 64 = omega arith in
@@ -61,7 +61,7 @@ module _ (n count : ℕ) (words more : List ℕ) (packed : IsPacked n words) (mo
 -- the words have the old bits before place n, and behind them those of the first k words of `more`
 pub record Carries (n k : ℕ) (more old words : List ℕ) : Type 0 where
   pub long : length words ≡ n / 64 + 1 + k
-  pub kept : (i : ℕ) → i < n → bit_of words i ≡ bit_of old i
+  pub unchanged : (i : ℕ) → i < n → bit_of words i ≡ bit_of old i
   pub joined : (j : ℕ) → j < 64 * k → bit_of words (n + j) ≡ bit_of more j
   pub clear : (j : ℕ) → 64 * k ≤ j → bit_of words (n + j) ≡ false
 
@@ -91,19 +91,19 @@ module _ (n : ℕ) (more old : List ℕ) (further : n % 64 ≢ 0) where
       ∙ ap (λ xs. xs ++ (word / 2 ^ (64 - n % 64)) ∷ []) (set-append_seam init low [] (bit_or low (word * 2 ^ (n % 64) % 2 ^ 64))) in
       subst (λ (ws : List ℕ). Carries n (k + 1) more old ws) is_new (record {
         long = splices.few ∙ omega arith;
-        kept = λ i below. splices.kept i (omega arith) ∙ carries.kept i below;
+        unchanged = λ i below. splices.unchanged i (omega arith) ∙ carries.unchanged i below;
         joined = λ j below. elim (cases_lt j (64 * k)) [
-          | inl before ↦ splices.kept (n + j) (omega arith) ∙ carries.joined j before
+          | inl before ↦ splices.unchanged (n + j) (omega arith) ∙ carries.joined j before
           | inr from ↦
-              let behind : n + j ≡ at + (j - 64 * k) = omega arith in
+              let after : n + j ≡ at + (j - 64 * k) = omega arith in
               let word_is : j / 64 ≡ k = omega arith in
               let place_is : j - 64 * k ≡ j % 64 = omega arith in
-              ap (bit_of _) behind ∙ splices.spliced (j - 64 * k)
+              ap (bit_of _) after ∙ splices.spliced (j - 64 * k)
               ∙ ap₂ (λ w r. bit_at w r == 1) (is ∙ ap (λ q. get_or more q 0) (sym word_is)) place_is
         ];
         clear = λ j past.
-            let behind : n + j ≡ at + (j - 64 * k) = omega arith in
-            ap (bit_of _) behind ∙ splices.spliced (j - 64 * k)
+            let after : n + j ≡ at + (j - 64 * k) = omega arith in
+            ap (bit_of _) after ∙ splices.spliced (j - 64 * k)
             ∙ ap (λ b. b == 1) (bit_at_above word 64 (j - 64 * k) fits (omega arith));
       })
 
@@ -112,7 +112,7 @@ module _ (n : ℕ) (more old : List ℕ) (further : n % 64 ≢ 0) where
     pub joins_carried : length init < (n + count + 63) / 64 → Joins n count more old (init ++ low ∷ [])
     joins_carried short = record {
       few = carries.long ∙ omega (arith, short, carries.long, length-append init (low ∷ []), more_packed.few, further);
-      kept = carries.kept;
+      unchanged = carries.unchanged;
       joined = λ j. elim (cases_lt j (64 * length more)) [
         | inl within ↦ carries.joined j within
         | inr past ↦ carries.clear j past ∙ sym (bit_past more j (omega arith))
@@ -125,7 +125,7 @@ module _ (n : ℕ) (more old : List ℕ) (further : n % 64 ≢ 0) where
         let long : length init ≡ (n + count + 63) / 64 = omega (arith, enough, carries.long, length-append init (low ∷ []), more_packed.few, further) in
         record {
           few = long;
-          kept = λ i below. sym (bit_before init low i (omega (arith, long, further))) ∙ carries.kept i below;
+          unchanged = λ i below. sym (bit_before init low i (omega (arith, long, further))) ∙ carries.unchanged i below;
           joined = λ j. elim (cases_lt ((n + j) / 64) (length init)) [
             | inl within ↦ sym (bit_before init low (n + j) within) ∙ elim (cases_lt j (64 * length more)) [
               | inl inside ↦ carries.joined j inside

@@ -5,7 +5,7 @@ use Rattle.std.specs.Int.{bit_at}
 use Rattle.std.proofs.lemmas.Bool.{cases_lt, cases_eq}
 use Rattle.std.proofs.lemmas.Nat.{and_le_l, div-add-mod', pow-add, pow_pos}
 use Rattle.std.proofs.lemmas.Nat.Bits.{bit_at-pow_same, bit_at-pow_other, bit_at_and, bit_at_cat_low, bit_at_cat_high, bit_at_ones_above, same_from_bits}
-use Rattle.bsi_bits.proofs.Places.{bit_kept, bit_dropped}
+use Rattle.bsi_bits.proofs.Places.{bit_unchanged, bit_dropped}
 
 module _ (x t : ℕ) (there : bit_at x t ≡ 1) (clear : (i : ℕ) → i < t → bit_at x i ≡ 0) where
   twice : 2 ^ (t + 1) ≡ 2 ^ t * 2
@@ -14,7 +14,7 @@ module _ (x t : ℕ) (there : bit_at x t ≡ 1) (clear : (i : ℕ) → i < t →
   -- the lowest 1 is what the number has up to there
   low_is : x % 2 ^ (t + 1) ≡ 2 ^ t
   low_is = same_from_bits (x % 2 ^ (t + 1)) (2 ^ t) (λ i. elim (cases_lt i (t + 1)) [
-    | inl upto ↦ bit_kept x (t + 1) i upto ∙ elim (cases_eq i t) [
+    | inl upto ↦ bit_unchanged x (t + 1) i upto ∙ elim (cases_eq i t) [
       | inl same ↦ ap (bit_at x) same ∙ there ∙ sym (bit_at-pow_same t) ∙ ap (bit_at (2 ^ t)) (sym same)
       | inr apart ↦ clear i (omega (arith, upto, apart)) ∙ sym (bit_at-pow_other t i apart)
     ]

@@ -34,8 +34,8 @@ bit_in_last words x i in_word =
     ap (λ w. bit_at w (i % 64) == 1) (ap (λ k. get_or (words ++ x ∷ []) k 0) in_word ∙ get_or-append_seam words x [] 0)
 
 -- the low r places of a number are those of its remainder, and the others of that are off
-pub bit_kept : (x r i : ℕ) → i < r → bit_at (x % 2 ^ r) i ≡ bit_at x i
-bit_kept x r i below = sym (bit_at_cat_low (x / 2 ^ r) r (x % 2 ^ r) i below) ∙ ap (λ y. bit_at y i) (shr_split x r)
+pub bit_unchanged : (x r i : ℕ) → i < r → bit_at (x % 2 ^ r) i ≡ bit_at x i
+bit_unchanged x r i below = sym (bit_at_cat_low (x / 2 ^ r) r (x % 2 ^ r) i below) ∙ ap (λ y. bit_at y i) (shr_split x r)
 
 pub bit_dropped : (x r i : ℕ) → r ≤ i → bit_at (x % 2 ^ r) i ≡ 0
 bit_dropped x r i from = bit_at_above (x % 2 ^ r) r i (mod_below x (2 ^ r) (pow_pos r)) from
@@ -45,11 +45,11 @@ module _ (words : List ℕ) (n : ℕ) (few : length words ≡ (n + 63) / 64) (pa
   abbrev pub cut_words : List ℕ
   cut_words = set words (n / 64) (get_or words (n / 64) 0 % 2 ^ (n % 64))
 
-  pub cut_kept : (i : ℕ) → i < n → bit_of cut_words i ≡ bit_of words i
-  cut_kept i below = elim (cases_eq (i / 64) (n / 64)) [
+  pub cut_unchanged : (i : ℕ) → i < n → bit_of cut_words i ≡ bit_of words i
+  cut_unchanged i below = elim (cases_eq (i / 64) (n / 64)) [
     | inl same ↦
         bit_in_written words (n / 64) (get_or words (n / 64) 0 % 2 ^ (n % 64)) (omega arith) i same
-        ∙ ap (λ b. b == 1) (bit_kept (get_or words (n / 64) 0) (n % 64) (i % 64) (omega arith))
+        ∙ ap (λ b. b == 1) (bit_unchanged (get_or words (n / 64) 0) (n % 64) (i % 64) (omega arith))
         ∙ ap (λ k. bit_at (get_or words k 0) (i % 64) == 1) (sym same)
     | inr apart ↦ bit_in_other words (n / 64) (get_or words (n / 64) 0 % 2 ^ (n % 64)) i apart
   ]
@@ -79,4 +79,4 @@ module _ (words : List ℕ) (n : ℕ) (few : length words ≡ (n + 63) / 64) (pa
   }
 
   pub cut_bits : bits_of n cut_words ≡ bits_of n words
-  cut_bits = same_bits n cut_words words cut_kept
+  cut_bits = same_bits n cut_words words cut_unchanged

@@ -17,7 +17,7 @@ use Rattle.bsi_bits.proofs.Places.{bit_past, bit_in_written, bit_in_other, bit_b
 -- the new words have the bit at place n, the old bits before it and nothing after it
 pub record Pushes (n : ℕ) (bit : Bool) (old new : List ℕ) : Type 0 where
   pub few : length new ≡ (n + 64) / 64
-  pub kept : (i : ℕ) → i < n → bit_of new i ≡ bit_of old i
+  pub unchanged : (i : ℕ) → i < n → bit_of new i ≡ bit_of old i
   pub pushed : bit_of new n ≡ bit
   pub clear : (i : ℕ) → n < i → bit_of new i ≡ false
 
@@ -29,7 +29,7 @@ pushed_packed n bit old new below pushes = record {
 }
 
 pub pushed_bits : (n : ℕ) (bit : Bool) (old new : List ℕ) → Pushes n bit old new → bits_of (n + 1) new ≡ bits_of n old ++ bit ∷ []
-pushed_bits n bit old new pushes = bits_of_more n new ∙ ap₂ (λ bits b. bits ++ b ∷ []) (same_bits n new old pushes.kept) pushes.pushed
+pushed_bits n bit old new pushes = bits_of_more n new ∙ ap₂ (λ bits b. bits ++ b ∷ []) (same_bits n new old pushes.unchanged) pushes.pushed
 
 -- a bit as a word, and moved up to place r
 moved_same : (bit : Bool) (r : ℕ) → r < 64 → bit_at (bool_byte bit * 2 ^ r % 2 ^ 64) r ≡ bool_byte bit
@@ -66,10 +66,10 @@ byte_set false = refl
 
 module _ (n : ℕ) (bit : Bool) (words : List ℕ) (packed : IsPacked n words) where
   -- the first place of a word of its own
-  pub pushes_behind : n % 64 ≡ 0 → Pushes n bit words (words ++ bool_byte bit ∷ [])
-  pushes_behind first = record {
+  pub pushes_after : n % 64 ≡ 0 → Pushes n bit words (words ++ bool_byte bit ∷ [])
+  pushes_after first = record {
     few = length-append words (bool_byte bit ∷ []) ∙ omega (arith, packed.few);
-    kept = λ i below. bit_before words (bool_byte bit) i (omega (arith, packed.few));
+    unchanged = λ i below. bit_before words (bool_byte bit) i (omega (arith, packed.few));
     pushed = bit_in_last words (bool_byte bit) n (omega (arith, packed.few)) ∙ ap (λ r. bit_at (bool_byte bit) r == 1) first ∙ byte_lowest bit;
     clear = λ i past. elim (cases_eq (i / 64) (length words)) [
       | inl same ↦
@@ -92,7 +92,7 @@ module _ (n : ℕ) (bit : Bool) (words : List ℕ) (packed : IsPacked n words) w
       ∙ old_place i same in
       record {
         few = length-set words (n / 64) (bit_or x moved) ∙ omega (arith, packed.few);
-        kept = λ i below. elim (cases_eq (i / 64) (n / 64)) [
+        unchanged = λ i below. elim (cases_eq (i / 64) (n / 64)) [
           | inl same ↦ other i (omega arith) same
           | inr apart ↦ bit_in_other words (n / 64) (bit_or x moved) i apart
         ];
@@ -111,7 +111,7 @@ module _ (n : ℕ) (bit : Bool) (words : List ℕ) (packed : IsPacked n words) w
 pub pushes_nothing : (n : ℕ) (words : List ℕ) → IsPacked n words → n % 64 ≢ 0 → Pushes n false words words
 pushes_nothing n words packed partial = record {
   few = packed.few ∙ omega arith;
-  kept = λ i below. refl;
+  unchanged = λ i below. refl;
   pushed = packed.clear n (omega arith);
   clear = λ i past. packed.clear i (omega arith);
 }

@@ -6,37 +6,37 @@ use Rattle.std.specs.List.{range_with_len}
 use Rattle.std.proofs.lemmas.Nat.{shr-shr, shr_le}
 use Rattle.std.proofs.lemmas.Nat.Bits.{bit_at-zero, bit_at_above, bit_at-trailing_zeros}
 use Rattle.std.proofs.lemmas.Bool.{cases_lt}
-use Rattle.bsi_bits.specs.BitList.{set_places}
-use Rattle.bsi_bits.specs.Packed.{bit_of, bits_of, places_from, IsPacked}
+use Rattle.bsi_bits.specs.BitList.{set_positions}
+use Rattle.bsi_bits.specs.Packed.{bit_of, bits_of, positions_from, IsPacked}
 use Rattle.bsi_bits.proofs.Reading.{length-bits_of, packed_place}
 
 module _ (n : ℕ) (words : List ℕ) where
   -- past the last bit no place is left
-  pub places_done : (at : ℕ) → n ≤ at → places_from at n words ≡ []
-  unfolding places_from
+  pub places_done : (at : ℕ) → n ≤ at → positions_from at n words ≡ []
+  unfolding positions_from
   places_done at past =
       let none : n - at ≡ 0 = omega arith in
       ap (λ m. filter (bit_of words) (range_with_len at m)) none
 
-  places_split : (at : ℕ) → at < n → places_from at n words ≡ cond (bit_of words at) (at ∷ places_from (at + 1) n words) (places_from (at + 1) n words)
-  unfolding places_from
+  places_split : (at : ℕ) → at < n → positions_from at n words ≡ cond (bit_of words at) (at ∷ positions_from (at + 1) n words) (positions_from (at + 1) n words)
+  unfolding positions_from
   places_split at within =
       let more : n - at ≡ suc (n - (at + 1)) = omega arith in
       ap (λ m. filter (bit_of words) (range_with_len at m)) more
 
   -- a place that is set is the next one
-  pub places_on : (at : ℕ) → at < n → bit_of words at ≡ true → places_from at n words ≡ at ∷ places_from (at + 1) n words
-  places_on at within set = places_split at within ∙ ap (λ b. cond b (at ∷ places_from (at + 1) n words) (places_from (at + 1) n words)) set
+  pub places_on : (at : ℕ) → at < n → bit_of words at ≡ true → positions_from at n words ≡ at ∷ positions_from (at + 1) n words
+  places_on at within set = places_split at within ∙ ap (λ b. cond b (at ∷ positions_from (at + 1) n words) (positions_from (at + 1) n words)) set
 
-  places_off : (at : ℕ) → bit_of words at ≡ false → places_from at n words ≡ places_from (at + 1) n words
+  places_off : (at : ℕ) → bit_of words at ≡ false → positions_from at n words ≡ positions_from (at + 1) n words
   places_off at off = elim (cases_lt at n) [
-    | inl within ↦ places_split at within ∙ ap (λ b. cond b (at ∷ places_from (at + 1) n words) (places_from (at + 1) n words)) off
+    | inl within ↦ places_split at within ∙ ap (λ b. cond b (at ∷ positions_from (at + 1) n words) (positions_from (at + 1) n words)) off
     | inr past ↦ places_done at past ∙ sym (places_done (at + 1) (omega arith))
   ]
 
   -- k places that are off may be skipped
-  pub places_skipped : (k at to : ℕ) → to ≡ at + k → ((j : ℕ) → j < k → bit_of words (at + j) ≡ false) → places_from at n words ≡ places_from to n words
-  places_skipped zero at to is off = ap (λ a. places_from a n words) (omega arith)
+  pub places_skipped : (k at to : ℕ) → to ≡ at + k → ((j : ℕ) → j < k → bit_of words (at + j) ≡ false) → positions_from at n words ≡ positions_from to n words
+  places_skipped zero at to is off = ap (λ a. positions_from a n words) (omega arith)
   places_skipped (suc k) at to is off =
       let here : at + 0 ≡ at = omega arith in
       places_off at (ap (bit_of words) (sym here) ∙ off 0 (omega arith))
@@ -45,7 +45,7 @@ module _ (n : ℕ) (words : List ℕ) where
       ap (bit_of words) place ∙ off (suc j) (omega arith))
 
   -- words with no bit may be skipped
-  pub words_skipped : (i m : ℕ) → i ≤ m → ((k : ℕ) → i ≤ k → k < m → get_or words k 0 ≡ 0) → places_from (64 * i) n words ≡ places_from (64 * m) n words
+  pub words_skipped : (i m : ℕ) → i ≤ m → ((k : ℕ) → i ≤ k → k < m → get_or words k 0 ≡ 0) → positions_from (64 * i) n words ≡ positions_from (64 * m) n words
   words_skipped i m forward none =
       places_skipped (64 * (m - i)) (64 * i) (64 * m) (omega arith) (λ j below.
       let word = none ((64 * i + j) / 64) (omega arith) (omega arith) in
@@ -66,7 +66,7 @@ module _ (n : ℕ) (words : List ℕ) (packed : IsPacked n words) (at w : ℕ) (
       ∙ ap (λ b. b == 1) (sym (moved_down w (at % 64) j))
 
   -- nothing is left in it: the next word is looked at
-  pub word_skipped : w / 2 ^ (at % 64) ≡ 0 → places_from at n words ≡ places_from ((at / 64 + 1) * 64) n words
+  pub word_skipped : w / 2 ^ (at % 64) ≡ 0 → positions_from at n words ≡ positions_from ((at / 64 + 1) * 64) n words
   word_skipped none =
       places_skipped n words (64 - at % 64) at ((at / 64 + 1) * 64) (omega arith) (λ j below.
       in_word j (omega arith) ∙ ap (λ x. bit_at x j == 1) none ∙ ap (λ b. b == 1) (bit_at-zero j))
@@ -99,7 +99,7 @@ module _ (n : ℕ) (words : List ℕ) (packed : IsPacked n words) (at w : ℕ) (
     ]
 
     -- the lowest bit that is left is the next place
-    pub next_place : places_from at n words ≡ (at + trailing_zeros w64 left) ∷ places_from (at + trailing_zeros w64 left + 1) n words
+    pub next_place : positions_from at n words ≡ (at + trailing_zeros w64 left) ∷ positions_from (at + trailing_zeros w64 left + 1) n words
     next_place =
         places_skipped n words (trailing_zeros w64 left) at (at + trailing_zeros w64 left) refl (λ j below.
         in_word j (omega (arith, inside)) ∙ ap (λ b. b == 1) (lowest.2 j below))
@@ -110,8 +110,8 @@ same_filter p q same [] = refl
 same_filter p q same (x ∷ xs) = ap₂ (λ b ys. cond b (x ∷ ys) ys) (same x) (same_filter p q same xs)
 
 -- the places of the words are those of the list of bits
-pub all_places : (n : ℕ) (words : List ℕ) → IsPacked n words → places_from 0 n words ≡ set_places (bits_of n words)
-unfolding places_from
+pub all_places : (n : ℕ) (words : List ℕ) → IsPacked n words → positions_from 0 n words ≡ set_positions (bits_of n words)
+unfolding positions_from
 all_places n words packed =
     same_filter (bit_of words) (λ i. get_or (bits_of n words) i false) (packed_place n words packed) (range_with_len 0 (n - 0))
     ∙ ap (λ m. filter (λ i. get_or (bits_of n words) i false) (range_with_len 0 m)) (let whole : n - 0 ≡ length (bits_of n words) = omega (arith, length-bits_of n words) in whole)

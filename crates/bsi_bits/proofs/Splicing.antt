@@ -10,12 +10,12 @@ use Rattle.std.proofs.lemmas.Grind.{get_or_default_zero}
 use Rattle.std.proofs.lemmas.Bool.{cases_eq, cases_lt}
 use Rattle.bsi_bits.specs.Packed.{bit_of, bits_of, IsPacked}
 use Rattle.bsi_bits.proofs.Reading.{bits_are, length-bits_of, get_or-bits_of}
-use Rattle.bsi_bits.proofs.Places.{bit_past, bit_in_written, bit_in_other, bit_before, bit_in_last, bit_kept, bit_dropped}
+use Rattle.bsi_bits.proofs.Places.{bit_past, bit_in_written, bit_in_other, bit_before, bit_in_last, bit_unchanged, bit_dropped}
 
 -- the new words have the old bits before place n, and those of the word from there on
 pub record Splices (n count word : ℕ) (old new : List ℕ) : Type 0 where
   pub few : length new ≡ (n + count + 63) / 64
-  pub kept : (i : ℕ) → i < n → bit_of new i ≡ bit_of old i
+  pub unchanged : (i : ℕ) → i < n → bit_of new i ≡ bit_of old i
   pub spliced : (j : ℕ) → bit_of new (n + j) ≡ (bit_at word j == 1)
 
 off : (b : ℕ) → b ≡ 0 → (b == 1) ≡ false
@@ -25,7 +25,7 @@ off b zero = ap (λ x. x == 1) zero
 pub below_power : (x r : ℕ) → ((p : ℕ) → r ≤ p → bit_at x p ≡ 0) → x < 2 ^ r
 below_power x r clear =
     let same : x ≡ x % 2 ^ r = same_from_bits x (x % 2 ^ r) (λ p. elim (cases_lt p r) [
-      | inl below ↦ sym (bit_kept x r p below)
+      | inl below ↦ sym (bit_unchanged x r p below)
       | inr from ↦ clear p from ∙ sym (bit_dropped x r p from)
     ]) in
     omega (arith, same, mod_below x (2 ^ r) (pow_pos r))
@@ -58,7 +58,7 @@ spliced_bits n count word old new few splices =
       | inl before ↦
           get_or_append_left (bits_of n old) (bits_of count (word ∷ [])) false i (omega (arith, long_old))
           ∙ get_or-bits_of n old i false before
-          ∙ sym (splices.kept i before)
+          ∙ sym (splices.unchanged i before)
       | inr from ↦
           let place : n + (i - n) ≡ i = omega arith in
           get_or-append_right (bits_of n old) (bits_of count (word ∷ [])) n i false long_old from
@@ -72,14 +72,14 @@ spliced_bits n count word old new few splices =
 pub bit_raised : (x r i : ℕ) → i < 64 → r ≤ i → bit_at (x * 2 ^ r % 2 ^ 64) i ≡ bit_at x (i - r)
 bit_raised x r i below from =
     let more : x * 2 ^ r ≡ x * 2 ^ r + 0 = omega arith in
-    bit_kept (x * 2 ^ r) 64 i below
+    bit_unchanged (x * 2 ^ r) 64 i below
     ∙ ap (λ y. bit_at y i) more
     ∙ bit_at_cat_high x r 0 i (pow_pos r) from
 
 pub bit_under : (x r i : ℕ) → i < 64 → i < r → bit_at (x * 2 ^ r % 2 ^ 64) i ≡ 0
 bit_under x r i below under =
     let more : x * 2 ^ r ≡ x * 2 ^ r + 0 = omega arith in
-    bit_kept (x * 2 ^ r) 64 i below
+    bit_unchanged (x * 2 ^ r) 64 i below
     ∙ ap (λ y. bit_at y i) more
     ∙ bit_at_cat_low x r 0 i under
     ∙ bit_at-zero i
@@ -108,15 +108,15 @@ module _ (n count word : ℕ) (words : List ℕ) (few : count ≤ 64) (clear : w
   pub splices_none : count ≡ 0 → Splices n count word words words
   splices_none none = record {
     few = omega (arith, none, packed.few);
-    kept = λ i below. refl;
+    unchanged = λ i below. refl;
     spliced = λ j. packed.clear (n + j) (omega arith) ∙ off_past j (omega arith);
   }
 
   -- a word of their own
-  pub splices_behind : n % 64 ≡ 0 → 0 < count → Splices n count word words (words ++ word ∷ [])
-  splices_behind first some = record {
+  pub splices_after : n % 64 ≡ 0 → 0 < count → Splices n count word words (words ++ word ∷ [])
+  splices_after first some = record {
     few = length-append words (word ∷ []) ∙ omega (arith, packed.few);
-    kept = λ i below. bit_before words word i (omega (arith, packed.few));
+    unchanged = λ i below. bit_before words word i (omega (arith, packed.few));
     spliced = λ j. elim (cases_lt j 64) [
       | inl near ↦
           let place : (n + j) % 64 ≡ j = omega arith in
@@ -144,8 +144,8 @@ module _ (n count word : ℕ) (words : List ℕ) (few : count ≤ 64) (clear : w
     both : (i : ℕ) → i / 64 ≡ n / 64 → bit_of in_last i ≡ (max (bit_at x (i % 64)) (bit_at raised (i % 64)) == 1)
     both i same = bit_in_written words (n / 64) (bit_or x raised) inside i same ∙ ap (λ b. b == 1) (bit_at_or x raised (i % 64))
 
-    last_kept : (i : ℕ) → i < n → bit_of in_last i ≡ bit_of words i
-    last_kept i below = elim (cases_eq (i / 64) (n / 64)) [
+    last_unchanged : (i : ℕ) → i < n → bit_of in_last i ≡ bit_of words i
+    last_unchanged i below = elim (cases_eq (i / 64) (n / 64)) [
       | inl same ↦
           both i same
           ∙ ap (λ b. max (bit_at x (i % 64)) b == 1) (bit_under word (n % 64) (i % 64) (omega arith) (omega arith))
@@ -170,7 +170,7 @@ module _ (n count word : ℕ) (words : List ℕ) (few : count ≤ 64) (clear : w
     pub splices_within : n % 64 + count ≤ 64 → Splices n count word words in_last
     splices_within enough = record {
       few = long_last ∙ omega arith;
-      kept = last_kept;
+      unchanged = last_unchanged;
       spliced = λ j. elim (cases_lt (n % 64 + j) 64) [
         | inl near ↦ last_spliced j near
         | inr far ↦ bit_past in_last (n + j) (omega (arith, long_last)) ∙ off_past j (omega arith)
@@ -184,7 +184,7 @@ module _ (n count word : ℕ) (words : List ℕ) (few : count ≤ 64) (clear : w
         let long = length-append in_last (rest ∷ []) in
         record {
           few = long ∙ omega (arith, long_last);
-          kept = λ i below. bit_before in_last rest i (omega (arith, long_last)) ∙ last_kept i below;
+          unchanged = λ i below. bit_before in_last rest i (omega (arith, long_last)) ∙ last_unchanged i below;
           spliced = λ j. elim (cases_lt (n % 64 + j) 64) [
             | inl near ↦ bit_before in_last rest (n + j) (omega (arith, long_last)) ∙ last_spliced j near
             | inr far ↦ elim (cases_lt (n % 64 + j) 128) [

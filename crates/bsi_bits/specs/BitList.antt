@@ -1,4 +1,4 @@
--- What a contract sees of a 'Bits'.
+-- What a contract sees of a `Bits`: its bits and its room (`BitList`); then what it says of bits, as the set positions.
 use Rattle.std.specs.Prelude.{ℕ, ◌+◌, ◌-◌, ◌*◌, ◌/◌, ◌^◌, Bool, false, List, length, filter, slice_index_or, not, ◌&&◌, if◌then◌else◌}
 use Rattle.std.specs.List.{range_with_len}
 use Rattle.std.specs.Simd.Lanes.{chunk}
@@ -11,15 +11,15 @@ max_len = 2 ^ 32
 abbrev pub max_words : ℕ
 max_words = 2 ^ 26
 
--- the most bits that go in at once as a block: those of a word
+-- the most bits of a block, which are appended at once: those of a word
 abbrev pub max_block : ℕ
 max_block = 64
 
--- what a sum of at most `max_len` numbers is below, each of at most 63 binary places
+-- one more than the greatest sum of `max_len` numbers, each of at most 63 binary places
 abbrev pub sum_end : ℕ
 sum_end = 2 ^ 95
 
--- the bits from place 0 up, and how many more can be appended with no memory
+-- the bits from position 0 up, and how many more can be appended without memory
 pub record BitList : Type 0 where
   pub bits : List Bool
   pub room : ℕ
@@ -32,14 +32,14 @@ differ a b = if a then not b else b
 abbrev pub without : Bool → Bool → Bool
 without a b = a && not b
 
--- the places of the bits that are set, rising
-abbrev pub set_places : List Bool → List ℕ
-set_places bits = filter (λ i. slice_index_or bits i false) (range_with_len 0 (length bits))
+-- the positions of the bits that are set, rising
+abbrev pub set_positions : List Bool → List ℕ
+set_positions bits = filter (λ i. slice_index_or bits i false) (range_with_len 0 (length bits))
 
--- how many words hold n bits
+-- the number of words of n bits
 abbrev pub word_count : ℕ → ℕ
 word_count n = (n + 63) / 64
 
--- of items that stand 64 to a word, those in the words from `start` on and before `end`
+-- the items in the words from `start` on and before `end`, where each word has 64 items
 abbrev pub in_words : {X : Type 0} → ℕ → ℕ → List X → List X
 in_words start end items = chunk (64 * start) (64 * (end - start)) items

@@ -1,4 +1,4 @@
--- Rows that are set.
+-- Whether any of n rows is set (`HasRow`), and any that has a given value (`HasValue`).
 use Rattle.std.specs.Prelude.{◌≡◌, ℕ, ◌<◌, Bool, true}
 
 -- one of n rows is set

@@ -1,4 +1,4 @@
-//! Vectors of one length that grow together.
+//! Bit vectors of one length that grow together (`Bitmaps`), as those of a column do: one test for room serves all.
 
 ghost use Rattle.std.specs.Prelude.{◌≡◌, ◌≢◌, ◌↔◌, ◌==◌, ℕ, ◌+◌, ◌%◌, ◌^◌, ◌≤◌, ◌<◌, Bool, List, false, true, [], ◌∷◌, ◌++◌, ◌-◌, length, min, slice_index, IfOk, IsOk, IsTrue, OnErr, OnOk};
 ghost use Rattle.std.specs.Int.{bit_at};
@@ -112,7 +112,7 @@ impl Bitmaps {
         ensures doubles { OnOk result (self.old.room < more →
             min (length (bits_at self.old.vectors 0)) (max_len - length (bits_at self.old.vectors 0))
             ≤ self.new.room) }
-        ensures kept { self.old.room ≤ self.new.room }
+        ensures no_less { self.old.room ≤ self.new.room }
         ensures err { OnErr result (self.new.room ≡ self.old.room) }
         ensures refused { OnErr result (self.new.room < more) }
         ensures succeeds { more ≤ self.old.room → IsOk result }
@@ -120,9 +120,9 @@ impl Bitmaps {
         if more <= self.room {
             return Ok(());
         }
-        let wanted = room_to_make(self.len(), more);
-        reserve_each(&mut self.vectors, wanted)?;
-        self.room = wanted;
+        let growth = room_to_make(self.len(), more);
+        reserve_each(&mut self.vectors, growth)?;
+        self.room = growth;
         Ok(())
     }
 
@@ -208,7 +208,7 @@ impl Bitmaps {
             bits_at self.new.vectors j ≡ front ++ true ∷ [] }
         ensures before { (j : ℕ) → j < from →
             bits_at self.new.vectors j ≡ bits_at self.old.vectors j }
-        ensures behind { (j : ℕ) → to ≤ j →
+        ensures after { (j : ℕ) → to ≤ j →
             bits_at self.new.vectors j ≡ bits_at self.old.vectors j }
         ensures room { self.new.room ≡ self.old.room }
     {
@@ -290,7 +290,7 @@ fn empty_each(alloc: Global, count: usize) -> Result<Vec<Bits>, NoMemory>
 fn reserve_each(vectors: &mut [Bits], more: u64) -> Result<(), NoMemory>
     requires { (j : ℕ) → j < length vectors.old → length (bits_at vectors.old j) + more ≤ max_len }
     ensures same { AreSame vectors.old vectors.new }
-    ensures kept { (j : ℕ) → room_at vectors.old j ≤ room_at vectors.new j }
+    ensures no_less { (j : ℕ) → room_at vectors.old j ≤ room_at vectors.new j }
     ensures ok { OnOk result ((j : ℕ) → j < length vectors.old → more ≤ room_at vectors.new j) }
 {
     'vectors: for vector in vectors.iter_mut() {

@@ -1,7 +1,7 @@
-//! The packed vector of bits.
+//! The bit vector (`Bits`): at most 2^32 bits, packed into words of 64, which are appended, read and lent as words.
 
 ghost use Rattle.std.specs.Prelude.{◌≡◌, ◌≢◌, ◌↔◌, ℕ, Bool, List, ◌+◌, ◌-◌, ◌%◌, ◌^◌, ◌≤◌, ◌<◌, Some, [], ◌∷◌, ◌++◌, length, min, nat_lt, slice_get, slice_index_or, false, true, replicate, IsTrue, IsOk, IfOk, OnOk, OnErr};
-ghost use Rattle.bsi_bits.specs.BitList.{max_block, max_len, set_places, word_count};
+ghost use Rattle.bsi_bits.specs.BitList.{max_block, max_len, set_positions, word_count};
 ghost use Rattle.bsi_bits.specs.Packed.{bit_of, bits_of, IsPacked};
 
 use crate::NoMemory;
@@ -35,12 +35,12 @@ pub struct Bits {
 impl Model for Bits {
     ghost use Rattle.std.specs.Prelude.{vec_capacity};
     ghost use Rattle.bsi_bits.specs.BitList.{BitList};
-    ghost use Rattle.bsi_bits.specs.Packed.{bits_of, room_behind, IsPacked};
+    ghost use Rattle.bsi_bits.specs.Packed.{bits_of, room_after, IsPacked};
 
     ghost Value = { BitList };
 
     ghost view = { λ b. record
-        { bits = bits_of b.len b.words.items; room = room_behind b.len (vec_capacity b.words) } };
+        { bits = bits_of b.len b.words.items; room = room_after b.len (vec_capacity b.words) } };
 
     ghost invariant = { λ b. IsPacked b.len b.words.items };
 }
@@ -131,7 +131,7 @@ impl Bits {
 
     /// Returns an iterator over the places of the bits that are set, in rising order.
     pub fn ones(&self) -> Ones<'_>
-        ensures { result ≡ set_places self.now.bits }
+        ensures { result ≡ set_positions self.now.bits }
     {
         Ones::new(&self.words, self.len)
     }
@@ -157,7 +157,7 @@ impl Bits {
         requires { length self.old.bits < max_len }
         ensures bits { self.new.bits ≡ self.old.bits }
         ensures ok { OnOk result (0 < self.new.room) }
-        ensures kept { self.old.room ≤ self.new.room }
+        ensures no_less { self.old.room ≤ self.new.room }
         ensures err { OnErr result (self.new ≡ self.old) }
         ensures succeeds { 0 < self.old.room → IsOk result }
     {
@@ -173,15 +173,15 @@ impl Bits {
         ensures ok { OnOk result (more ≤ self.new.room) }
         ensures doubles { OnOk result (self.old.room < more →
             min (length self.old.bits) (max_len - length self.old.bits) ≤ self.new.room) }
-        ensures kept { self.old.room ≤ self.new.room }
+        ensures no_less { self.old.room ≤ self.new.room }
         ensures err { OnErr result (self.new ≡ self.old) }
         ensures succeeds { more ≤ self.old.room → IsOk result }
     {
         if more <= self.room() {
             return Ok(());
         }
-        let wanted = room_to_make(self.len, more);
-        let words = (self.len + wanted).div_ceil(64) as usize;
+        let growth = room_to_make(self.len, more);
+        let words = (self.len + growth).div_ceil(64) as usize;
         self.words.reserve(words - self.words.len())
     }
 

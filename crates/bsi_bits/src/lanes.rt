@@ -119,7 +119,7 @@ fn count_combined<O: Operation>(a: &[u64], b: &[u64]) -> u128
 {
     let mut ones = 0;
     let mut at = 0;
-    'parts: while at < a.len() {
+    'chunks: while at < a.len() {
         let end = at + MAX_COUNTED.min(a.len() - at);
         ones += count_few_combined::<O>(&a[at..end], &b[at..end]) as u128;
         at = end;
@@ -224,7 +224,7 @@ pub fn count(a: &[u64]) -> u128
 {
     let mut ones = 0;
     let mut at = 0;
-    'parts: while at < a.len() {
+    'chunks: while at < a.len() {
         let end = at + MAX_COUNTED.min(a.len() - at);
         ones += count_few(&a[at..end]) as u128;
         at = end;

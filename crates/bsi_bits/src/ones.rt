@@ -1,12 +1,12 @@
 //! The iterator over the places of the bits that are set.
 //!
-//! The next place is found from the words as they are, so no half-used word is kept. Words with no bit are passed over, a
-//! cache line at a time where it has none.
+//! The next place is read from the words as they are, so no half-used word is saved. Words with no bit are passed over,
+//! a cache line at a time where it has none.
 
 ghost use Rattle.std.specs.Prelude.{◌≡◌, ◌≢◌, ℕ, ◌≤◌, ◌<◌, ◌+◌, List, length, slice_index, IsTrue};
 ghost use Rattle.std.specs.Iterator.{YieldsFirst, item_count};
 ghost use Rattle.bsi_bits.specs.BitList.{max_words};
-ghost use Rattle.bsi_bits.specs.Packed.{places_from, IsPacked};
+ghost use Rattle.bsi_bits.specs.Packed.{positions_from, IsPacked};
 
 use crate::lanes::{LINE_WORDS, is_clear};
 use crate::packing::know_fits;
@@ -24,7 +24,7 @@ pub struct Ones<'a> {
 impl<'a> Model for Ones<'a> {
     ghost Value = { List ℕ };
 
-    ghost view = { λ o. places_from o.at o.len o.words.now };
+    ghost view = { λ o. positions_from o.at o.len o.words.now };
 
     ghost invariant = { λ o. IsPacked o.len o.words.now };
 }
@@ -67,7 +67,7 @@ impl<'a> Ones<'a> {
     /// Makes the iterator over the set places among the first `len` bits of packed words.
     pub(crate) fn new(words: &'a [u64], len: u64) -> Ones<'a>
         requires { IsPacked len words.now }
-        ensures { result ≡ places_from 0 len words.now }
+        ensures { result ≡ positions_from 0 len words.now }
     {
         Ones { words, len, at: 0 }
     }

@@ -1,4 +1,4 @@
-//! Writes of bits and words at the end of packed words.
+//! Appends bits and words to packed words, and clears the places past the last bit.
 
 ghost use Rattle.std.specs.Prelude.{◌≡◌, ℕ, List, Bool, true, ◌+◌, ◌*◌, ◌%◌, ◌^◌, ◌≤◌, ◌<◌, [], ◌∷◌, ◌++◌, length, slice_index, vec_len, vec_capacity};
 ghost use Rattle.bsi_bits.specs.BitList.{max_block, max_len, word_count};
@@ -13,10 +13,10 @@ pub fn trim(words: &mut Vec<u64>, n: u64)
     ensures len { vec_len words.new ≡ vec_len words.old }
     ensures capacity { vec_capacity words.new ≡ vec_capacity words.old }
 {
-    let kept = n % 64;
-    if kept != 0 {
+    let used = n % 64;
+    if used != 0 {
         let last = (n / 64) as usize;
-        words[last] &= (1 << kept) - 1;
+        words[last] &= (1 << used) - 1;
     }
 }
 

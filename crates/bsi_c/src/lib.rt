@@ -3,20 +3,20 @@
 #![tactic(auto)]
 
 ghost use Rattle.std.specs.Prelude.{◌≡◌, ◌≢◌, Err, None, drop, length, map};
-ghost use Rattle.bsi_ffi.specs.Calls.{IsAppending, IsAsking, IsClosing, IsCounting, IsDescribing, IsKeeping, IsOpening, IsReopening, IsReserving, IsSelecting, IsSharing, LeavesRest, LeavesWords};
+ghost use Rattle.bsi_ffi.specs.Calls.{IsAppending, IsAsking, IsClosing, IsCounting, IsDescribing, IsOpening, IsReopening, IsReserving, IsSaving, IsSelecting, IsSharing, LeavesRest, LeavesWords};
 ghost use Rattle.bsi_ffi.specs.Groups.{IsGrouping};
 ghost use Rattle.bsi_ffi.specs.Memory.{IsMeasuring};
 ghost use Rattle.bsi_ffi.specs.Pairs.{IsGroupingByTwo};
-ghost use Rattle.bsi_ffi.specs.Numbers.{IsCountingDifferent, IsFindingQuantile, IsRanking};
+ghost use Rattle.bsi_ffi.specs.Numbers.{IsCountingDistinct, IsFindingQuantile, IsRanking};
 ghost use Rattle.bsi_ffi.specs.States.{opened_in};
-ghost use Rattle.bsi_ffi.specs.Statuses.{status_of, Tells};
-ghost use Rattle.bsi_ffi.specs.Tops.{end_of, IsTopping};
-ghost use Rattle.bsi_ffi.specs.declared.refusal.Refusal.TheVariants.{NoMemory, NoRoom};
+ghost use Rattle.bsi_ffi.specs.Statuses.{status_of, ReturnsStatus};
+ghost use Rattle.bsi_ffi.specs.Tops.{extreme_of, IsListingTop};
+ghost use Rattle.bsi_ffi.specs.declared.refusal.Refusal.TheVariants.{BufferTooSmall, NoMemory};
 
 use bsi_ffi::{
-    FlatAnswer, FlatEntry, FlatGroup, FlatPair, FlatRow, GivenColumn, Handle, Place, append, ask,
-    close, count, describe, different, first_rows, group, group_pairs, measure, open, open_kept,
-    quantile, ranked, reserve, save, select, share, status_of,
+    ColumnInput, FlatAnswer, FlatEntry, FlatGroup, FlatPair, FlatRow, Handle, Origin, append, ask,
+    close, count, count_distinct, describe, first_rows, group, group_pairs, memory_bytes, open,
+    open_saved, quantile, ranked, reserve, save, select, share, status_of,
 };
 use std::alloc::Global;
 
@@ -30,18 +30,18 @@ pub extern "C" fn bsi_open(
     feeders: u32,
     bad_record: &mut u64,
 ) -> u32
-    ensures told { Tells result (IsOpening index.old.held.value schema.now feeders bad_record.new
-        index.new.held.value) }
-    ensures kept { result ≢ 0 → index.new.held.value ≡ index.old.held.value }
+    ensures status { ReturnsStatus result (IsOpening index.old.pointer.value schema.now feeders bad_record.new
+        index.new.pointer.value) }
+    ensures unchanged { result ≢ 0 → index.new.pointer.value ≡ index.old.pointer.value }
 {
     status_of(open(alloc, index, schema, feeders, bad_record))
 }
 
-/// Makes room for so many further rows. No row changes.
+/// Reserves memory for `rows` more rows. No row changes.
 #[unsafe(no_mangle)]
 pub extern "C" fn bsi_reserve(alloc: Global, index: &mut Handle, rows: u64) -> u32
-    ensures told { Tells result (IsReserving index.old.held.value rows) }
-    ensures kept { index.new.held.value ≡ index.old.held.value }
+    ensures status { ReturnsStatus result (IsReserving index.old.pointer.value rows) }
+    ensures unchanged { index.new.pointer.value ≡ index.old.pointer.value }
 {
     status_of(reserve(alloc, index, rows))
 }
@@ -54,14 +54,14 @@ pub extern "C" fn bsi_append(
     alloc: Global,
     index: &mut Handle,
     feeder: u32,
-    columns: &[GivenColumn],
+    columns: &[ColumnInput],
     row: &mut u64,
     column: &mut usize,
 ) -> u32
-    ensures told { Tells result (IsAppending index.old.held.value feeder columns.now row.new
-        column.new index.new.held.value) }
-    ensures kept { result ≢ 0 → result ≢ status_of (Err NoMemory) →
-        index.new.held.value ≡ index.old.held.value }
+    ensures status { ReturnsStatus result (IsAppending index.old.pointer.value feeder columns.now row.new
+        column.new index.new.pointer.value) }
+    ensures unchanged { result ≢ 0 → result ≢ status_of (Err NoMemory) →
+        index.new.pointer.value ≡ index.old.pointer.value }
 {
     status_of(append(alloc, index, feeder, columns, row, column))
 }
@@ -73,16 +73,16 @@ pub extern "C" fn bsi_ask(
     index: &mut Handle,
     fields: &[&[u8]],
     answer: &mut FlatAnswer,
-    places: &mut [Place],
+    origins: &mut [Origin],
 ) -> u32
-    ensures told { Tells result (IsAsking (opened_in index.old.held.value)
-        (map (λ f. f.now) fields.now) answer.new places.new) }
-    ensures kept { index.new.held.value ≡ index.old.held.value }
-    ensures left { result ≢ 0 → result ≢ status_of (Err NoRoom) → answer.new ≡ answer.old }
-    ensures unfilled { result ≢ 0 → places.new ≡ places.old }
-    ensures rest { result ≡ 0 → LeavesRest answer.new places.old places.new }
+    ensures status { ReturnsStatus result (IsAsking (opened_in index.old.pointer.value)
+        (map (λ f. f.now) fields.now) answer.new origins.new) }
+    ensures unchanged { index.new.pointer.value ≡ index.old.pointer.value }
+    ensures answer_unchanged { result ≢ 0 → result ≢ status_of (Err BufferTooSmall) → answer.new ≡ answer.old }
+    ensures origins_unchanged { result ≢ 0 → origins.new ≡ origins.old }
+    ensures rest_unchanged { result ≡ 0 → LeavesRest answer.new origins.old origins.new }
 {
-    status_of(ask(alloc, index, fields, answer, places))
+    status_of(ask(alloc, index, fields, answer, origins))
 }
 
 /// Puts the rows that the query of the fields selects in groups by their entry in the column of this name. It writes the
@@ -96,12 +96,12 @@ pub extern "C" fn bsi_group_by(
     groups: &mut [FlatGroup],
     count: &mut usize,
 ) -> u32
-    ensures told { Tells result (IsGrouping (opened_in index.old.held.value)
+    ensures status { ReturnsStatus result (IsGrouping (opened_in index.old.pointer.value)
         (map (λ f. f.now) fields.now) name.now groups.new count.new) }
-    ensures kept { index.new.held.value ≡ index.old.held.value }
-    ensures left { result ≢ 0 → count.new ≡ count.old }
-    ensures unfilled { result ≢ 0 → groups.new ≡ groups.old }
-    ensures rest { result ≡ 0 → drop count.new groups.new ≡ drop count.new groups.old }
+    ensures unchanged { index.new.pointer.value ≡ index.old.pointer.value }
+    ensures count_unchanged { result ≢ 0 → count.new ≡ count.old }
+    ensures groups_unchanged { result ≢ 0 → groups.new ≡ groups.old }
+    ensures rest_unchanged { result ≡ 0 → drop count.new groups.new ≡ drop count.new groups.old }
 {
     status_of(group(alloc, index, fields, name, groups, count))
 }
@@ -119,12 +119,12 @@ pub extern "C" fn bsi_group_by_two(
     pairs: &mut [FlatPair],
     count: &mut usize,
 ) -> u32
-    ensures told { Tells result (IsGroupingByTwo (opened_in index.old.held.value)
+    ensures status { ReturnsStatus result (IsGroupingByTwo (opened_in index.old.pointer.value)
         (map (λ f. f.now) fields.now) first.now second.now pairs.new count.new) }
-    ensures kept { index.new.held.value ≡ index.old.held.value }
-    ensures left { result ≢ 0 → count.new ≡ count.old }
-    ensures unfilled { result ≢ 0 → pairs.new ≡ pairs.old }
-    ensures rest { result ≡ 0 → drop count.new pairs.new ≡ drop count.new pairs.old }
+    ensures unchanged { index.new.pointer.value ≡ index.old.pointer.value }
+    ensures count_unchanged { result ≢ 0 → count.new ≡ count.old }
+    ensures pairs_unchanged { result ≢ 0 → pairs.new ≡ pairs.old }
+    ensures rest_unchanged { result ≡ 0 → drop count.new pairs.new ≡ drop count.new pairs.old }
 {
     status_of(group_pairs(alloc, index, fields, first, second, pairs, count))
 }
@@ -138,11 +138,11 @@ pub extern "C" fn bsi_select(
     fields: &[&[u8]],
     words: &mut [u64],
 ) -> u32
-    ensures told { Tells result (IsSelecting (opened_in index.old.held.value)
+    ensures status { ReturnsStatus result (IsSelecting (opened_in index.old.pointer.value)
         (map (λ f. f.now) fields.now) words.new) }
-    ensures kept { index.new.held.value ≡ index.old.held.value }
-    ensures left { result ≢ 0 → words.new ≡ words.old }
-    ensures rest { result ≡ 0 → LeavesWords (opened_in index.old.held.value) words.old words.new }
+    ensures unchanged { index.new.pointer.value ≡ index.old.pointer.value }
+    ensures words_unchanged { result ≢ 0 → words.new ≡ words.old }
+    ensures rest_unchanged { result ≡ 0 → LeavesWords (opened_in index.old.pointer.value) words.old words.new }
 {
     status_of(select(alloc, index, fields, words))
 }
@@ -156,12 +156,12 @@ pub extern "C" fn bsi_distinct(
     name: &[u8],
     count: &mut u64,
 ) -> u32
-    ensures told { Tells result (IsCountingDifferent (opened_in index.old.held.value)
+    ensures status { ReturnsStatus result (IsCountingDistinct (opened_in index.old.pointer.value)
         (map (λ f. f.now) fields.now) name.now count.new) }
-    ensures kept { index.new.held.value ≡ index.old.held.value }
-    ensures left { result ≢ 0 → count.new ≡ count.old }
+    ensures unchanged { index.new.pointer.value ≡ index.old.pointer.value }
+    ensures count_unchanged { result ≢ 0 → count.new ≡ count.old }
 {
-    status_of(different(alloc, index, fields, name, count))
+    status_of(count_distinct(alloc, index, fields, name, count))
 }
 
 /// Writes for each rank, from 0, the number that has it among those that the column of this name has at the rows of the
@@ -175,38 +175,39 @@ pub extern "C" fn bsi_ranks(
     ranks: &[u64],
     numbers: &mut [FlatEntry],
 ) -> u32
-    ensures told { Tells result (IsRanking (opened_in index.old.held.value)
+    ensures status { ReturnsStatus result (IsRanking (opened_in index.old.pointer.value)
         (map (λ f. f.now) fields.now) name.now ranks.now numbers.new) }
-    ensures kept { index.new.held.value ≡ index.old.held.value }
-    ensures left { result ≢ 0 → numbers.new ≡ numbers.old }
-    ensures rest { result ≡ 0 → drop (length ranks.now) numbers.new
+    ensures unchanged { index.new.pointer.value ≡ index.old.pointer.value }
+    ensures numbers_unchanged { result ≢ 0 → numbers.new ≡ numbers.old }
+    ensures rest_unchanged { result ≡ 0 → drop (length ranks.now) numbers.new
         ≡ drop (length ranks.now) numbers.old }
 {
     status_of(ranked(alloc, index, fields, name, ranks, numbers))
 }
 
-/// Writes the number at the end of `part` parts of `whole` of those that the column of this name has at the rows of the
-/// predicate that the fields spell: of n numbers that of the rank (n - 1) * part / whole, from 0 and rounded down.
+/// Writes the number at the end of `numerator` parts of `denominator` of those that the column of this name has at the
+/// rows of the predicate that the fields spell: of n numbers that of the rank (n - 1) * numerator / denominator, from
+/// 0 and rounded down.
 #[unsafe(no_mangle)]
 pub extern "C" fn bsi_quantile(
     alloc: Global,
     index: &mut Handle,
     fields: &[&[u8]],
     name: &[u8],
-    part: u64,
-    whole: u64,
+    numerator: u64,
+    denominator: u64,
     number: &mut FlatEntry,
 ) -> u32
-    ensures told { Tells result (IsFindingQuantile (opened_in index.old.held.value)
-        (map (λ f. f.now) fields.now) name.now part whole number.new) }
-    ensures kept { index.new.held.value ≡ index.old.held.value }
-    ensures left { result ≢ 0 → number.new ≡ number.old }
+    ensures status { ReturnsStatus result (IsFindingQuantile (opened_in index.old.pointer.value)
+        (map (λ f. f.now) fields.now) name.now numerator denominator number.new) }
+    ensures unchanged { index.new.pointer.value ≡ index.old.pointer.value }
+    ensures number_unchanged { result ≢ 0 → number.new ≡ number.old }
 {
-    status_of(quantile(alloc, index, fields, name, part, whole, number))
+    status_of(quantile(alloc, index, fields, name, numerator, denominator, number))
 }
 
-/// Writes the rows with the greatest numbers, or the least, that the column of this name has at the rows of the predicate
-/// that the fields spell, the first ones first, as many as there is room for, and how many they are.
+/// Writes the rows with the greatest numbers, or the least, that the column of this name has at the rows of the
+/// predicate that the fields spell, the first ones first, as many as the buffer has space for, and how many they are.
 #[unsafe(no_mangle)]
 pub extern "C" fn bsi_top(
     alloc: Global,
@@ -217,12 +218,12 @@ pub extern "C" fn bsi_top(
     rows: &mut [FlatRow],
     count: &mut usize,
 ) -> u32
-    ensures told { Tells result (IsTopping (opened_in index.old.held.value)
-        (map (λ f. f.now) fields.now) name.now (end_of least) rows.new count.new) }
-    ensures kept { index.new.held.value ≡ index.old.held.value }
-    ensures left { result ≢ 0 → count.new ≡ count.old }
-    ensures unfilled { result ≢ 0 → rows.new ≡ rows.old }
-    ensures rest { result ≡ 0 → drop count.new rows.new ≡ drop count.new rows.old }
+    ensures status { ReturnsStatus result (IsListingTop (opened_in index.old.pointer.value)
+        (map (λ f. f.now) fields.now) name.now (extreme_of least) rows.new count.new) }
+    ensures unchanged { index.new.pointer.value ≡ index.old.pointer.value }
+    ensures count_unchanged { result ≢ 0 → count.new ≡ count.old }
+    ensures rows_unchanged { result ≢ 0 → rows.new ≡ rows.old }
+    ensures rest_unchanged { result ≡ 0 → drop count.new rows.new ≡ drop count.new rows.old }
 {
     status_of(first_rows(alloc, index, fields, name, least, rows, count))
 }
@@ -230,24 +231,24 @@ pub extern "C" fn bsi_top(
 /// Writes the number of rows.
 #[unsafe(no_mangle)]
 pub extern "C" fn bsi_rows(alloc: Global, index: &mut Handle, rows: &mut u64) -> u32
-    ensures told { Tells result (IsCounting (opened_in index.old.held.value) rows.new) }
-    ensures kept { index.new.held.value ≡ index.old.held.value }
-    ensures left { result ≢ 0 → rows.new ≡ rows.old }
+    ensures status { ReturnsStatus result (IsCounting (opened_in index.old.pointer.value) rows.new) }
+    ensures unchanged { index.new.pointer.value ≡ index.old.pointer.value }
+    ensures rows_unchanged { result ≢ 0 → rows.new ≡ rows.old }
 {
     status_of(count(alloc, index, rows))
 }
 
-/// Writes how many bytes the index keeps of its rows. The room for more rows comes on top.
+/// Writes how many bytes the rows of the index take. Reserved memory comes on top.
 #[unsafe(no_mangle)]
 pub extern "C" fn bsi_memory(alloc: Global, index: &mut Handle, bytes: &mut u64) -> u32
-    ensures told { Tells result (IsMeasuring (opened_in index.old.held.value) bytes.new) }
-    ensures kept { index.new.held.value ≡ index.old.held.value }
-    ensures left { result ≢ 0 → bytes.new ≡ bytes.old }
+    ensures status { ReturnsStatus result (IsMeasuring (opened_in index.old.pointer.value) bytes.new) }
+    ensures unchanged { index.new.pointer.value ≡ index.old.pointer.value }
+    ensures bytes_unchanged { result ≢ 0 → bytes.new ≡ bytes.old }
 {
-    status_of(measure(alloc, index, bytes))
+    status_of(memory_bytes(alloc, index, bytes))
 }
 
-/// Writes the schema text, if there is room, and its length.
+/// Writes the schema text, if the buffer is large enough, and its length.
 #[unsafe(no_mangle)]
 pub extern "C" fn bsi_schema(
     alloc: Global,
@@ -255,17 +256,17 @@ pub extern "C" fn bsi_schema(
     text: &mut [u8],
     size: &mut usize,
 ) -> u32
-    ensures told { Tells result
-        (IsDescribing (opened_in index.old.held.value) text.new size.new) }
-    ensures kept { index.new.held.value ≡ index.old.held.value }
-    ensures left { result ≢ 0 → result ≢ status_of (Err NoRoom) → size.new ≡ size.old }
-    ensures unfilled { result ≢ 0 → text.new ≡ text.old }
-    ensures rest { result ≡ 0 → drop size.new text.new ≡ drop size.new text.old }
+    ensures status { ReturnsStatus result
+        (IsDescribing (opened_in index.old.pointer.value) text.new size.new) }
+    ensures unchanged { index.new.pointer.value ≡ index.old.pointer.value }
+    ensures size_unchanged { result ≢ 0 → result ≢ status_of (Err BufferTooSmall) → size.new ≡ size.old }
+    ensures text_unchanged { result ≢ 0 → text.new ≡ text.old }
+    ensures rest_unchanged { result ≡ 0 → drop size.new text.new ≡ drop size.new text.old }
 {
     status_of(describe(alloc, index, text, size))
 }
 
-/// Writes the bytes that keep the index and these notes, if there is room, and how many they are.
+/// Writes the file of the index with these notes, if the buffer is large enough, and how many they are.
 #[unsafe(no_mangle)]
 pub extern "C" fn bsi_save(
     alloc: Global,
@@ -274,18 +275,18 @@ pub extern "C" fn bsi_save(
     bytes: &mut [u8],
     size: &mut usize,
 ) -> u32
-    ensures told { Tells result
-        (IsKeeping (opened_in index.old.held.value) notes.now bytes.new size.new) }
-    ensures kept { index.new.held.value ≡ index.old.held.value }
-    ensures left { result ≢ 0 → result ≢ status_of (Err NoRoom) → size.new ≡ size.old }
-    ensures unfilled { result ≢ 0 → bytes.new ≡ bytes.old }
-    ensures rest { result ≡ 0 → drop size.new bytes.new ≡ drop size.new bytes.old }
+    ensures status { ReturnsStatus result
+        (IsSaving (opened_in index.old.pointer.value) notes.now bytes.new size.new) }
+    ensures unchanged { index.new.pointer.value ≡ index.old.pointer.value }
+    ensures size_unchanged { result ≢ 0 → result ≢ status_of (Err BufferTooSmall) → size.new ≡ size.old }
+    ensures bytes_unchanged { result ≢ 0 → bytes.new ≡ bytes.old }
+    ensures rest_unchanged { result ≡ 0 → drop size.new bytes.new ≡ drop size.new bytes.old }
 {
     status_of(save(alloc, index, notes, bytes, size))
 }
 
-/// Opens a closed handle, with the index that all bytes keep, and writes the notes and their length. It writes how many
-/// of the first bytes keep an index, also where it is refused.
+/// Opens a closed handle, with the index of a file, and writes the notes and their length. It writes how many of the
+/// first bytes are a file, also where it is refused.
 #[unsafe(no_mangle)]
 pub extern "C" fn bsi_open_kept(
     alloc: Global,
@@ -295,26 +296,26 @@ pub extern "C" fn bsi_open_kept(
     size: &mut usize,
     whole: &mut u64,
 ) -> u32
-    ensures told { Tells result (IsReopening index.old.held.value bytes.now notes.new size.new
-        whole.new index.new.held.value) }
-    ensures kept { result ≢ 0 → index.new.held.value ≡ index.old.held.value }
-    ensures left { result ≢ 0 → result ≢ status_of (Err NoRoom) → size.new ≡ size.old }
-    ensures unfilled { result ≢ 0 → notes.new ≡ notes.old }
-    ensures rest { result ≡ 0 → drop size.new notes.new ≡ drop size.new notes.old }
+    ensures status { ReturnsStatus result (IsReopening index.old.pointer.value bytes.now notes.new size.new
+        whole.new index.new.pointer.value) }
+    ensures unchanged { result ≢ 0 → index.new.pointer.value ≡ index.old.pointer.value }
+    ensures size_unchanged { result ≢ 0 → result ≢ status_of (Err BufferTooSmall) → size.new ≡ size.old }
+    ensures notes_unchanged { result ≢ 0 → notes.new ≡ notes.old }
+    ensures rest_unchanged { result ≡ 0 → drop size.new notes.new ≡ drop size.new notes.old }
 {
-    status_of(open_kept(alloc, index, bytes, notes, size, whole))
+    status_of(open_saved(alloc, index, bytes, notes, size, whole))
 }
 
-/// Opens a closed handle of the same index, for another thread. The index takes no more rows.
+/// Opens a closed handle of the same index, for another thread. The index accepts no more rows.
 #[unsafe(no_mangle)]
 pub extern "C" fn bsi_share(alloc: Global, index: &mut Handle, other: &mut Handle) -> u32
-    ensures told { Tells result (IsSharing index.old.held.value other.old.held.value
-        index.new.held.value other.new.held.value) }
-    ensures kept { result ≢ 0 → result ≢ status_of (Err NoMemory) →
-        index.new.held.value ≡ index.old.held.value }
-    ensures held { result ≢ 0 →
-        opened_in index.new.held.value ≡ opened_in index.old.held.value }
-    ensures left { result ≢ 0 → other.new.held.value ≡ other.old.held.value }
+    ensures status { ReturnsStatus result (IsSharing index.old.pointer.value other.old.pointer.value
+        index.new.pointer.value other.new.pointer.value) }
+    ensures unchanged { result ≢ 0 → result ≢ status_of (Err NoMemory) →
+        index.new.pointer.value ≡ index.old.pointer.value }
+    ensures index_unchanged { result ≢ 0 →
+        opened_in index.new.pointer.value ≡ opened_in index.old.pointer.value }
+    ensures other_unchanged { result ≢ 0 → other.new.pointer.value ≡ other.old.pointer.value }
 {
     status_of(share(alloc, index, other))
 }
@@ -327,11 +328,11 @@ pub extern "C" fn bsi_version() -> u32
     200
 }
 
-/// Closes a handle. If no other handle holds the index, it frees the index.
+/// Closes a handle. If no other handle has the index, it frees the index.
 #[unsafe(no_mangle)]
 pub extern "C" fn bsi_close(alloc: Global, index: &mut Handle) -> u32
-    ensures told { Tells result (IsClosing (opened_in index.old.held.value)) }
-    ensures closed { index.new.held.value ≡ None }
+    ensures status { ReturnsStatus result (IsClosing (opened_in index.old.pointer.value)) }
+    ensures closed { index.new.pointer.value ≡ None }
 {
     status_of(close(alloc, index))
 }

@@ -3,18 +3,19 @@ use Rattle.std.proofs.Common.{◌≡◌, ℕ, ◌+◌, ◌≤◌, Bool, true, fa
 use Rattle.csv.specs.Reading.{ReadRecord, reader_state, source_of, strip_bom}
 use Rattle.csv.specs.declared.parser.State.TheVariants as st
 use Rattle.csv.specs.declared.reader.Reader.{Reader}
-use Rattle.bsi_records.specs.Events.{IsQuery}
-use Rattle.bsi_records.specs.Numbers.{Field}
-use Rattle.bsi_records.specs.Reading.{IsReadAs}
+use Rattle.bsi_syntax.specs.Bytes.{KnownBytes}
+use Rattle.bsi_syntax.specs.Events.{IsQuery}
+use Rattle.bsi_syntax.specs.Numbers.{Field}
+use Rattle.bsi_syntax.specs.Reading.{IsReadAs}
 use Rattle.bsi_rows.specs.declared.query.Query.{Query}
 use Rattle.bsi_schema.specs.Columns.{Declared}
-use Rattle.bsi_reading.specs.Sources.{max_records, IsPlain}
-use Rattle.bsi_reading.proofs.FirstRecords.{first_all, first_more, first_none, HasReadFirst}
-use Rattle.bsi_reading.proofs.Taking.{is_over, one_read}
-use Rattle.bsi_check.specs.Checks.{AreCountedAsks, HaveBadAsks, IsAsked, IsAskVerdict, IsNoQuery}
+use Rattle.bsi_input.specs.Sources.{max_records, IsPlainReader}
+use Rattle.bsi_input.proofs.FirstRecords.{first_all, first_more, first_none, HasReadFirst}
+use Rattle.bsi_input.proofs.Taking.{is_over, one_read}
+use Rattle.bsi_check.specs.Checks.{AreCountedAsks, AsksNoQuery, AsksQuery, HaveBadAsks, IsAskVerdict}
 
 -- one more query
-pub asked_more : (schema : Declared) (records : List (List Field)) (fields : List Field) (bad : ℕ) → HaveBadAsks schema records bad → IsAsked schema fields
+pub asked_more : (schema : Declared) (records : List (List Field)) (fields : List Field) (bad : ℕ) → HaveBadAsks schema records bad → AsksQuery schema fields
     → HaveBadAsks schema (records ++ fields ∷ []) bad
 unfolding HaveBadAsks
 asked_more schema [] fields bad none asked = inl (asked, none)
@@ -22,7 +23,7 @@ asked_more schema (r ∷ records) fields bad (inl (good, rest)) asked = inl (goo
 asked_more schema (r ∷ records) fields bad (inr (not, others, is, rest)) asked = inr (not, others, is, asked_more schema records fields others rest asked)
 
 -- one more record that is none
-pub bad_more : (schema : Declared) (records : List (List Field)) (fields : List Field) (bad : ℕ) → HaveBadAsks schema records bad → IsNoQuery schema fields
+pub bad_more : (schema : Declared) (records : List (List Field)) (fields : List Field) (bad : ℕ) → HaveBadAsks schema records bad → AsksNoQuery schema fields
     → HaveBadAsks schema (records ++ fields ∷ []) (bad + 1)
 unfolding HaveBadAsks
 bad_more schema [] fields bad none not = inr (not, bad, refl, none)
@@ -35,13 +36,13 @@ unfolding HaveBadAsks
 asked_none schema = refl
 
 -- where the count of asks stands between two of them
-pub record AreAsks (schema : Declared) (bytes : List ℕ) {R : Type 0} (rem : R → Option (List ℕ)) (input : Reader R) (taken bad : ℕ) : Type 0 where
+pub record AreAsks (schema : Declared) (bytes : List ℕ) {R : Type 0} (rem : R → KnownBytes) (input : Reader R) (read_so_far bad : ℕ) : Type 0 where
   pub records : List (List Field)
   pub begun : HasReadFirst bytes (reader_state input) (source_of rem input) records
-  pub many : length records ≡ taken
+  pub many : length records ≡ read_so_far
   pub asked : HaveBadAsks schema records bad
 
-pub asks_none : (schema : Declared) (bytes : List ℕ) {R : Type 0} (rem : R → Option (List ℕ)) (input : Reader R) → reader_state input ≡ st.StartRecord
+pub asks_none : (schema : Declared) (bytes : List ℕ) {R : Type 0} (rem : R → KnownBytes) (input : Reader R) → reader_state input ≡ st.StartRecord
     → source_of rem input ≡ Some (strip_bom bytes) → AreAsks schema bytes rem input 0 0
 asks_none schema bytes rem input start left = record {
   records = [];
@@ -50,9 +51,9 @@ asks_none schema bytes rem input start left = record {
   asked = asked_none schema;
 }
 
-module _ (schema : Declared) (bytes : List ℕ) {R : Type 0} (rem : R → Option (List ℕ)) (b : Reader R) (taken bad : ℕ)
-    (are : AreAsks schema bytes rem b taken bad) (plain : IsPlain b) (c : Reader R) (fields : List Field) where
-  pub asks_good : ReadRecord rem b c true fields → IsAsked schema fields → AreAsks schema bytes rem c (taken + 1) bad
+module _ (schema : Declared) (bytes : List ℕ) {R : Type 0} (rem : R → KnownBytes) (b : Reader R) (read_so_far bad : ℕ)
+    (are : AreAsks schema bytes rem b read_so_far bad) (plain : IsPlainReader b) (c : Reader R) (fields : List Field) where
+  pub asks_good : ReadRecord rem b c true fields → AsksQuery schema fields → AreAsks schema bytes rem c (read_so_far + 1) bad
   asks_good next good = record {
     records = are.records ++ fields ∷ [];
     begun = first_more rem bytes b c are.records fields are.begun (one_read rem b c fields plain.config next);
@@ -60,7 +61,7 @@ module _ (schema : Declared) (bytes : List ℕ) {R : Type 0} (rem : R → Option
     asked = asked_more schema are.records fields bad are.asked good;
   }
 
-  pub asks_bad : ReadRecord rem b c true fields → IsNoQuery schema fields → AreAsks schema bytes rem c (taken + 1) (bad + 1)
+  pub asks_bad : ReadRecord rem b c true fields → AsksNoQuery schema fields → AreAsks schema bytes rem c (read_so_far + 1) (bad + 1)
   asks_bad next not = record {
     records = are.records ++ fields ∷ [];
     begun = first_more rem bytes b c are.records fields are.begun (one_read rem b c fields plain.config next);
@@ -68,7 +69,7 @@ module _ (schema : Declared) (bytes : List ℕ) {R : Type 0} (rem : R → Option
     asked = bad_more schema are.records fields bad are.asked not;
   }
 
-  pub asks_all : ReadRecord rem b c false fields → taken ≤ max_records → AreCountedAsks schema bad bytes
+  pub asks_all : ReadRecord rem b c false fields → read_so_far ≤ max_records → AreCountedAsks schema bad bytes
   asks_all none few = record {
     records = are.records;
     all = first_all rem bytes b b are.records are.begun (is_over rem b b c fields plain.config none);

@@ -3,45 +3,46 @@ use Rattle.std.proofs.Common.{◌≡◌, ℕ, ◌+◌, ◌<◌, ◌≤◌, true,
 use Rattle.csv.specs.Reading.{ReadRecord, source_of, strip_bom}
 use Rattle.csv.specs.declared.reader.Reader.{Reader}
 use Rattle.bsi_rows.specs.Rows.{Entries}
-use Rattle.bsi_records.specs.Numbers.{Field}
+use Rattle.bsi_syntax.specs.Bytes.{KnownBytes}
+use Rattle.bsi_syntax.specs.Numbers.{Field}
 use Rattle.bsi_schema.specs.Columns.{Declared}
-use Rattle.bsi_reading.specs.RowFiles.{good_row, is_header}
-use Rattle.bsi_reading.specs.Sources.{counts_of, max_records, Counts, HasTaken, IsPlain, Layout, StandsAfter}
-use Rattle.bsi_reading.proofs.Joining.{is_whole, taken_both}
-use Rattle.bsi_reading.proofs.Taking.{has_more, is_over, of_text, taken_bad, taken_good, taken_none, AreTaken}
-use Rattle.bsi_check.specs.Checks.{layout_of, HasCounted, HasTooMany, IsCounted}
-use Rattle.bsi_check.specs.declared.found.FileCounts.{FileCounts}
+use Rattle.bsi_input.specs.RowFiles.{good_row, is_header}
+use Rattle.bsi_input.specs.Sources.{counts_of, max_records, Counts, HasReadRows, IsAfterHeader, IsPlainReader, Layout}
+use Rattle.bsi_input.proofs.Joining.{is_whole, taken_both}
+use Rattle.bsi_input.proofs.Taking.{has_more, is_over, of_text, taken_bad, taken_good, taken_none, AreTaken}
+use Rattle.bsi_check.specs.Checks.{layout_of, HasCounted, HasTooManyRecords, IsCountedFile}
+use Rattle.bsi_check.specs.declared.finding.FileCounts.{FileCounts}
 
 -- where the count of records stands between two of them
-pub record AreCounted {R : Type 0} (rem : R → Option (List ℕ)) (layout : Layout) (old new : Reader R) (records bad : ℕ) : Type 0 where
+pub record AreCounted {R : Type 0} (rem : R → KnownBytes) (layout : Layout) (old new : Reader R) (records bad : ℕ) : Type 0 where
   pub rows : List Entries
-  pub taken : HasTaken rem layout old new (counts_of 0 0) (counts_of records bad) rows
-  pub plain : IsPlain new
+  pub read_so_far : HasReadRows rem layout old new (counts_of 0 0) (counts_of records bad) rows
+  pub plain : IsPlainReader new
   pub few : records ≤ max_records
   pub fewer : bad ≤ records
 
-pub counted_none : {R : Type 0} (rem : R → Option (List ℕ)) (layout : Layout) (input : Reader R) → IsPlain input → AreCounted rem layout input input 0 0
+pub counted_none : {R : Type 0} (rem : R → KnownBytes) (layout : Layout) (input : Reader R) → IsPlainReader input → AreCounted rem layout input input 0 0
 counted_none rem layout input plain = record {
   rows = [];
-  taken = taken_none rem layout input (counts_of 0 0);
+  read_so_far = taken_none rem layout input (counts_of 0 0);
   plain = plain;
   few = omega arith;
   fewer = omega arith;
 }
 
-module _ {R : Type 0} (rem : R → Option (List ℕ)) (layout : Layout) (old b : Reader R) (records bad : ℕ)
+module _ {R : Type 0} (rem : R → KnownBytes) (layout : Layout) (old b : Reader R) (records bad : ℕ)
     (are : AreCounted rem layout old b records bad) where
   abbrev now : Counts
   now = counts_of records bad
 
   here : AreTaken rem layout b b now now
   here = record {
-    taken = taken_none rem layout b now;
+    read_so_far = taken_none rem layout b now;
     plain = are.plain;
     counts = record { few = are.few; bad = are.fewer };
   }
 
-  pub counted_good : (c : Reader R) (fields : List Field) → ReadRecord rem b c true fields → IsPlain c → records < max_records
+  pub counted_good : (c : Reader R) (fields : List Field) → ReadRecord rem b c true fields → IsPlainReader c → records < max_records
       → true ≡ is_some (good_row layout.schema layout.header fields) → AreCounted rem layout old c (records + 1) bad
   counted_good c fields next plain few good = by (good_row layout.schema layout.header fields) refl good
     where
@@ -49,14 +50,14 @@ module _ {R : Type 0} (rem : R → Option (List ℕ)) (layout : Layout) (old b :
       by None is good = cc (good)
       by (Some row) is good = record {
         rows = are.rows ++ row ∷ [];
-        taken = taken_both rem layout old b c (counts_of 0 0) now (counts_of (records + 1) bad) are.rows (row ∷ []) are.taken
+        read_so_far = taken_both rem layout old b c (counts_of 0 0) now (counts_of (records + 1) bad) are.rows (row ∷ []) are.read_so_far
             (taken_good rem layout b b now now here c fields row next (sym is));
         plain = plain;
         few = omega (arith, few);
         fewer = omega (arith, are.fewer);
       }
 
-  pub counted_bad : (c : Reader R) (fields : List Field) → ReadRecord rem b c true fields → IsPlain c → records < max_records
+  pub counted_bad : (c : Reader R) (fields : List Field) → ReadRecord rem b c true fields → IsPlainReader c → records < max_records
       → false ≡ is_some (good_row layout.schema layout.header fields) → AreCounted rem layout old c (records + 1) (bad + 1)
   counted_bad c fields next plain few good = by (good_row layout.schema layout.header fields) refl good
     where
@@ -66,7 +67,7 @@ module _ {R : Type 0} (rem : R → Option (List ℕ)) (layout : Layout) (old b :
           let one = taken_bad rem layout b b now now here c fields next plain few (sym is) in
           record {
             rows = are.rows ++ [];
-            taken = taken_both rem layout old b c (counts_of 0 0) now (counts_of (records + 1) (bad + 1)) are.rows [] are.taken one.taken;
+            read_so_far = taken_both rem layout old b c (counts_of 0 0) now (counts_of (records + 1) (bad + 1)) are.rows [] are.read_so_far one.read_so_far;
             plain = plain;
             few = omega (arith, few);
             fewer = omega (arith, are.fewer);
@@ -77,32 +78,32 @@ module _ {R : Type 0} (rem : R → Option (List ℕ)) (layout : Layout) (old b :
   counted_all c fields counts many others none = record {
     at = b;
     rows = are.rows;
-    taken = subst (λ (cs : Counts). HasTaken rem layout old b (counts_of 0 0) cs are.rows) (ap₂ (λ m n. counts_of m n) (sym many) (sym others)) are.taken;
+    read_so_far = subst (λ (cs : Counts). HasReadRows rem layout old b (counts_of 0 0) cs are.rows) (ap₂ (λ m n. counts_of m n) (sym many) (sym others)) are.read_so_far;
     over = is_over rem old b c fields are.plain.config none;
   }
 
   -- the most records were read, and there is one more
-  pub counted_long : (c : Reader R) (fields : List Field) → max_records ≤ records → ReadRecord rem b c true fields → HasTooMany rem old
+  pub counted_long : (c : Reader R) (fields : List Field) → max_records ≤ records → ReadRecord rem b c true fields → HasTooManyRecords rem old
   counted_long c fields most next = record {
     at = b;
-    records = are.taken.records;
-    read = are.taken.read;
-    many = omega (arith, are.taken.taken, are.few, most);
+    records = are.read_so_far.records;
+    read = are.read_so_far.read;
+    many = omega (arith, are.read_so_far.read_so_far, are.few, most);
     more = has_more rem old b c fields are.plain.config next;
   }
 
 -- a file whose header was read, and then its records
-pub counted_text : {R : Type 0} (rem : R → Option (List ℕ)) (schema : Declared) (header : List Field) (a b : Reader R) (counts : FileCounts) (known : Option (List ℕ))
-    → is_header schema header ≡ true → source_of rem a ≡ option_map strip_bom known → IfSome (source_of rem a) (StandsAfter rem (layout_of schema header) b)
-    → HasCounted rem (layout_of schema header) b counts → IfSome known (IsCounted schema counts)
+pub counted_text : {R : Type 0} (rem : R → KnownBytes) (schema : Declared) (header : List Field) (a b : Reader R) (counts : FileCounts) (known : KnownBytes)
+    → is_header schema header ≡ true → source_of rem a ≡ option_map strip_bom known → IfSome (source_of rem a) (IsAfterHeader rem (layout_of schema header) b)
+    → HasCounted rem (layout_of schema header) b counts → IfSome known (IsCountedFile schema counts)
 counted_text rem schema header a b counts known named is stands counted =
-    by known (of_text (λ text. StandsAfter rem (layout_of schema header) b text) known (source_of rem a) is stands)
+    by known (of_text (λ text. IsAfterHeader rem (layout_of schema header) b text) known (source_of rem a) is stands)
   where
-    by : (o : Option (List ℕ)) → IfSome o (λ bytes. StandsAfter rem (layout_of schema header) b (strip_bom bytes)) → IfSome o (IsCounted schema counts)
+    by : (o : KnownBytes) → IfSome o (λ bytes. IsAfterHeader rem (layout_of schema header) b (strip_bom bytes)) → IfSome o (IsCountedFile schema counts)
     by None after = tt
     by (Some bytes) after = record {
       header = header;
       rows = counted.rows;
       named = named;
-      whole = is_whole rem (layout_of schema header) b counted.at (strip_bom bytes) (counts_of 0 0) (counts_of counts.records counts.bad) counted.rows after counted.taken counted.over;
+      whole = is_whole rem (layout_of schema header) b counted.at (strip_bom bytes) (counts_of 0 0) (counts_of counts.records counts.bad) counted.rows after counted.read_so_far counted.over;
     }

@@ -1,14 +1,15 @@
 -- Row files that are checked one after another.
-use Rattle.std.proofs.Common.{◌≡◌, ℕ, suc, List, [], ◌∷◌, ◌++◌, length, Option, refl, ap, sym, ◌∙◌, subst}
+use Rattle.std.proofs.Common.{◌≡◌, ℕ, suc, List, [], ◌∷◌, ◌++◌, length, refl, ap, sym, ◌∙◌, subst}
 use Rattle.std.specs.List.{list_all}
 use Rattle.std.proofs.lemmas.List.{append-nil, append_assoc}
 use Rattle.bsi_schema.specs.Columns.{Declared}
 use Rattle.bsi_check.specs.Checks.{is_clean}
-use Rattle.bsi_check.specs.Reasons.{TellsUnless}
-use Rattle.bsi_check.specs.Reports.{AreAdded, IsFileFound}
-use Rattle.bsi_check.specs.declared.found.FileFound.{FileFound}
+use Rattle.bsi_check.specs.Reasons.{AddsReasonsUnless}
+use Rattle.bsi_check.specs.Reports.{AreAdded, IsFileChecked}
+use Rattle.bsi_check.specs.declared.finding.FileFinding.{FileFinding}
 use Rattle.bsi_check.specs.declared.named.NamedFile.{NamedFile}
-use Rattle.bsi_check.proofs.Telling.{file_told, tells_both}
+use Rattle.bsi_check.proofs.Telling.{file_reported, tells_both}
+use Rattle.bsi_syntax.specs.Bytes.{KnownBytes}
 
 added_push : {A B : Type 0} (Adds : A → B → List ℕ → List ℕ → Type 0) (xs : List A) (ys : List B) (x : A) (y : B) (a b c : List ℕ)
     → AreAdded Adds xs ys a b → Adds x y b c → AreAdded Adds (xs ++ x ∷ []) (ys ++ y ∷ []) a c
@@ -44,11 +45,11 @@ added_long Adds [] (y ∷ ys) a b are = absurd are
 added_long Adds (x ∷ xs) [] a b are = absurd are
 added_long Adds (x ∷ xs) (y ∷ ys) a b are = ap (λ n. suc n) (added_long Adds xs ys are.0 b are.2)
 
--- reasons are told just where a row file is not good
-pub files_told : {S : Type 0} (rem : S → Option (List ℕ)) (schema : Declared) (rows : List (NamedFile S)) (files : List FileFound) (a b : List ℕ)
-    → AreAdded (IsFileFound rem schema) rows files a b → TellsUnless (list_all is_clean files) a b
-files_told rem schema [] [] a b are = are
-files_told rem schema [] (file ∷ files) a b are = absurd are
-files_told rem schema (named ∷ rows) [] a b are = absurd are
-files_told rem schema (named ∷ rows) (file ∷ files) a b are =
-    tells_both (is_clean file) (list_all is_clean files) a are.0 b (file_told named.path.now file a are.0 are.1.1) (files_told rem schema rows files are.0 b are.2)
+-- reasons are written just where a row file is not good
+pub files_reported : {S : Type 0} (rem : S → KnownBytes) (schema : Declared) (rows : List (NamedFile S)) (files : List FileFinding) (a b : List ℕ)
+    → AreAdded (IsFileChecked rem schema) rows files a b → AddsReasonsUnless (list_all is_clean files) a b
+files_reported rem schema [] [] a b are = are
+files_reported rem schema [] (file ∷ files) a b are = absurd are
+files_reported rem schema (named ∷ rows) [] a b are = absurd are
+files_reported rem schema (named ∷ rows) (file ∷ files) a b are =
+    tells_both (is_clean file) (list_all is_clean files) a are.0 b (file_reported named.path.now file a are.0 are.1.1) (files_reported rem schema rows files are.0 b are.2)

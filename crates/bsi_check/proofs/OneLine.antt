@@ -17,7 +17,7 @@ digits_stay (d ∷ ds) all =
     let range = digit_from_value d all.0 in
     ap₂ (λ x xs. x ∷ xs) (ap (λ ends. if ends then 32 else d) (no_end d (omega arith))) (digits_stay ds all.1)
 
--- how many more there are is told on one line
+-- how many more there are is written on one line
 pub more_stays : (more : ℕ) → more < 2 ^ 64 → one_line (more_why more) ≡ more_why more
 more_stays more fits =
     let line : ℕ → ℕ = λ byte. if is_line_end byte then 32 else byte in

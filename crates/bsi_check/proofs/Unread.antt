@@ -1,21 +1,22 @@
 -- Row files that were not read to their end.
-use Rattle.std.proofs.Common.{◌≡◌, ℕ, true, List, [], ◌∷◌, Option, Some, None, IsSome, IfSome, Result, Ok, Err, option_map, subst}
+use Rattle.std.proofs.Common.{◌≡◌, true, List, [], ◌∷◌, Some, None, IsSome, IfSome, Result, Ok, Err, option_map, subst}
 use Rattle.std.specs.Prelude.{IfErr, IsErrAnd}
 use Rattle.csv.specs.Machine.{next_record}
 use Rattle.csv.specs.Reading.{ReadRecord, default_config, reader_config, reader_state, source_of, strip_bom}
 use Rattle.csv.specs.declared.parser.State.TheVariants as st
 use Rattle.csv.specs.declared.reader.Reader.{Reader}
-use Rattle.bsi_records.specs.Numbers.{Field}
+use Rattle.bsi_syntax.specs.Bytes.{KnownBytes}
+use Rattle.bsi_syntax.specs.Numbers.{Field}
 use Rattle.bsi_schema.specs.Columns.{Declared}
-use Rattle.bsi_reading.specs.RowFiles.{is_header}
-use Rattle.bsi_reading.proofs.FirstRecords.{first_join, first_more, first_none}
-use Rattle.bsi_reading.proofs.Taking.{one_read}
-use Rattle.bsi_check.specs.Checks.{HasTooMany, IsTooLongFile}
+use Rattle.bsi_input.specs.RowFiles.{is_header}
+use Rattle.bsi_input.proofs.FirstRecords.{first_join, first_more, first_none}
+use Rattle.bsi_input.proofs.Taking.{one_read}
+use Rattle.bsi_check.specs.Checks.{HasTooManyRecords, IsTooLongRowFile}
 
 -- a header was read, and then too many records
-pub long_file : {R : Type 0} (rem : R → Option (List ℕ)) (schema : Declared) (header : List Field) (a b : Reader R) (known : Option (List ℕ))
+pub long_file : {R : Type 0} (rem : R → KnownBytes) (schema : Declared) (header : List Field) (a b : Reader R) (known : KnownBytes)
     → is_header schema header ≡ true → reader_config a ≡ default_config → reader_state a ≡ st.StartRecord → source_of rem a ≡ option_map strip_bom known
-    → ReadRecord rem a b true header → HasTooMany rem b → IfSome known (IsTooLongFile schema)
+    → ReadRecord rem a b true header → HasTooManyRecords rem b → IfSome known (IsTooLongRowFile schema)
 long_file rem schema header a b None named plain start left next many = tt
 long_file rem schema header a b (Some text) named plain start left next many =
     let one = first_more rem text a b [] header (first_none text (reader_state a) (source_of rem a) start left) (one_read rem a b header plain next) in

@@ -2,98 +2,119 @@
 use Rattle.std.specs.Io.KnownBytes.{Appends}
 use Rattle.std.specs.Prelude.{◌≡◌, ◌⊎◌, ℕ, suc, ◌-◌, ◌<◌, Bool, ◌&&◌, nat_eq, nat_le, List, [], ◌∷◌, ◌++◌, length, map, sum, Option, None, Some, IfSome, codes}
 use Rattle.std.specs.List.{list_all}
-use Rattle.bsi_records.specs.Lines.{fed_line}
-use Rattle.bsi_records.specs.declared.setups.DeclaredTable.{DeclaredTable}
-use Rattle.bsi_reading.specs.SchemaTexts.{IsSchemaText}
-use Rattle.bsi_reading.specs.Waiting.{IsCut}
+use Rattle.bsi_syntax.specs.Bytes.{KnownBytes}
+use Rattle.bsi_syntax.specs.Lines.{fed_line}
+use Rattle.bsi_syntax.specs.declared.setups.DeclaredTable.{DeclaredTable}
+use Rattle.bsi_input.specs.SchemaTexts.{IsSchemaText}
+use Rattle.bsi_input.specs.Waiting.{AppendsPrefix}
 use Rattle.bsi_rows.specs.Table.{max_feeders}
 use Rattle.bsi_schema.specs.Columns.{Declared}
-use Rattle.bsi_check.specs.Checks.{has_good_asks, is_clean, IsAsksFound, IsFound}
-use Rattle.bsi_check.specs.Reasons.{HasTold, IsSchemaFound, TellsAsks, TellsFile, TellsOneUnless, TellsUnless}
+use Rattle.bsi_check.specs.Checks.{has_good_asks, is_clean, IsAsksFinding, IsFileFinding}
+use Rattle.bsi_check.specs.Reasons.{AddsAsksReasons, AddsFileReasons, AddsOneReasonUnless, AddsReasons, AddsReasonsUnless, IsSchemaChecked}
 use Rattle.bsi_check.specs.declared.named.NamedFile.{NamedFile}
-use Rattle.bsi_check.specs.declared.found.AsksFound.{AsksFound}
-use Rattle.bsi_check.specs.declared.found.AsksFound.TheVariants as asks
-use Rattle.bsi_check.specs.declared.found.FileFound.{FileFound}
-use Rattle.bsi_check.specs.declared.found.FileFound.TheVariants.{Counted}
+use Rattle.bsi_check.specs.declared.finding.AsksFinding.{AsksFinding}
+use Rattle.bsi_check.specs.declared.finding.AsksFinding.TheVariants as asks
+use Rattle.bsi_check.specs.declared.finding.FileFinding.{FileFinding}
+use Rattle.bsi_check.specs.declared.finding.FileFinding.TheVariants.{Counted}
 
--- of each two at the same place this is so, and adds this to a text, one after the other
+-- `Adds` relates each pair at the same index. Each pair appends to a text, one after the other.
 abbrev pub AreAdded : {A B : Type 0} → (A → B → List ℕ → List ℕ → Type 0) → List A → List B → List ℕ → List ℕ → Type 0
 AreAdded Adds [] [] before after = after ≡ before
 AreAdded Adds (x ∷ xs) (y ∷ ys) before after =
     (middle : List ℕ) × Adds x y before middle × AreAdded Adds xs ys middle after
 AreAdded Adds xs ys before after = ⊥
 
--- the good records of a row file
-abbrev pub good_rows : FileFound → ℕ
-good_rows (Counted counts) = counts.records - counts.bad
-good_rows file = 0
+-- The number of good records of a row file.
+abbrev pub good_count : FileFinding → ℕ
+good_count (Counted counts) = counts.records - counts.bad
+good_count file = 0
 
--- the line of a row file of this number that was read to its end, as a run writes it, and nothing for another one
-abbrev pub line_of : ℕ → FileFound → List ℕ
+-- The line `fed` of row file n, as a run writes it, or nothing if the file was not read to its end.
+abbrev pub line_of : ℕ → FileFinding → List ℕ
 line_of n (Counted counts) = fed_line n (counts.records - counts.bad) counts.bad
 line_of n file = []
 
--- the lines of files, of which the first has this number
-abbrev pub fed_text : ℕ → List FileFound → List ℕ
+-- The lines `fed` of files, of which the first has number n.
+abbrev pub fed_text : ℕ → List FileFinding → List ℕ
 fed_text n [] = []
 fed_text n (file ∷ files) = line_of n file ++ fed_text (suc n) files
 
--- each row file is read to its end, and all its records are good; these are within the limit; and each ask is a query
-abbrev pub are_good : ℕ → List FileFound → AsksFound → Bool
-are_good limit files asks = list_all is_clean files && (nat_le (sum (map good_rows files)) limit && has_good_asks asks)
+-- All row files and asks are good: read to their end, without bad records, and with no more rows than the limit.
+abbrev pub are_good : ℕ → List FileFinding → AsksFinding → Bool
+are_good limit files asks = list_all is_clean files && (nat_le (sum (map good_count files)) limit && has_good_asks asks)
 
--- files to be checked are open under their paths; of each the bytes may be known
-module _ {S : Type 0} (rem : S → Option (List ℕ)) where
-  -- this is found of a row file, and told
-  abbrev pub IsFileFound : Declared → NamedFile S → FileFound → List ℕ → List ℕ → Type 0
-  IsFileFound schema file found before after =
-      IfSome (rem file.reader) (IsFound schema found) × TellsFile file.path.now found before after
+-- Files to be checked are open under their paths. `rem` gives the bytes of each, if they are known.
+module _ {S : Type 0} (rem : S → KnownBytes) where
+  -- A row file has this finding, and its reasons were appended.
+  abbrev pub IsFileChecked : Declared → NamedFile S → FileFinding → List ℕ → List ℕ → Type 0
+  IsFileChecked schema file finding before after =
+      IfSome (rem file.reader) (IsFileFinding schema finding) × AddsFileReasons file.path.now finding before after
 
-  -- this is found of the asks, and told; where none are given, none is bad
-  abbrev pub AreAsksFound : Declared → Option (NamedFile S) → AsksFound → List ℕ → List ℕ → Type 0
-  AreAsksFound schema None found before after = (found ≡ asks.Counted 0) × (after ≡ before)
-  AreAsksFound schema (Some file) found before after =
-      IfSome (rem file.reader) (IsAsksFound schema found) × TellsAsks file.path.now found before after
+  -- The asks have this finding, and their reasons were appended. Without asks, none is bad.
+  abbrev pub AreAsksChecked : Declared → Option (NamedFile S) → AsksFinding → List ℕ → List ℕ → Type 0
+  AreAsksChecked schema None finding before after = (finding ≡ asks.Counted 0) × (after ≡ before)
+  AreAsksChecked schema (Some file) finding before after =
+      IfSome (rem file.reader) (IsAsksFinding schema finding) × AddsAsksReasons file.path.now finding before after
 
-  -- the schema is one; the reasons are those of the row files, of the limit and of the asks, and there are some just
-  -- where a file is not good; then come the lines of the row files
+  -- A check of files whose schema can be read.
   pub record IsJudged (schema : NamedFile S) (rows : List (NamedFile S)) (asked : Option (NamedFile S))
       (reasons fed : List ℕ) : Type 0 where
+    -- The schema and the limit that the schema file declares.
     pub table : DeclaredTable
-    pub files : List FileFound
-    pub asks : AsksFound
+    -- The finding on each row file.
+    pub files : List FileFinding
+    -- The finding on the asks.
+    pub asks : AsksFinding
+    -- The reasons of the row files.
     pub of_files : List ℕ
+    -- The reasons of the row files and of the limit.
     pub of_limit : List ℕ
+    -- The text of the schema file, if known, declares the schema and the limit.
     pub schema_is : IfSome (rem schema.reader) (λ text. IsSchemaText text table.schema table.limit)
-    pub files_are : AreAdded (IsFileFound table.schema) rows files [] of_files
-    pub limit_is : TellsOneUnless (nat_le (sum (map good_rows files)) table.limit) schema.path.now of_files of_limit
-    pub asks_are : AreAsksFound table.schema asked asks of_limit reasons
-    pub told : TellsUnless (are_good table.limit files asks) [] reasons
+    -- Each row file has its finding, and the reasons of the row files are appended in order.
+    pub files_are : AreAdded (IsFileChecked table.schema) rows files [] of_files
+    -- Good rows beyond the limit are a reason of the schema file.
+    pub limit_is : AddsOneReasonUnless (nat_le (sum (map good_count files)) table.limit) schema.path.now of_files of_limit
+    -- The asks have the finding, and the reasons of the asks come last.
+    pub asks_are : AreAsksChecked table.schema asked asks of_limit reasons
+    -- There are reasons exactly if a file is not good or the good rows exceed the limit.
+    pub reported : AddsReasonsUnless (are_good table.limit files asks) [] reasons
+    -- The lines `fed` are those of the row files.
     pub fed_is : fed ≡ fed_text 0 files
 
-  -- the row files are too many, or the schema is none; this is the only reason, and there is no line
+  -- A check that stops early: there are too many row files, or the schema file declares no schema.
+  -- That is the only reason, and there are no lines `fed`.
   pub record IsRefused (schema : NamedFile S) (rows : List (NamedFile S)) (reasons fed : List ℕ) : Type 0 where
-    pub why : ((max_feeders < length rows) × HasTold (codes "bsi") (codes " more than 64 files" ∷ []) [] reasons)
-        ⊎ IsSchemaFound schema.path.now (rem schema.reader) None [] reasons
+    pub why : ((max_feeders < length rows) × AddsReasons (codes "bsi") (codes " more than 64 files" ∷ []) [] reasons)
+        ⊎ IsSchemaChecked schema.path.now (rem schema.reader) None [] reasons
     pub none : fed ≡ []
 
-  -- a check of these files has these reasons and lines
+  -- The report of a check: its reasons, and the lines `fed`.
   abbrev pub IsReport : NamedFile S → List (NamedFile S) → Option (NamedFile S) → List ℕ → List ℕ → Type 0
   IsReport schema rows asked reasons fed = IsRefused schema rows reasons fed ⊎ IsJudged schema rows asked reasons fed
 
-  -- a check of these files was written behind what a writer held, and says whether there was no reason
+  -- The report of a check was written.
   pub record HasReported (schema : NamedFile S) (rows : List (NamedFile S)) (asked : Option (NamedFile S))
-      (before after : Option (List ℕ)) (good : Bool) : Type 0 where
+      (before after : KnownBytes) (good : Bool) : Type 0 where
+    -- The text of the reasons.
     pub reasons : List ℕ
+    -- The text of the lines `fed`.
     pub fed : List ℕ
+    -- The reasons and the lines `fed` are those of a check of the files.
     pub report : IsReport schema rows asked reasons fed
+    -- The result says whether there was no reason.
     pub good_is : good ≡ nat_eq (length reasons) 0
+    -- The reasons, and after them the lines `fed`, were appended to the output.
     pub written : Appends before after (reasons ++ fed)
 
-  -- a first part of a check of these files was written behind what a writer held
+  -- The report of a check was written in part.
   pub record HasBegunReport (schema : NamedFile S) (rows : List (NamedFile S)) (asked : Option (NamedFile S))
-      (before after : Option (List ℕ)) : Type 0 where
+      (before after : KnownBytes) : Type 0 where
+    -- The text of the reasons.
     pub reasons : List ℕ
+    -- The text of the lines `fed`.
     pub fed : List ℕ
+    -- The reasons and the lines `fed` are those of a check of the files.
     pub report : IsReport schema rows asked reasons fed
-    pub cut : IsCut before after (reasons ++ fed)
+    -- A prefix of the reasons and the lines `fed` was appended to the output.
+    pub cut : AppendsPrefix before after (reasons ++ fed)

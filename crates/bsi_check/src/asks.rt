@@ -1,22 +1,22 @@
-//! The check of the asks: which of them are no queries, and where each of these ends.
+//! Checks a file of queries (`check_asks`): counts the records that are none, and adds the reasons of the first 100.
 
 ghost use Rattle.std.specs.Prelude.{◌≡◌, ◌≢◌, IfErr, IfOk, IfSome, OnOk};
 ghost use Rattle.csv.specs.Reading.{reader_state, source_of};
 ghost use Rattle.csv.specs.Records.{fields_of};
 ghost use Rattle.csv.specs.declared.parser.State.TheVariants as st;
-ghost use Rattle.bsi_reading.specs.Sources.{IsPlain};
-ghost use Rattle.bsi_reading.specs.Texts.{FromText};
-ghost use Rattle.bsi_check.specs.Checks.{AreCountedAsks, AreTooManyAsks, IsAskVerdict, IsAsksFound};
-ghost use Rattle.bsi_check.specs.Reasons.{HasToldOne, HasToldSome, TellsAsks, TellsBad, TellsFirst};
+ghost use Rattle.bsi_input.specs.Sources.{IsPlainReader};
+ghost use Rattle.bsi_input.specs.Texts.{ForText};
+ghost use Rattle.bsi_check.specs.Checks.{AreCountedAsks, AreTooManyAsks, IsAskVerdict, IsAsksFinding};
+ghost use Rattle.bsi_check.specs.Reasons.{AddsAsksReasons, AddsBadRecordReasons, AddsFirstReasons, AddsOneReason, AddsSomeReasons};
 
 use crate::NoMemory;
-use crate::found::AsksFound;
-use crate::lines::{Lines, MAX_TOLD, tell_at, tell_more};
-use crate::rows::tell_unread;
-use bsi_reading::{MAX_RECORDS, SourceFault, plain_reader, read_next};
-use bsi_reasons::why_no_query;
-use bsi_records::read_query;
+use crate::diagnostics::why_no_query;
+use crate::finding::AsksFinding;
+use crate::lines::{Lines, MAX_REASONS, add_more_bad, add_reason_at};
+use crate::rows::add_unread;
+use bsi_input::{MAX_RECORDS, SourceFault, plain_reader, read_next};
 use bsi_schema::Schema;
+use bsi_syntax::read_query;
 use csv::{ByteRecord, Reader};
 use std::alloc::Global;
 use std::io::Read;
@@ -29,18 +29,18 @@ pub(crate) fn check_asks<A: Read + Drop>(
     path: &str,
     asks: A,
     reasons: &mut Vec<u8>,
-) -> Result<AsksFound, NoMemory>
-    ensures found { IfOk result (λ found.
-        IfSome (A.remaining asks) (IsAsksFound schema.now found)) }
-    ensures told { IfOk result (λ found.
-        TellsAsks path.now found reasons.old.items reasons.new.items) }
+) -> Result<AsksFinding, NoMemory>
+    ensures finding { IfOk result (λ finding.
+        IfSome (A.remaining asks) (IsAsksFinding schema.now finding)) }
+    ensures reported { IfOk result (λ finding.
+        AddsAsksReasons path.now finding reasons.old.items reasons.new.items) }
 {
     let mut input = plain_reader(alloc, asks);
     match check_each_ask(alloc, schema, path, &mut input, reasons) {
-        Ok(bad) => Ok(AsksFound::Counted(bad)),
+        Ok(bad) => Ok(AsksFinding::Counted(bad)),
         Err(fault) => {
-            tell_unread(alloc, path, fault, reasons)?;
-            Ok(AsksFound::Unread(fault))
+            add_unread(alloc, path, fault, reasons)?;
+            Ok(AsksFinding::Unread(fault))
         }
     }
 }
@@ -54,21 +54,21 @@ fn check_each_ask<A: Read + Drop>(
     input: &mut Reader<A>,
     reasons: &mut Vec<u8>,
 ) -> Result<u64, SourceFault>
-    requires plain { IsPlain input.old }
+    requires plain { IsPlainReader input.old }
     requires start { reader_state input.old ≡ st.StartRecord }
-    ensures counted { IfOk result (λ bad. FromText (source_of A.remaining input.old)
+    ensures counted { IfOk result (λ bad. ForText (source_of A.remaining input.old)
         (AreCountedAsks schema.now bad)) }
-    ensures told { IfOk result (λ bad.
-        TellsBad path.now bad reasons.old.items reasons.new.items) }
-    ensures kept { IfErr result (λ fault. fault ≢ SourceFault.NoMemory →
-        HasToldSome path.now reasons.old.items reasons.new.items) }
+    ensures reported { IfOk result (λ bad.
+        AddsBadRecordReasons path.now bad reasons.old.items reasons.new.items) }
+    ensures some_reasons { IfErr result (λ fault. fault ≢ SourceFault.NoMemory →
+        AddsSomeReasons path.now reasons.old.items reasons.new.items) }
     ensures later { IfErr result (λ fault. fault ≢ SourceFault.BadHeader) }
     ensures too_long { IfErr result (λ fault. fault ≡ SourceFault.TooLong →
-        FromText (source_of A.remaining input.old) AreTooManyAsks) }
+        ForText (source_of A.remaining input.old) AreTooManyAsks) }
 {
     let bad = count_asks(alloc, schema, path, input, reasons)?;
-    if bad > MAX_TOLD {
-        tell_more(alloc, reasons, path, bad)?;
+    if bad > MAX_REASONS {
+        add_more_bad(alloc, reasons, path, bad)?;
     }
     Ok(bad)
 }
@@ -82,17 +82,17 @@ fn count_asks<A: Read + Drop>(
     input: &mut Reader<A>,
     reasons: &mut Vec<u8>,
 ) -> Result<u64, SourceFault>
-    requires plain { IsPlain input.old }
+    requires plain { IsPlainReader input.old }
     requires start { reader_state input.old ≡ st.StartRecord }
-    ensures counted { IfOk result (λ bad. FromText (source_of A.remaining input.old)
+    ensures counted { IfOk result (λ bad. ForText (source_of A.remaining input.old)
         (AreCountedAsks schema.now bad)) }
-    ensures told { IfOk result (λ bad.
-        TellsFirst path.now bad reasons.old.items reasons.new.items) }
-    ensures kept { IfErr result (λ fault. fault ≢ SourceFault.NoMemory →
-        HasToldSome path.now reasons.old.items reasons.new.items) }
+    ensures reported { IfOk result (λ bad.
+        AddsFirstReasons path.now bad reasons.old.items reasons.new.items) }
+    ensures some_reasons { IfErr result (λ fault. fault ≢ SourceFault.NoMemory →
+        AddsSomeReasons path.now reasons.old.items reasons.new.items) }
     ensures later { IfErr result (λ fault. fault ≢ SourceFault.BadHeader) }
     ensures too_long { IfErr result (λ fault. fault ≡ SourceFault.TooLong →
-        FromText (source_of A.remaining input.old) AreTooManyAsks) }
+        ForText (source_of A.remaining input.old) AreTooManyAsks) }
 {
     let (mut records, mut bad) = (0u64, 0u64);
     let mut fields = ByteRecord::new(alloc);
@@ -101,16 +101,16 @@ fn count_asks<A: Read + Drop>(
         if !read_next(input, &mut fields)? {
             return Ok(bad);
         }
-        lines.take(&fields, input.position());
+        lines.advance(&fields, input.position());
         let asks = is_query(alloc, schema, &fields)?;
         records += 1;
         if asks {
             continue;
         }
         bad += 1;
-        if bad <= MAX_TOLD {
+        if bad <= MAX_REASONS {
             let line = lines.line_of(&fields, input.position());
-            tell_no_query(alloc, schema, path, line, &fields, reasons)?;
+            add_no_query(alloc, schema, path, line, &fields, reasons)?;
         }
     }
     if read_next(input, &mut fields)? {
@@ -120,7 +120,7 @@ fn count_asks<A: Read + Drop>(
 }
 
 /// Adds the reason why a record is no query.
-fn tell_no_query(
+fn add_no_query(
     alloc: Global,
     schema: &Schema,
     path: &str,
@@ -128,10 +128,10 @@ fn tell_no_query(
     fields: &ByteRecord,
     reasons: &mut Vec<u8>,
 ) -> Result<(), NoMemory>
-    ensures { OnOk result (HasToldOne path.now reasons.old.items reasons.new.items) }
+    ensures { OnOk result (AddsOneReason path.now reasons.old.items reasons.new.items) }
 {
     let why = why_no_query(alloc, schema, fields, line)?;
-    tell_at(alloc, reasons, path, line, why.as_str())
+    add_reason_at(alloc, reasons, path, line, why.as_str())
 }
 
 /// Returns whether a record is a query.

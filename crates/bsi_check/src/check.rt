@@ -1,22 +1,22 @@
-//! The check of all files of a run.
+//! Checks all files of a run, and writes what the run would not accept (`check_files`).
 
 ghost use Rattle.std.specs.Prelude.{◌≡◌, ◌≤◌, ◌++◌, Err, length, map, nat_le, sum, IfOk, OnOk};
 ghost use Rattle.bsi_rows.specs.Table.{max_feeders};
-ghost use Rattle.bsi_check.specs.Reasons.{TellsOneUnless};
-ghost use Rattle.bsi_check.specs.Reports.{fed_text, good_rows, line_of, AreAdded, AreAsksFound, HasBegunReport, HasReported, IsFileFound, IsReport};
+ghost use Rattle.bsi_check.specs.Reasons.{AddsOneReasonUnless};
+ghost use Rattle.bsi_check.specs.Reports.{fed_text, good_count, line_of, AreAdded, AreAsksChecked, HasBegunReport, HasReported, IsFileChecked, IsReport};
 
 use crate::NoMemory;
 use crate::asks::check_asks;
 use crate::fault::CheckFault;
-use crate::found::{AsksFound, FileFound};
-use crate::lines::tell;
+use crate::finding::{AsksFinding, FileFinding};
+use crate::lines::add_reason;
 use crate::named::NamedFile;
 use crate::rows::check_rows;
 use crate::schema::check_schema;
-use bsi_reading::write_bytes;
-use bsi_records::write_fed;
+use bsi_input::write_bytes;
 use bsi_rows::MAX_FEEDERS;
 use bsi_schema::Schema;
+use bsi_syntax::write_fed;
 use std::alloc::Global;
 use std::io::{Read, Write};
 
@@ -29,7 +29,7 @@ struct Report {
     fed: Vec<u8>,
 }
 
-/// Reads the files of a run as the run does, and writes a line for each thing that it would not take, at most 100 for
+/// Reads the files of a run as the run does, and writes a line for each thing that it would not accept, at most 100 for
 /// a file, and then how many more there are; behind these the line `fed` of each row file that was read to its end. It
 /// returns whether there was no reason. Each file is read to its end, whatever is found, but row files are not read
 /// where the schema declares no schema, or where they are more than 64. It keeps the text of the schema, and the lines.
@@ -42,10 +42,10 @@ pub fn check_files<'a, S: Read + Drop, W: Write>(
 ) -> Result<bool, CheckFault>
     ensures reported { IfOk result (HasReported S.remaining schema.entry rows.entry.items asks.entry
         (W.contents output.old) (W.contents output.new)) }
-    ensures part { result ≡ Err CheckFault.Write →
+    ensures prefix { result ≡ Err CheckFault.Write →
         HasBegunReport S.remaining schema.entry rows.entry.items asks.entry
         (W.contents output.old) (W.contents output.new) }
-    ensures quiet { result ≡ Err CheckFault.NoMemory →
+    ensures output_unchanged { result ≡ Err CheckFault.NoMemory →
         W.contents output.new ≡ W.contents output.old }
 {
     let report = report_on(alloc, schema, asks, rows)?;
@@ -67,7 +67,7 @@ fn report_on<'a, S: Read + Drop>(
     let mut reasons = Vec::new(alloc);
     let mut fed = Vec::new(alloc);
     if rows.len() > MAX_FEEDERS as usize {
-        tell(alloc, &mut reasons, "bsi", "more than 64 files")?;
+        add_reason(alloc, &mut reasons, "bsi", "more than 64 files")?;
         return Ok(Report { reasons, fed });
     }
     let NamedFile { path, reader } = schema;
@@ -87,15 +87,15 @@ fn check_each<'a, S: Read + Drop>(
     schema: &Schema,
     rows: Vec<NamedFile<'a, S>>,
     reasons: &mut Vec<u8>,
-) -> Result<Vec<FileFound>, NoMemory>
-    ensures { IfOk result (λ files. AreAdded (IsFileFound S.remaining schema.now)
+) -> Result<Vec<FileFinding>, NoMemory>
+    ensures { IfOk result (λ files. AreAdded (IsFileChecked S.remaining schema.now)
         rows.entry.items files.items reasons.old.items reasons.new.items) }
 {
     let mut files = Vec::with_capacity(alloc, rows.len())?;
     'files: for named in rows {
         let NamedFile { path, reader } = named;
-        let found = check_rows(alloc, schema, path, reader, reasons)?;
-        files.push(found)?;
+        let finding = check_rows(alloc, schema, path, reader, reasons)?;
+        files.push(finding)?;
     }
     Ok(files)
 }
@@ -105,11 +105,11 @@ fn check_limit(
     alloc: Global,
     path: &str,
     limit: u64,
-    files: &[FileFound],
+    files: &[FileFinding],
     reasons: &mut Vec<u8>,
 ) -> Result<(), NoMemory>
     requires few { length files.now ≤ max_feeders }
-    ensures { OnOk result (TellsOneUnless (nat_le (sum (map good_rows files.now)) limit) path.now
+    ensures { OnOk result (AddsOneReasonUnless (nat_le (sum (map good_count files.now)) limit) path.now
         reasons.old.items reasons.new.items) }
 {
     let good = count_good(files);
@@ -117,17 +117,17 @@ fn check_limit(
         return Ok(());
     }
     let text = format!(in alloc; "there are {good} good rows, and the limit is {limit}")?;
-    tell(alloc, reasons, path, text.as_str())
+    add_reason(alloc, reasons, path, text.as_str())
 }
 
 /// Counts the good records of all files.
-fn count_good(files: &[FileFound]) -> u64
+fn count_good(files: &[FileFinding]) -> u64
     requires few { length files.now ≤ max_feeders }
-    ensures { result ≡ sum (map good_rows files.now) }
+    ensures { result ≡ sum (map good_count files.now) }
 {
     let mut good = 0u64;
     'files: for file in files {
-        good += file.good_rows();
+        good += file.good_count();
     }
     good
 }
@@ -138,18 +138,18 @@ fn check_given<'a, S: Read + Drop>(
     schema: &Schema,
     asks: Option<NamedFile<'a, S>>,
     reasons: &mut Vec<u8>,
-) -> Result<AsksFound, NoMemory>
-    ensures { IfOk result (λ found. AreAsksFound S.remaining schema.now asks.entry found
+) -> Result<AsksFinding, NoMemory>
+    ensures { IfOk result (λ finding. AreAsksChecked S.remaining schema.now asks.entry finding
         reasons.old.items reasons.new.items) }
 {
     match asks {
         Some(NamedFile { path, reader }) => check_asks(alloc, schema, path, reader, reasons),
-        None => Ok(AsksFound::Counted(0)),
+        None => Ok(AsksFinding::Counted(0)),
     }
 }
 
 /// Adds the line of each row file that was read to its end.
-fn write_counts(files: &[FileFound], fed: &mut Vec<u8>) -> Result<(), NoMemory>
+fn write_counts(files: &[FileFinding], fed: &mut Vec<u8>) -> Result<(), NoMemory>
     requires few { length files.now ≤ max_feeders }
     ensures { OnOk result (fed.new.items ≡ fed.old.items ++ fed_text 0 files.now) }
 {
@@ -162,13 +162,13 @@ fn write_counts(files: &[FileFound], fed: &mut Vec<u8>) -> Result<(), NoMemory>
 }
 
 /// Adds the line of a row file that was read to its end, and nothing for another one.
-fn write_count(feeder: u32, file: FileFound, fed: &mut Vec<u8>) -> Result<(), NoMemory>
+fn write_count(feeder: u32, file: FileFinding, fed: &mut Vec<u8>) -> Result<(), NoMemory>
     ensures { OnOk result (fed.new.items ≡ fed.old.items ++ line_of feeder file) }
 {
     match file {
-        FileFound::Counted(counts) => {
+        FileFinding::Counted(counts) => {
             write_fed(feeder, counts.records - counts.bad, counts.bad, fed)
         }
-        FileFound::NoHeader | FileFound::Unread(_) => Ok(()),
+        FileFinding::NoHeader | FileFinding::Unread(_) => Ok(()),
     }
 }

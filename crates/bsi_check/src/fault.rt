@@ -2,9 +2,9 @@
 ghost use Rattle.std.specs.Prelude.{◌≡◌};
 
 use crate::NoMemory;
-use bsi_reading::WriteFault;
+use bsi_input::WriteFault;
 
-/// Why a check ends early. What it wrote before is a first part of what it would have written.
+/// Why a check ends early. What it wrote before is a prefix of what it would have written.
 #[derive(Clone, Copy, Debug, PartialEq, Eq)]
 pub enum CheckFault {
     /// Memory was refused. Then nothing was written.

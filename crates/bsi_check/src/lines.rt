@@ -1,19 +1,19 @@
-//! The lines of reasons.
+//! Writes the reasons of a check, a line each, and finds the line at which a record begins (`Lines`).
 ghost use Rattle.std.specs.Prelude.{◌≡◌, ◌-◌, ◌∷◌, ◌++◌, [], codes, if◌then◌else◌, OnOk};
-ghost use Rattle.bsi_check.specs.Reasons.{is_line_end, max_told, more_why, one_line, reason_line, HasTold, HasToldOne};
+ghost use Rattle.bsi_check.specs.Reasons.{is_line_end, max_reasons, more_why, one_line, reason_line, AddsOneReason, AddsReasons};
 
 use crate::NoMemory;
-use bsi_reasons::{count_line_feeds, count_lone_returns};
+use crate::diagnostics::{count_line_feeds, count_lone_returns};
 use csv::{ByteRecord, Position};
 use std::alloc::Global;
 
-/// The most reasons that are told of one file.
-pub(crate) const MAX_TOLD: u64 = 100;
+/// The most reasons of bad records that are written for one file.
+pub(crate) const MAX_REASONS: u64 = 100;
 
 /// Adds the line of a reason: the path of its file, a colon, and what is wrong, with a space for each line end.
-fn tell_why(reasons: &mut Vec<u8>, path: &str, why: &str) -> Result<(), NoMemory>
+fn add_reason_line(reasons: &mut Vec<u8>, path: &str, why: &str) -> Result<(), NoMemory>
     ensures { OnOk result
-        (HasTold path.now (one_line why.now ∷ []) reasons.old.items reasons.new.items) }
+        (AddsReasons path.now (one_line why.now ∷ []) reasons.old.items reasons.new.items) }
 {
     push_line(reasons, path, why)
 }
@@ -35,13 +35,13 @@ fn push_on_line(line: &mut Vec<u8>, text: &str) -> Result<(), NoMemory>
 {
     let bytes = text.as_bytes();
     'bytes: for byte in bytes {
-        line.push(keep_on_line(*byte))?;
+        line.push(space_for_line_end(*byte))?;
     }
     Ok(())
 }
 
 /// Returns a byte of a line, or a space for a line end.
-fn keep_on_line(byte: u8) -> u8
+fn space_for_line_end(byte: u8) -> u8
     ensures { result ≡ (if is_line_end byte then 32 else byte) }
 {
     match byte {
@@ -51,46 +51,46 @@ fn keep_on_line(byte: u8) -> u8
 }
 
 /// Adds the line of a reason that is about a whole file.
-pub(crate) fn tell(
+pub(crate) fn add_reason(
     alloc: Global,
     reasons: &mut Vec<u8>,
     path: &str,
     text: &str,
 ) -> Result<(), NoMemory>
     ensures { OnOk result
-        (HasTold path.now (one_line (codes " " ++ text.now) ∷ []) reasons.old.items reasons.new.items) }
+        (AddsReasons path.now (one_line (codes " " ++ text.now) ∷ []) reasons.old.items reasons.new.items) }
 {
     let why = format!(in alloc; " {text}")?;
-    tell_why(reasons, path, why.as_str())
+    add_reason_line(reasons, path, why.as_str())
 }
 
 /// Adds the line of a reason that is about a line of a file.
-pub(crate) fn tell_at(
+pub(crate) fn add_reason_at(
     alloc: Global,
     reasons: &mut Vec<u8>,
     path: &str,
     at: u64,
     text: &str,
 ) -> Result<(), NoMemory>
-    ensures { OnOk result (HasToldOne path.now reasons.old.items reasons.new.items) }
+    ensures { OnOk result (AddsOneReason path.now reasons.old.items reasons.new.items) }
 {
     let why = format!(in alloc; "{at}: {text}")?;
-    tell_why(reasons, path, why.as_str())
+    add_reason_line(reasons, path, why.as_str())
 }
 
-/// Adds the line that says how many more bad records there are than are told.
-pub(crate) fn tell_more(
+/// Adds the line that says how many more bad records there are than have a reason.
+pub(crate) fn add_more_bad(
     alloc: Global,
     reasons: &mut Vec<u8>,
     path: &str,
     bad: u64,
 ) -> Result<(), NoMemory>
     ensures { OnOk result
-        (HasTold path.now (more_why (bad - max_told) ∷ []) reasons.old.items reasons.new.items) }
+        (AddsReasons path.now (more_why (bad - max_reasons) ∷ []) reasons.old.items reasons.new.items) }
 {
-    let more = bad.saturating_sub(MAX_TOLD);
+    let more = bad.saturating_sub(MAX_REASONS);
     let why = format!(in alloc; " and {more} more bad records")?;
-    tell_why(reasons, path, why.as_str())
+    add_reason_line(reasons, path, why.as_str())
 }
 
 /// What ends the lines of a file.
@@ -109,18 +109,18 @@ enum LineEnd {
 }
 
 /// The lines at which the records of a file begin. A reader counts line feeds alone, one that follows a carriage return
-/// as a part of the next record; so the first two records tell what ends the lines. An empty line that a lone carriage
+/// as a part of the next record; so the first two records show what ends the lines. An empty line that a lone carriage
 /// return ends is not counted.
 #[derive(Clone, Copy)]
 pub(crate) struct Lines {
     end: LineEnd,
-    // The lone carriage returns before the record that was taken last, and those up to its end.
+    // The lone carriage returns before the record that was read last, and those up to its end.
     before: u64,
     after: u64,
 }
 
 impl Lines {
-    /// Makes the lines of a file of which no record was taken.
+    /// Makes the lines of a file of which no record was read.
     pub(crate) fn new() -> Lines {
         Lines {
             end: LineEnd::Unknown,
@@ -129,8 +129,8 @@ impl Lines {
         }
     }
 
-    /// Takes a record, by where the reader stands after it.
-    pub(crate) fn take(&mut self, record: &ByteRecord, after: Position) {
+    /// Advances by a record, by the position of the reader after it.
+    pub(crate) fn advance(&mut self, record: &ByteRecord, after: Position) {
         self.end = match self.end {
             LineEnd::Unknown if has_feed_outside(record, after) => LineEnd::Feed,
             LineEnd::Unknown => LineEnd::Return,
@@ -147,7 +147,7 @@ impl Lines {
         self.after = self.after.saturating_add(inside).saturating_add(1);
     }
 
-    /// Returns the line at which the record begins that was taken last, from 1, by where the reader stands after it. It
+    /// Returns the line at which the record begins that was read last, from 1, by the position of the reader after it. It
     /// is one too low for a last record that no line end follows, if empty lines stand before it.
     pub(crate) fn line_of(&self, record: &ByteRecord, after: Position) -> u64 {
         let inside = count_line_feeds(record.as_slice());

@@ -1,20 +1,20 @@
-//! The check of a row file.
+//! Checks a row file, its header and each record, and adds the reasons why they are not accepted (`check_rows`).
 
 ghost use Rattle.std.specs.Prelude.{◌≡◌, ◌≢◌, ◌∷◌, [], is_some, IfErr, IfOk, IfSome, OnOk};
 ghost use Rattle.csv.specs.Reading.{reader_state, source_of};
 ghost use Rattle.csv.specs.Records.{fields_of};
 ghost use Rattle.csv.specs.declared.parser.State.TheVariants as st;
-ghost use Rattle.bsi_reading.specs.RowFiles.{good_row};
-ghost use Rattle.bsi_reading.specs.Sources.{IsPlain};
-ghost use Rattle.bsi_reading.specs.Texts.{FromText};
-ghost use Rattle.bsi_check.specs.Checks.{HasCounted, HasTooMany, IsFound, IsTooLongFile};
-ghost use Rattle.bsi_check.specs.Reasons.{fault_why, HasTold, HasToldOne, HasToldSome, TellsBad, TellsFile, TellsFirst};
+ghost use Rattle.bsi_input.specs.RowFiles.{good_row};
+ghost use Rattle.bsi_input.specs.Sources.{IsPlainReader};
+ghost use Rattle.bsi_input.specs.Texts.{ForText};
+ghost use Rattle.bsi_check.specs.Checks.{HasCounted, HasTooManyRecords, IsFileFinding, IsTooLongRowFile};
+ghost use Rattle.bsi_check.specs.Reasons.{fault_why, AddsBadRecordReasons, AddsFileReasons, AddsFirstReasons, AddsOneReason, AddsReasons, AddsSomeReasons};
 
 use crate::NoMemory;
-use crate::found::{FileCounts, FileFound};
-use crate::lines::{Lines, MAX_TOLD, tell, tell_at, tell_more};
-use bsi_reading::{Layout, MAX_RECORDS, SourceFault, is_good_header, plain_reader, read_next};
-use bsi_reasons::{why_bad_record, why_no_header};
+use crate::diagnostics::{why_bad_record, why_no_header};
+use crate::finding::{FileCounts, FileFinding};
+use crate::lines::{Lines, MAX_REASONS, add_more_bad, add_reason, add_reason_at};
+use bsi_input::{Layout, MAX_RECORDS, SourceFault, is_good_header, plain_reader, read_next};
 use bsi_rows::Row;
 use bsi_schema::Schema;
 use csv::{ByteRecord, Reader};
@@ -29,15 +29,15 @@ pub(crate) fn check_rows<I: Read + Drop>(
     path: &str,
     file: I,
     reasons: &mut Vec<u8>,
-) -> Result<FileFound, NoMemory>
-    ensures found { IfOk result (λ found. IfSome (I.remaining file) (IsFound schema.now found)) }
-    ensures told { IfOk result (λ found.
-        TellsFile path.now found reasons.old.items reasons.new.items) }
+) -> Result<FileFinding, NoMemory>
+    ensures finding { IfOk result (λ finding. IfSome (I.remaining file) (IsFileFinding schema.now finding)) }
+    ensures reported { IfOk result (λ finding.
+        AddsFileReasons path.now finding reasons.old.items reasons.new.items) }
 {
     let mut input = plain_reader(alloc, file);
     match check_input(alloc, schema, path, &mut input, reasons) {
-        Ok(found) => Ok(found),
-        Err(fault) => tell_unread(alloc, path, fault, reasons),
+        Ok(finding) => Ok(finding),
+        Err(fault) => add_unread(alloc, path, fault, reasons),
     }
 }
 
@@ -48,38 +48,38 @@ fn check_input<I: Read + Drop>(
     path: &str,
     input: &mut Reader<I>,
     reasons: &mut Vec<u8>,
-) -> Result<FileFound, SourceFault>
-    requires plain { IsPlain input.old }
+) -> Result<FileFinding, SourceFault>
+    requires plain { IsPlainReader input.old }
     requires start { reader_state input.old ≡ st.StartRecord }
-    ensures found { IfOk result (λ found. FromText (source_of I.remaining input.old)
-        (IsFound schema.now found)) }
-    ensures told { IfOk result (λ found.
-        TellsFile path.now found reasons.old.items reasons.new.items) }
-    ensures kept { IfErr result (λ fault. fault ≢ SourceFault.NoMemory →
-        HasToldSome path.now reasons.old.items reasons.new.items) }
+    ensures finding { IfOk result (λ finding. ForText (source_of I.remaining input.old)
+        (IsFileFinding schema.now finding)) }
+    ensures reported { IfOk result (λ finding.
+        AddsFileReasons path.now finding reasons.old.items reasons.new.items) }
+    ensures some_reasons { IfErr result (λ fault. fault ≢ SourceFault.NoMemory →
+        AddsSomeReasons path.now reasons.old.items reasons.new.items) }
     ensures later { IfErr result (λ fault. fault ≢ SourceFault.BadHeader) }
     ensures too_long { IfErr result (λ fault. fault ≡ SourceFault.TooLong →
-        FromText (source_of I.remaining input.old) (IsTooLongFile schema.now)) }
+        ForText (source_of I.remaining input.old) (IsTooLongRowFile schema.now)) }
 {
     let mut header = ByteRecord::new(alloc);
     if !read_next(input, &mut header)? {
-        tell(alloc, reasons, path, "is empty: it has no header")?;
-        return Ok(FileFound::NoHeader);
+        add_reason(alloc, reasons, path, "is empty: it has no header")?;
+        return Ok(FileFinding::NoHeader);
     }
     let mut lines = Lines::new();
-    lines.take(&header, input.position());
+    lines.advance(&header, input.position());
     if !is_good_header(schema, &header) {
         let line = lines.line_of(&header, input.position());
-        tell_header(alloc, schema, path, line, &header, reasons)?;
-        return Ok(FileFound::NoHeader);
+        add_bad_header(alloc, schema, path, line, &header, reasons)?;
+        return Ok(FileFinding::NoHeader);
     }
     let layout = Layout::of_header(alloc, schema, header)?;
     let counts = check_records(alloc, &layout, lines, path, input, reasons)?;
-    Ok(FileFound::Counted(counts))
+    Ok(FileFinding::Counted(counts))
 }
 
 /// Adds the reason why a record is no header.
-fn tell_header(
+fn add_bad_header(
     alloc: Global,
     schema: &Schema,
     path: &str,
@@ -87,10 +87,10 @@ fn tell_header(
     header: &ByteRecord,
     reasons: &mut Vec<u8>,
 ) -> Result<(), NoMemory>
-    ensures { OnOk result (HasToldOne path.now reasons.old.items reasons.new.items) }
+    ensures { OnOk result (AddsOneReason path.now reasons.old.items reasons.new.items) }
 {
     let why = why_no_header(alloc, schema, header, line)?;
-    tell_at(alloc, reasons, path, line, why.as_str())
+    add_reason_at(alloc, reasons, path, line, why.as_str())
 }
 
 /// Reads the records of a row file after its header, and adds the reason of each bad one, at most 100 of them, and how
@@ -103,19 +103,19 @@ fn check_records<I: Read + Drop>(
     input: &mut Reader<I>,
     reasons: &mut Vec<u8>,
 ) -> Result<FileCounts, SourceFault>
-    requires plain { IsPlain input.old }
+    requires plain { IsPlainReader input.old }
     ensures counted { IfOk result (HasCounted I.remaining layout.now input.old) }
-    ensures told { IfOk result (λ counts.
-        TellsBad path.now counts.bad reasons.old.items reasons.new.items) }
-    ensures kept { IfErr result (λ fault. fault ≢ SourceFault.NoMemory →
-        HasToldSome path.now reasons.old.items reasons.new.items) }
+    ensures reported { IfOk result (λ counts.
+        AddsBadRecordReasons path.now counts.bad reasons.old.items reasons.new.items) }
+    ensures some_reasons { IfErr result (λ fault. fault ≢ SourceFault.NoMemory →
+        AddsSomeReasons path.now reasons.old.items reasons.new.items) }
     ensures later { IfErr result (λ fault. fault ≢ SourceFault.BadHeader) }
     ensures too_long { IfErr result (λ fault. fault ≡ SourceFault.TooLong →
-        HasTooMany I.remaining input.old) }
+        HasTooManyRecords I.remaining input.old) }
 {
     let counts = count_records(alloc, layout, lines, path, input, reasons)?;
-    if counts.bad > MAX_TOLD {
-        tell_more(alloc, reasons, path, counts.bad)?;
+    if counts.bad > MAX_REASONS {
+        add_more_bad(alloc, reasons, path, counts.bad)?;
     }
     Ok(counts)
 }
@@ -129,15 +129,15 @@ fn count_records<I: Read + Drop>(
     input: &mut Reader<I>,
     reasons: &mut Vec<u8>,
 ) -> Result<FileCounts, SourceFault>
-    requires plain { IsPlain input.old }
+    requires plain { IsPlainReader input.old }
     ensures counted { IfOk result (HasCounted I.remaining layout.now input.old) }
-    ensures told { IfOk result (λ counts.
-        TellsFirst path.now counts.bad reasons.old.items reasons.new.items) }
-    ensures kept { IfErr result (λ fault. fault ≢ SourceFault.NoMemory →
-        HasToldSome path.now reasons.old.items reasons.new.items) }
+    ensures reported { IfOk result (λ counts.
+        AddsFirstReasons path.now counts.bad reasons.old.items reasons.new.items) }
+    ensures some_reasons { IfErr result (λ fault. fault ≢ SourceFault.NoMemory →
+        AddsSomeReasons path.now reasons.old.items reasons.new.items) }
     ensures later { IfErr result (λ fault. fault ≢ SourceFault.BadHeader) }
     ensures too_long { IfErr result (λ fault. fault ≡ SourceFault.TooLong →
-        HasTooMany I.remaining input.old) }
+        HasTooManyRecords I.remaining input.old) }
 {
     let (mut records, mut bad) = (0u64, 0u64);
     let mut fields = ByteRecord::new(alloc);
@@ -147,16 +147,16 @@ fn count_records<I: Read + Drop>(
         if !read_next(input, &mut fields)? {
             return Ok(FileCounts { records, bad });
         }
-        lines.take(&fields, input.position());
+        lines.advance(&fields, input.position());
         let good = is_good_record(alloc, layout, &fields, &mut entries, &mut row)?;
         records += 1;
         if good {
             continue;
         }
         bad += 1;
-        if bad <= MAX_TOLD {
+        if bad <= MAX_REASONS {
             let line = lines.line_of(&fields, input.position());
-            tell_bad_record(alloc, layout, path, line, &fields, reasons)?;
+            add_bad_record(alloc, layout, path, line, &fields, reasons)?;
         }
     }
     if read_next(input, &mut fields)? {
@@ -180,7 +180,7 @@ fn is_good_record(
 }
 
 /// Adds the reason why a record is bad.
-fn tell_bad_record(
+fn add_bad_record(
     alloc: Global,
     layout: &Layout,
     path: &str,
@@ -188,27 +188,27 @@ fn tell_bad_record(
     fields: &ByteRecord,
     reasons: &mut Vec<u8>,
 ) -> Result<(), NoMemory>
-    ensures { OnOk result (HasToldOne path.now reasons.old.items reasons.new.items) }
+    ensures { OnOk result (AddsOneReason path.now reasons.old.items reasons.new.items) }
 {
     let why = why_bad_record(alloc, layout, fields, line)?;
-    tell_at(alloc, reasons, path, line, why.as_str())
+    add_reason_at(alloc, reasons, path, line, why.as_str())
 }
 
 /// Adds the reason why a file was not read to its end. Refused memory is an error.
-pub(crate) fn tell_unread(
+pub(crate) fn add_unread(
     alloc: Global,
     path: &str,
     fault: SourceFault,
     reasons: &mut Vec<u8>,
-) -> Result<FileFound, NoMemory>
-    ensures found { IfOk result (λ found. found ≡ FileFound.Unread fault) }
-    ensures told { OnOk result
-        (HasTold path.now (fault_why fault ∷ []) reasons.old.items reasons.new.items) }
+) -> Result<FileFinding, NoMemory>
+    ensures finding { IfOk result (λ finding. finding ≡ FileFinding.Unread fault) }
+    ensures reported { OnOk result
+        (AddsReasons path.now (fault_why fault ∷ []) reasons.old.items reasons.new.items) }
     ensures fault { OnOk result (fault ≢ SourceFault.NoMemory) }
 {
     if fault == SourceFault::NoMemory {
         return Err(NoMemory);
     }
-    tell(alloc, reasons, path, fault.text())?;
-    Ok(FileFound::Unread(fault))
+    add_reason(alloc, reasons, path, fault.text())?;
+    Ok(FileFinding::Unread(fault))
 }

@@ -12,25 +12,25 @@ use Rattle.bsi_digits.proofs.CallerLemmas.{low_le, low_eq, low_all}
 use Rattle.bsi_bits.proofs.Pairs.{zip2-map_right}
 use Rattle.bsi_slices.specs.declared.decision.Relation.{Relation}
 use Rattle.bsi_slices.specs.declared.decision.Relation.TheVariants.{Equal, AtMost}
-use Rattle.bsi_words.specs.Places.{at_most_from}
-use Rattle.bsi_orders.specs.Rows.{number_or_zero}
-use Rattle.bsi_slices.specs.Decisions.{as_wanted, relates}
-use Rattle.bsi_columns.specs.DigitTests.{relates_from, answers}
+use Rattle.bsi_kernels.specs.Places.{at_most_step}
+use Rattle.bsi_digits.specs.Comparisons.{number_or_zero}
+use Rattle.bsi_slices.specs.Decisions.{as_expected, relates}
+use Rattle.bsi_columns.specs.DigitTests.{relates_step, answers}
 
 -- a row that is not not a null
 -- no row is selected
-pub none_selected : (test : ℕ → Bool) (wanted : Bool) (es : List (Option ℕ)) → ((x : ℕ) → as_wanted wanted (test x) ≡ false)
-    → replicate (length es) false ≡ map (answers test wanted) es
-none_selected test wanted [] never = refl
-none_selected test wanted (None ∷ es) never = ap (λ xs. false ∷ xs) (none_selected test wanted es never)
-none_selected test wanted (Some x ∷ es) never = ap₂ (λ b xs. b ∷ xs) (sym (never x)) (none_selected test wanted es never)
+pub none_selected : (test : ℕ → Bool) (expected : Bool) (es : List (Option ℕ)) → ((x : ℕ) → as_expected expected (test x) ≡ false)
+    → replicate (length es) false ≡ map (answers test expected) es
+none_selected test expected [] never = refl
+none_selected test expected (None ∷ es) never = ap (λ xs. false ∷ xs) (none_selected test expected es never)
+none_selected test expected (Some x ∷ es) never = ap₂ (λ b xs. b ∷ xs) (sym (never x)) (none_selected test expected es never)
 
 -- every row that is not a null
-pub all_selected : (test : ℕ → Bool) (wanted : Bool) (es : List (Option ℕ)) → ((x : ℕ) → as_wanted wanted (test x) ≡ true)
-    → map is_some es ≡ map (answers test wanted) es
-all_selected test wanted [] always = refl
-all_selected test wanted (None ∷ es) always = ap (λ xs. false ∷ xs) (all_selected test wanted es always)
-all_selected test wanted (Some x ∷ es) always = ap₂ (λ b xs. b ∷ xs) (sym (always x)) (all_selected test wanted es always)
+pub all_selected : (test : ℕ → Bool) (expected : Bool) (es : List (Option ℕ)) → ((x : ℕ) → as_expected expected (test x) ≡ true)
+    → map is_some es ≡ map (answers test expected) es
+all_selected test expected [] always = refl
+all_selected test expected (None ∷ es) always = ap (λ xs. false ∷ xs) (all_selected test expected es always)
+all_selected test expected (Some x ∷ es) always = ap₂ (λ b xs. b ∷ xs) (sym (always x)) (all_selected test expected es always)
 
 -- pairs by two functions that agree
 pub zip2_alike : {X Y Z : Type 0} (f g : X → Y → Z) → ((x : X) (y : Y) → f x y ≡ g x y) → (xs : List X) (ys : List Y) → zip2 f xs ys ≡ zip2 g xs ys
@@ -44,32 +44,32 @@ zip2_twice f h [] ys = refl
 zip2_twice f h (x ∷ xs) [] = refl
 zip2_twice f h (x ∷ xs) (y ∷ ys) = ap (λ zs. h (f x y) y ∷ zs) (zip2_twice f h xs ys)
 
-both_calls : (low : Bool) (v d : ℕ) → 0 < d → ((low && nat_le v d) || nat_le v (d - 1)) ≡ at_most_from low v d
+both_calls : (low : Bool) (v d : ℕ) → 0 < d → ((low && nat_le v d) || nat_le v (d - 1)) ≡ at_most_step low v d
 both_calls low v d some = grind (arith, nat_tests)
 
-one_call : (low : Bool) (v d : ℕ) → d ≤ 0 → (low && nat_le v d) ≡ at_most_from low v d
+one_call : (low : Bool) (v d : ℕ) → d ≤ 0 → (low && nat_le v d) ≡ at_most_step low v d
 one_call low v d none = grind (arith, nat_tests)
 
-module _ (found : List Bool) (ds : List ℕ) (d : ℕ) where
+module _ (selection : List Bool) (ds : List ℕ) (d : ℕ) where
   -- a digit more of `=`
-  pub narrowed_equal : zip2 ◌&&◌ found (map (λ v. v == d) ds) ≡ zip2 (λ low v. relates_from Equal low v d) found ds
-  narrowed_equal = zip2-map_right ◌&&◌ (λ (v : ℕ). v == d) found ds
+  pub narrowed_equal : zip2 ◌&&◌ selection (map (λ v. v == d) ds) ≡ zip2 (λ low v. relates_step Equal low v d) selection ds
+  narrowed_equal = zip2-map_right ◌&&◌ (λ (v : ℕ). v == d) selection ds
 
   -- a digit more of `<=`, by one call or by two
-  pub narrowed_by_one : d ≤ 0 → zip2 ◌&&◌ found (map (λ v. nat_le v d) ds) ≡ zip2 (λ low v. relates_from AtMost low v d) found ds
+  pub narrowed_by_one : d ≤ 0 → zip2 ◌&&◌ selection (map (λ v. nat_le v d) ds) ≡ zip2 (λ low v. relates_step AtMost low v d) selection ds
   narrowed_by_one none =
-      zip2-map_right ◌&&◌ (λ (v : ℕ). nat_le v d) found ds
-      ∙ zip2_alike (λ (low : Bool) (v : ℕ). low && nat_le v d) (λ low v. at_most_from low v d) (λ low v. one_call low v d none) found ds
+      zip2-map_right ◌&&◌ (λ (v : ℕ). nat_le v d) selection ds
+      ∙ zip2_alike (λ (low : Bool) (v : ℕ). low && nat_le v d) (λ low v. at_most_step low v d) (λ low v. one_call low v d none) selection ds
 
-  pub narrowed_by_two : 0 < d → zip2 ◌||◌ (zip2 ◌&&◌ found (map (λ v. nat_le v d) ds)) (map (λ v. nat_le v (d - 1)) ds)
-      ≡ zip2 (λ low v. relates_from AtMost low v d) found ds
+  pub narrowed_by_two : 0 < d → zip2 ◌||◌ (zip2 ◌&&◌ selection (map (λ v. nat_le v d) ds)) (map (λ v. nat_le v (d - 1)) ds)
+      ≡ zip2 (λ low v. relates_step AtMost low v d) selection ds
   narrowed_by_two some =
       let low_or = λ (b : Bool) (v : ℕ). b || nat_le v (d - 1) in
       let low_and = λ (low : Bool) (v : ℕ). low && nat_le v d in
-      zip2-map_right ◌||◌ (λ (v : ℕ). nat_le v (d - 1)) (zip2 ◌&&◌ found (map (λ v. nat_le v d) ds)) ds
-      ∙ ap (λ xs. zip2 low_or xs ds) (zip2-map_right ◌&&◌ (λ (v : ℕ). nat_le v d) found ds)
-      ∙ zip2_twice low_and low_or found ds
-      ∙ zip2_alike (λ low v. low_or (low_and low v) v) (λ low v. at_most_from low v d) (λ low v. both_calls low v d some) found ds
+      zip2-map_right ◌||◌ (λ (v : ℕ). nat_le v (d - 1)) (zip2 ◌&&◌ selection (map (λ v. nat_le v d) ds)) ds
+      ∙ ap (λ xs. zip2 low_or xs ds) (zip2-map_right ◌&&◌ (λ (v : ℕ). nat_le v d) selection ds)
+      ∙ zip2_twice low_and low_or selection ds
+      ∙ zip2_alike (λ low v. low_or (low_and low v) v) (λ low v. at_most_step low v d) (λ low v. both_calls low v d some) selection ds
 
 -- the digit of a place decides, and then what stands below it
 both_turned : (a b : Bool) → (a && b) ≡ (b && a)
@@ -77,7 +77,7 @@ both_turned a b = grind (arith, nat_tests)
 
 pub holds_more : {bs : List ℕ} → IsBaseList bs → (relation : Relation) (u v i : ℕ) → i < length bs →
     relates relation (u % weight bs (i + 1)) (v % weight bs (i + 1))
-    ≡ relates_from relation (relates relation (u % weight bs i) (v % weight bs i)) (digit_of bs u i) (digit_of bs v i)
+    ≡ relates_step relation (relates relation (u % weight bs i) (v % weight bs i)) (digit_of bs u i) (digit_of bs v i)
 holds_more {bs} valid Equal u v i h =
     low_eq valid u v i h ∙ both_turned (digit_of bs u i == digit_of bs v i) (u % weight bs i == v % weight bs i)
 holds_more {bs} valid AtMost u v i h = low_le valid u v i h
@@ -96,16 +96,16 @@ zip2-map_left f g [] ys = refl
 zip2-map_left f g (v ∷ vs) [] = refl
 zip2-map_left f g (v ∷ vs) (y ∷ ys) = ap (λ zs. f (g v) y ∷ zs) (zip2-map_left f g vs ys)
 
-same_answer : (test other : ℕ → Bool) (wanted too : Bool) (n : ℕ) → ((x : ℕ) → x < n → as_wanted wanted (test x) ≡ as_wanted too (other x))
-    → (e : Option ℕ) → number_or_zero e < n → answers test wanted e ≡ answers other too e
-same_answer test other wanted too n same None below = refl
-same_answer test other wanted too n same (Some x) below = same x below
+same_answer : (test other : ℕ → Bool) (expected too : Bool) (n : ℕ) → ((x : ℕ) → x < n → as_expected expected (test x) ≡ as_expected too (other x))
+    → (e : Option ℕ) → number_or_zero e < n → answers test expected e ≡ answers other too e
+same_answer test other expected too n same None below = refl
+same_answer test other expected too n same (Some x) below = same x below
 
 -- tests that agree below the size, each as wanted, select the same rows
-pub same_answers : (test other : ℕ → Bool) (wanted too : Bool) (n : ℕ) → ((x : ℕ) → x < n → as_wanted wanted (test x) ≡ as_wanted too (other x))
-    → (es : List (Option ℕ)) → All (λ e. number_or_zero e < n) es → map (answers test wanted) es ≡ map (answers other too) es
-same_answers test other wanted too n same es all =
-    map_alike (answers test wanted) (answers other too) (λ e. number_or_zero e < n) (same_answer test other wanted too n same) es all
+pub same_answers : (test other : ℕ → Bool) (expected too : Bool) (n : ℕ) → ((x : ℕ) → x < n → as_expected expected (test x) ≡ as_expected too (other x))
+    → (es : List (Option ℕ)) → All (λ e. number_or_zero e < n) es → map (answers test expected) es ≡ map (answers other too) es
+same_answers test other expected too n same es all =
+    map_alike (answers test expected) (answers other too) (λ e. number_or_zero e < n) (same_answer test other expected too n same) es all
 
 pub and_assoc : (a b c : Bool) → ((a && b) && c) ≡ (a && (b && c))
 and_assoc true b c = refl
@@ -118,37 +118,37 @@ and_true : (b : Bool) → (b && true) ≡ b
 and_true b = grind (arith, nat_tests)
 
 -- the answer of an entry, by its number and whether it is one
-pub cut_answer : (test : ℕ → Bool) (wanted : Bool) (e : Option ℕ) → (as_wanted wanted (test (number_or_zero e)) && is_some e) ≡ answers test wanted e
-cut_answer test wanted None = and_false (as_wanted wanted (test 0))
-cut_answer test wanted (Some x) = and_true (as_wanted wanted (test x))
+pub cut_answer : (test : ℕ → Bool) (expected : Bool) (e : Option ℕ) → (as_expected expected (test (number_or_zero e)) && is_some e) ≡ answers test expected e
+cut_answer test expected None = and_false (as_expected expected (test 0))
+cut_answer test expected (Some x) = and_true (as_expected expected (test x))
 
 -- past the last row no entry is there, whatever was found
-pub cut_past : (test : ℕ → Bool) (wanted was found : Bool) (e : Option ℕ) → e ≡ None → (found && is_some e) ≡ (was && answers test wanted e)
-cut_past test wanted was found None past = and_false found ∙ sym (and_false was)
-cut_past test wanted was found (Some x) past = absurd (grind (arith, ap is_some past))
+pub cut_past : (test : ℕ → Bool) (expected was selection : Bool) (e : Option ℕ) → e ≡ None → (selection && is_some e) ≡ (was && answers test expected e)
+cut_past test expected was selection None past = and_false selection ∙ sym (and_false was)
+cut_past test expected was selection (Some x) past = absurd (grind (arith, ap is_some past))
 
 -- so where it was written for each row, and cut with the not-null bitmap
-pub cut_answers : (test : ℕ → Bool) (wanted : Bool) (es : List (Option ℕ)) (found not_null : List Bool)
-    → found ≡ map (λ e. test (number_or_zero e)) es → not_null ≡ map is_some es
-    → zip2 (λ answer there. as_wanted wanted answer && there) found not_null ≡ map (answers test wanted) es
-cut_answers test wanted es found not_null found_is not_null_is =
-    zip2_of_maps (λ (answer : Bool) (there : Bool). as_wanted wanted answer && there) (λ (e : Option ℕ). test (number_or_zero e)) is_some es found_is not_null_is
-    ∙ map_alike (λ (e : Option ℕ). as_wanted wanted (test (number_or_zero e)) && is_some e) (answers test wanted) (λ e. Unit {0}) (λ e u. cut_answer test wanted e) es (λ k d h. tt)
+pub cut_answers : (test : ℕ → Bool) (expected : Bool) (es : List (Option ℕ)) (selection not_null : List Bool)
+    → selection ≡ map (λ e. test (number_or_zero e)) es → not_null ≡ map is_some es
+    → zip2 (λ answer there. as_expected expected answer && there) selection not_null ≡ map (answers test expected) es
+cut_answers test expected es selection not_null selection_is not_null_is =
+    zip2_of_maps (λ (answer : Bool) (there : Bool). as_expected expected answer && there) (λ (e : Option ℕ). test (number_or_zero e)) is_some es selection_is not_null_is
+    ∙ map_alike (λ (e : Option ℕ). as_expected expected (test (number_or_zero e)) && is_some e) (answers test expected) (λ e. Unit {0}) (λ e u. cut_answer test expected e) es (λ k d h. tt)
 
-pub past_equal : (wanted : Bool) (x n size : ℕ) → size ≤ n → x < size → as_wanted (not wanted) true ≡ as_wanted wanted (nat_eq x n)
-past_equal wanted x n size past below = grind (arith, nat_tests)
+pub past_equal : (expected : Bool) (x n size : ℕ) → size ≤ n → x < size → as_expected (not expected) true ≡ as_expected expected (nat_eq x n)
+past_equal expected x n size past below = grind (arith, nat_tests)
 
-pub past_at_most : (wanted : Bool) (x n size : ℕ) → size ≤ n → x < size → as_wanted wanted true ≡ as_wanted wanted (nat_le x n)
-past_at_most wanted x n size past below = grind (arith, nat_tests)
+pub past_at_most : (expected : Bool) (x n size : ℕ) → size ≤ n → x < size → as_expected expected true ≡ as_expected expected (nat_le x n)
+past_at_most expected x n size past below = grind (arith, nat_tests)
 
-pub past_below : (wanted : Bool) (x n size : ℕ) → size ≤ n → x < size → as_wanted wanted true ≡ as_wanted wanted (nat_lt x n)
-past_below wanted x n size past below = grind (arith, nat_tests)
+pub past_below : (expected : Bool) (x n size : ℕ) → size ≤ n → x < size → as_expected expected true ≡ as_expected expected (nat_lt x n)
+past_below expected x n size past below = grind (arith, nat_tests)
 
-pub never_below : (wanted : Bool) (x n : ℕ) → n ≡ 0 → as_wanted (not wanted) true ≡ as_wanted wanted (nat_lt x n)
-never_below wanted x n none = grind (arith, nat_tests)
+pub never_below : (expected : Bool) (x n : ℕ) → n ≡ 0 → as_expected (not expected) true ≡ as_expected expected (nat_lt x n)
+never_below expected x n none = grind (arith, nat_tests)
 
-pub at_most_less : (wanted : Bool) (x n : ℕ) → n ≢ 0 → as_wanted wanted (nat_le x (n - 1)) ≡ as_wanted wanted (nat_lt x n)
-at_most_less wanted x n some = grind (arith, nat_tests)
+pub at_most_less : (expected : Bool) (x n : ℕ) → n ≢ 0 → as_expected expected (nat_le x (n - 1)) ≡ as_expected expected (nat_lt x n)
+at_most_less expected x n some = grind (arith, nat_tests)
 
 pub IfOk-same_bits : {X E : Type 0} (r : Result X E) (bits : X → List Bool) (xs ys : List Bool) → xs ≡ ys → IfOk r (λ b. bits b ≡ xs) → IfOk r (λ b. bits b ≡ ys)
 IfOk-same_bits r bits xs ys same ok = IfOk-weaker r (λ b. bits b ≡ xs) (λ b. bits b ≡ ys) (λ b h. h ∙ same) ok
@@ -158,10 +158,10 @@ pub nothing_below : (relation : Relation) → relates relation 0 0 ≡ true
 nothing_below Equal = refl
 nothing_below AtMost = refl
 
-lt_or_eq : (d e : ℕ) → at_most_from true d e ≡ nat_le d e
+lt_or_eq : (d e : ℕ) → at_most_step true d e ≡ nat_le d e
 lt_or_eq d e = grind (arith, nat_tests)
 
-first_from : (relation : Relation) (d e : ℕ) → relates_from relation true d e ≡ relates relation d e
+first_from : (relation : Relation) (d e : ℕ) → relates_step relation true d e ≡ relates relation d e
 first_from Equal d e = refl
 first_from AtMost d e = lt_or_eq d e
 
@@ -170,7 +170,7 @@ pub holds_first : {bs : List ℕ} → IsBaseList bs → (relation : Relation) (u
 holds_first {bs} valid relation u v =
     let none : (n : ℕ) → n % 1 ≡ 0 = λ n. omega arith in
     sym (holds_more valid relation u v 0 valid.some
-    ∙ ap (λ low. relates_from relation low (digit_of bs u 0) (digit_of bs v 0)) (ap₂ (relates relation) (none u) (none v) ∙ nothing_below relation)
+    ∙ ap (λ low. relates_step relation low (digit_of bs u 0) (digit_of bs v 0)) (ap₂ (relates relation) (none u) (none v) ∙ nothing_below relation)
     ∙ first_from relation (digit_of bs u 0) (digit_of bs v 0))
 
 module _ {bs : List ℕ} (valid : IsBaseList bs) (relation : Relation) (n : ℕ) (es : List (Option ℕ)) where
@@ -178,19 +178,19 @@ module _ {bs : List ℕ} (valid : IsBaseList bs) (relation : Relation) (n : ℕ)
   abbrev pub low_answers : ℕ → List Bool
   low_answers i = map (λ e. relates relation (number_or_zero e % weight bs i) (n % weight bs i)) es
 
-  pub low_answers_first : (d : ℕ) (found : List Bool) (ds : List ℕ) → d ≡ digit_of bs n 0 → ds ≡ map (λ e. digit_of bs (number_or_zero e) 0) es
-      → found ≡ map (λ v. relates relation v d) ds → found ≡ low_answers 1
-  low_answers_first d found ds d_is ds_is found_is =
-      found_is ∙ ap₂ (λ (c : ℕ) (xs : List ℕ). map (λ v. relates relation v c) xs) d_is ds_is
+  pub low_answers_first : (d : ℕ) (selection : List Bool) (ds : List ℕ) → d ≡ digit_of bs n 0 → ds ≡ map (λ e. digit_of bs (number_or_zero e) 0) es
+      → selection ≡ map (λ v. relates relation v d) ds → selection ≡ low_answers 1
+  low_answers_first d selection ds d_is ds_is selection_is =
+      selection_is ∙ ap₂ (λ (c : ℕ) (xs : List ℕ). map (λ v. relates relation v c) xs) d_is ds_is
       ∙ map_map (λ (v : ℕ). relates relation v (digit_of bs n 0)) (λ (e : Option ℕ). digit_of bs (number_or_zero e) 0) es
       ∙ map_alike _ _ (λ e. Unit {0}) (λ e u. holds_first valid relation (number_or_zero e) n) es (λ k d h. tt)
 
-  pub low_answers_more : (i d : ℕ) (found after : List Bool) (ds : List ℕ) → i < length bs → d ≡ digit_of bs n i → ds ≡ map (λ e. digit_of bs (number_or_zero e) i) es
-      → found ≡ low_answers i → after ≡ zip2 (λ low v. relates_from relation low v d) found ds → after ≡ low_answers (i + 1)
-  low_answers_more i d found after ds within d_is ds_is found_is after_is =
-      after_is ∙ ap (λ (c : ℕ). zip2 (λ low v. relates_from relation low v c) found ds) d_is
-      ∙ zip2_of_maps (λ low v. relates_from relation low v (digit_of bs n i)) (λ (e : Option ℕ). relates relation (number_or_zero e % weight bs i) (n % weight bs i))
-      (λ (e : Option ℕ). digit_of bs (number_or_zero e) i) es found_is ds_is
+  pub low_answers_more : (i d : ℕ) (selection after : List Bool) (ds : List ℕ) → i < length bs → d ≡ digit_of bs n i → ds ≡ map (λ e. digit_of bs (number_or_zero e) i) es
+      → selection ≡ low_answers i → after ≡ zip2 (λ low v. relates_step relation low v d) selection ds → after ≡ low_answers (i + 1)
+  low_answers_more i d selection after ds within d_is ds_is selection_is after_is =
+      after_is ∙ ap (λ (c : ℕ). zip2 (λ low v. relates_step relation low v c) selection ds) d_is
+      ∙ zip2_of_maps (λ low v. relates_step relation low v (digit_of bs n i)) (λ (e : Option ℕ). relates relation (number_or_zero e % weight bs i) (n % weight bs i))
+      (λ (e : Option ℕ). digit_of bs (number_or_zero e) i) es selection_is ds_is
       ∙ map_alike _ _ (λ e. Unit {0}) (λ e u. sym (holds_more valid relation (number_or_zero e) n i within)) es (λ k d h. tt)
 
   pub low_answers_all : n < product bs → All (λ e. number_or_zero e < product bs) es → low_answers (length bs) ≡ map (λ e. relates relation (number_or_zero e) n) es

@@ -12,19 +12,19 @@ use Rattle.bsi_components.proofs.PlaceCounts.{count_enough}
 use Rattle.bsi_components.proofs.PlaceNumbers.{same_places}
 use Rattle.bsi_digits.specs.Digits.{components, digit_of, digits_of, product, weight, weighted_sum, IsBaseList}
 use Rattle.bsi_digits.proofs.CallerLemmas.{weighted_sum-digits_of}
-use Rattle.bsi_orders.specs.Rows.{number_or_zero}
-use Rattle.bsi_words.specs.Places.{has_place}
+use Rattle.bsi_digits.specs.Comparisons.{number_or_zero}
+use Rattle.bsi_kernels.specs.Places.{has_place}
 use Rattle.bsi_columns.specs.Places.{bitmaps_by, digit_places, places_under, slice_places}
 use Rattle.bsi_columns.proofs.ColumnPlaces.{length-slice_places, rows_of_test}
 use Rattle.bsi_columns.proofs.FromBitmaps.{place_within, tests_long}
 use Rattle.bsi_columns.proofs.PieceLists.{piece_at}
 
 -- the tests tell the numbers below the size apart
-pub record TellApart (tests : List (ℕ → Bool)) (size : ℕ) : Type 0 where
+pub record Distinguish (tests : List (ℕ → Bool)) (size : ℕ) : Type 0 where
   pub each : (u v : ℕ) → u < size → v < size → ((j : ℕ) (d : ℕ → Bool) → j < length tests → get_or tests j d u ≡ get_or tests j d v) → u ≡ v
 
-pub slices_tell : (w : ℕ) → TellApart (slice_places w) (2 ^ w)
-slices_tell w = record {
+pub slices_distinguish : (w : ℕ) → Distinguish (slice_places w) (2 ^ w)
+slices_distinguish w = record {
   each = λ u v small_u small_v same.
       let agree : (k : ℕ) → k < w → has_place k u ≡ has_place k v = λ k within.
       let test : (n : ℕ) → get_or (slice_places w) k (has_place 0) n ≡ has_place k n = λ n. ap (λ t. t n) (get_or-map-range_with_len has_place 0 w k k (has_place 0) within (omega arith)) in
@@ -56,8 +56,8 @@ module _ (bs : List ℕ) (valid : IsBaseList bs) (u v : ℕ)
       fill_by_all (digit_of bs v) (digits_of bs u) (length bs) 0 (length-map-range_with_len (digit_of bs u) 0 (length bs))
       (λ i within. get_or-map-range_with_len (digit_of bs u) 0 (length bs) i i 0 within (omega arith) ∙ digit_same i within)
 
-pub digits_tell : (bs : List ℕ) → IsBaseList bs → TellApart (places_under bs) (product bs)
-digits_tell bs valid = record {
+pub digits_distinguish : (bs : List ℕ) → IsBaseList bs → Distinguish (places_under bs) (product bs)
+digits_distinguish bs valid = record {
   each = λ u v small_u small_v same.
       sym (weighted_sum-digits_of bs u small_u) ∙ ap (λ ds. weighted_sum bs ds (components bs)) (digits_same bs valid u v same) ∙ weighted_sum-digits_of bs v small_v;
 }
@@ -69,7 +69,7 @@ same_entry (Some n) None marks numbers = absurd (true≢false marks)
 same_entry (Some n) (Some m) marks numbers = ap Some numbers
 
 -- entries below the size that have the same bitmaps are the same
-module _ (tests : List (ℕ → Bool)) (size : ℕ) (tell : TellApart tests size) (xs ys : List (Option ℕ)) (same : bitmaps_by tests xs ≡ bitmaps_by tests ys) where
+module _ (tests : List (ℕ → Bool)) (size : ℕ) (distinct : Distinguish tests size) (xs ys : List (Option ℕ)) (same : bitmaps_by tests xs ≡ bitmaps_by tests ys) where
   marks_same : map is_some xs ≡ map is_some ys
   marks_same = ap (λ rows. get_or rows 0 []) same
 
@@ -89,7 +89,7 @@ module _ (tests : List (ℕ → Bool)) (size : ℕ) (tell : TellApart tests size
       let marks : is_some (get_or xs r None) ≡ is_some (get_or ys r None) =
       sym (get_or-map is_some xs r None false within) ∙ ap (λ bits. get_or bits r false) marks_same ∙ get_or-map is_some ys r None false inside in
       let numbers : number_or_zero (get_or xs r None) ≡ number_or_zero (get_or ys r None) =
-      tell.each (number_or_zero (get_or xs r None)) (number_or_zero (get_or ys r None))
+      distinct.each (number_or_zero (get_or xs r None)) (number_or_zero (get_or ys r None))
       (All-get_or (λ e. number_or_zero e < size) xs r None within below_xs) (All-get_or (λ e. number_or_zero e < size) ys r None inside below_ys)
       (λ j d there. row_same r j d within there) in
       get_or_default xs r d None within ∙ same_entry (get_or xs r None) (get_or ys r None) marks numbers ∙ sym (get_or_default ys r d None inside))

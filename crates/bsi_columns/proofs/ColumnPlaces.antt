@@ -6,8 +6,8 @@ use Rattle.std.proofs.lemmas.List.{map-append}
 use Rattle.std.proofs.lemmas.List.FromFn.{length-map-range_with_len, map-range_with_len_more}
 use Rattle.bsi_components.specs.PlaceNumbers.{place_count}
 use Rattle.bsi_digits.specs.Digits.{digit_of}
-use Rattle.bsi_orders.specs.Rows.{number_or_zero}
-use Rattle.bsi_words.specs.Places.{has_place}
+use Rattle.bsi_digits.specs.Comparisons.{number_or_zero}
+use Rattle.bsi_kernels.specs.Places.{has_place}
 use Rattle.bsi_columns.specs.ComponentPlaces.{component_bitmaps, digit_bitmaps}
 use Rattle.bsi_columns.specs.Places.{bitmaps_by, digit_places, places_under, slice_places}
 use Rattle.bsi_columns.proofs.PieceLists.{map-pieces, pieces_more, pieces_same}

@@ -32,8 +32,8 @@ module _ {E X : Type 0} (f : E → X) where
   read_map cs i c d within read = get_or-map f cs i c d within ∙ ap f (sym read)
 
   -- a write that f does not see
-  pub map_kept : (cs : List E) (i : ℕ) (c new : E) → i < length cs → c ≡ get_or cs i c → f new ≡ f c → map f (set cs i new) ≡ map f cs
-  map_kept cs i c new within read same = map-set_same f cs i new c (same ∙ ap f read)
+  pub map_unchanged : (cs : List E) (i : ℕ) (c new : E) → i < length cs → c ≡ get_or cs i c → f new ≡ f c → map f (set cs i new) ≡ map f cs
+  map_unchanged cs i c new within read same = map-set_same f cs i new c (same ∙ ap f read)
 
 -- a function of the components, once one more is appended, and once one more of other components is copied
 module _ {E X : Type 0} (f : E → X) where
@@ -92,8 +92,8 @@ module _ {E : Type 0} (room : E → ℕ) (cs : List E) (i : ℕ) (c new : E) (wi
   room_of_new = map_written room cs i new 0 within
 
   -- none has less
-  pub room_kept : room c ≤ room new → (k : ℕ) → get_or (map room cs) k 0 ≤ get_or (map room (set cs i new)) k 0
-  room_kept no_less k = elim (cases_eq k i) [
+  pub room_no_less : room c ≤ room new → (k : ℕ) → get_or (map room cs) k 0 ≤ get_or (map room (set cs i new)) k 0
+  room_no_less no_less k = elim (cases_eq k i) [
     | inl same ↦
         let here : get_or (map room cs) k 0 ≡ room c = ap (λ j. get_or (map room cs) j 0) same ∙ room_of_old in
         let there : get_or (map room (set cs i new)) k 0 ≡ room new = ap (λ j. get_or (map room (set cs i new)) j 0) same ∙ room_of_new in

@@ -2,11 +2,11 @@
 use Rattle.std.proofs.Common.{◌≡◌, ℕ, ◌<◌, false, List, [], ◌∷◌, length, map, replicate, refl, sym, ap, ap₂, ◌∙◌}
 use Rattle.std.specs.Prelude.{All, Option, Some, None, is_some}
 use Rattle.std.proofs.lemmas.List.Elements.{All-head, All-tail}
-use Rattle.bsi_orders.specs.declared.op.Op.{Op}
+use Rattle.bsi_digits.specs.declared.op.Op.{Op}
 use Rattle.bsi_slices.specs.declared.decision.Decision.{Decision}
 use Rattle.bsi_slices.specs.declared.decision.Decision.TheVariants.{Nothing, Everything, Tested}
 use Rattle.bsi_slices.specs.declared.decision.Test.{Test}
-use Rattle.bsi_orders.specs.Rows.{compares, number_or_zero, selects}
+use Rattle.bsi_digits.specs.Comparisons.{compares, number_or_zero, selects}
 use Rattle.bsi_slices.specs.Decisions.{decides, relates}
 use Rattle.bsi_columns.specs.DigitTests.{answers}
 use Rattle.bsi_columns.proofs.Answering.{map_alike}
@@ -22,7 +22,7 @@ module _ (op : Op) (n size : ℕ) (choice : Decision) (agree : (x : ℕ) → x <
   entry_all is (Some x) below = sym (ap (λ c. decides c x) is) ∙ agree x below
 
   pub entry_tested : (test : Test) → choice ≡ Tested test → (e : Option ℕ) → number_or_zero e < size
-      → answers (λ x. relates test.relation x test.constant) test.wanted e ≡ selects op n e
+      → answers (λ x. relates test.relation x test.constant) test.expected e ≡ selects op n e
   entry_tested test is None below = refl
   entry_tested test is (Some x) below = sym (ap (λ c. decides c x) is) ∙ agree x below
 
@@ -36,6 +36,6 @@ module _ (op : Op) (n size : ℕ) (choice : Decision) (agree : (x : ℕ) → x <
   rows_all is es all = map_alike is_some (selects op n) (λ e. number_or_zero e < size) (entry_all is) es all
 
   pub rows_tested : (test : Test) → choice ≡ Tested test → (es : List (Option ℕ)) → All (λ e. number_or_zero e < size) es
-      → map (answers (λ x. relates test.relation x test.constant) test.wanted) es ≡ map (selects op n) es
+      → map (answers (λ x. relates test.relation x test.constant) test.expected) es ≡ map (selects op n) es
   rows_tested test is es all =
-      map_alike (answers (λ x. relates test.relation x test.constant) test.wanted) (selects op n) (λ e. number_or_zero e < size) (entry_tested test is) es all
+      map_alike (answers (λ x. relates test.relation x test.constant) test.expected) (selects op n) (λ e. number_or_zero e < size) (entry_tested test is) es all

@@ -7,9 +7,9 @@ use Rattle.std.proofs.lemmas.List.Elements.{All-nil, All-append}
 use Rattle.std.proofs.lemmas.List.FromFn.{fill_by_all}
 use Rattle.bsi_digits.specs.Digits.{product, digit_of, digits_of, components, weighted_sum}
 use Rattle.bsi_digits.proofs.CallerLemmas.{weighted_sum-digits_of}
-use Rattle.bsi_orders.specs.Blocks.{block_entries, IsNumberBlock}
-use Rattle.bsi_orders.specs.Rows.{number_or_zero}
-use Rattle.bsi_orders.proofs.BlockEntries.{length-block_entries}
+use Rattle.bsi_digits.specs.Blocks.{block_entries, IsNumberBlock}
+use Rattle.bsi_digits.specs.Comparisons.{number_or_zero}
+use Rattle.bsi_digits.proofs.BlockEntries.{length-block_entries}
 use Rattle.bsi_slices.proofs.BlockWords.{number-block_entries}
 use Rattle.bsi_columns.specs.Decomposed.{digits_at, weighed_entry, entries_of, Decomposes, IsRoomy}
 
@@ -18,18 +18,18 @@ entry_of_number : (e : Option ℕ) → cond (is_some e) (Some (number_or_zero e)
 entry_of_number None = refl
 entry_of_number (Some x) = refl
 
-module _ (bs : List ℕ) (not_null : List Bool) (ds : List (List ℕ)) (entries : List (Option ℕ)) (kept : Decomposes bs not_null ds entries) where
+module _ (bs : List ℕ) (not_null : List Bool) (ds : List (List ℕ)) (entries : List (Option ℕ)) (decomposes : Decomposes bs not_null ds entries) where
   pub rows_of : length not_null ≡ length entries
-  rows_of = ap length kept.not_null_is ∙ length-map entries is_some
+  rows_of = ap length decomposes.not_null_is ∙ length-map entries is_some
 
   -- the digits of a row are those of its entry's number
   digits_at_row : (r : ℕ) → r < length entries → digits_at ds r ≡ digits_of bs (number_or_zero (get_or entries r None))
   digits_at_row r within =
       let number : ℕ = number_or_zero (get_or entries r None) in
-      let long : length (digits_at ds r) ≡ length bs = length-map ds (λ (d : List ℕ). get_or d r 0) ∙ kept.count in
+      let long : length (digits_at ds r) ≡ length bs = length-map ds (λ (d : List ℕ). get_or d r 0) ∙ decomposes.count in
       same_digits_by (digits_at ds r) bs number long (λ i below.
-      get_or-map (λ (d : List ℕ). get_or d r 0) ds i [] 0 (omega (arith, kept.count))
-      ∙ ap (λ d. get_or d r 0) (kept.digits_are i below)
+      get_or-map (λ (d : List ℕ). get_or d r 0) ds i [] 0 (omega (arith, decomposes.count))
+      ∙ ap (λ d. get_or d r 0) (decomposes.digits_are i below)
       ∙ get_or-map (λ (e : Option ℕ). digit_of bs (number_or_zero e) i) entries r None 0 within)
     where
       same_digits_by : (xs bs : List ℕ) (v : ℕ) → length xs ≡ length bs → ((i : ℕ) → i < length bs → get_or xs i 0 ≡ digit_of bs v i) → xs ≡ digits_of bs v
@@ -41,23 +41,23 @@ module _ (bs : List ℕ) (not_null : List Bool) (ds : List (List ℕ)) (entries 
   entries_from = sym (fill_by_all (weighed_entry bs not_null ds) entries (length not_null) None (sym rows_of) (λ r below.
       let within : r < length entries = omega (arith, rows_of) in
       let e : Option ℕ = get_or entries r None in
-      let is_there : get_or not_null r false ≡ is_some e = ap (λ bits. get_or bits r false) kept.not_null_is ∙ get_or-map is_some entries r None false within in
+      let is_there : get_or not_null r false ≡ is_some e = ap (λ bits. get_or bits r false) decomposes.not_null_is ∙ get_or-map is_some entries r None false within in
       let number : weighted_sum bs (digits_at ds r) (components bs) ≡ number_or_zero e =
-      ap (λ xs. weighted_sum bs xs (components bs)) (digits_at_row r within) ∙ weighted_sum-digits_of bs (number_or_zero e) (kept.below r None within) in
+      ap (λ xs. weighted_sum bs xs (components bs)) (digits_at_row r within) ∙ weighted_sum-digits_of bs (number_or_zero e) (decomposes.below r None within) in
       sym (ap₂ (λ b n. cond b (Some n) None) is_there number ∙ entry_of_number e)))
 
-  pub kept_itself : Decomposes bs not_null ds (entries_of bs not_null ds)
-  kept_itself = subst (λ es. Decomposes bs not_null ds es) (sym entries_from) kept
+  pub decomposed_itself : Decomposes bs not_null ds (entries_of bs not_null ds)
+  decomposed_itself = subst (λ es. Decomposes bs not_null ds es) (sym entries_from) decomposes
 
   -- each component has as many digits as there are rows
   pub digits_long : (k : ℕ) → k < length bs → length (get_or ds k []) ≡ length not_null
-  digits_long k below = ap length (kept.digits_are k below) ∙ length-map entries (λ (e : Option ℕ). digit_of bs (number_or_zero e) k) ∙ sym rows_of
+  digits_long k below = ap length (decomposes.digits_are k below) ∙ length-map entries (λ (e : Option ℕ). digit_of bs (number_or_zero e) k) ∙ sym rows_of
 
   -- no component has more digits than there are entries
   pub digits_at_most : (k : ℕ) → length (get_or ds k []) ≤ length entries
   digits_at_most k = elim (cases_lt k (length bs)) [
-    | inl below ↦ omega (arith, ap length (kept.digits_are k below), length-map entries (λ (e : Option ℕ). digit_of bs (number_or_zero e) k))
-    | inr past ↦ omega (arith, ap length (get_or_past ds k [] (omega (arith, past, kept.count))))
+    | inl below ↦ omega (arith, ap length (decomposes.digits_are k below), length-map entries (λ (e : Option ℕ). digit_of bs (number_or_zero e) k))
+    | inr past ↦ omega (arith, ap length (get_or_past ds k [] (omega (arith, past, decomposes.count))))
   ]
 
 -- a column of no entries
@@ -74,13 +74,13 @@ pub more_entries : (bs : List ℕ) (not_null : List Bool) (ds : List (List ℕ))
     → bits ≡ not_null ++ map is_some block → length more ≡ length bs
     → ((i : ℕ) → i < length bs → get_or more i [] ≡ get_or ds i [] ++ map (λ e. digit_of bs (number_or_zero e) i) block)
     → All (λ e. number_or_zero e < product bs) block → Decomposes bs bits more (entries ++ block)
-more_entries bs not_null ds entries block bits more kept bits_are long each small = record {
+more_entries bs not_null ds entries block bits more decomposes bits_are long each small = record {
   count = long;
-  not_null_is = bits_are ∙ ap (λ ps. ps ++ map is_some block) kept.not_null_is ∙ sym (map-append is_some entries block);
+  not_null_is = bits_are ∙ ap (λ ps. ps ++ map is_some block) decomposes.not_null_is ∙ sym (map-append is_some entries block);
   digits_are = λ i below.
-      each i below ∙ ap (λ xs. xs ++ map (λ e. digit_of bs (number_or_zero e) i) block) (kept.digits_are i below)
+      each i below ∙ ap (λ xs. xs ++ map (λ e. digit_of bs (number_or_zero e) i) block) (decomposes.digits_are i below)
       ∙ sym (map-append (λ (x : Option ℕ). digit_of bs (number_or_zero x) i) entries block);
-  below = All-append (λ (x : Option ℕ). number_or_zero x < product bs) entries block kept.below small;
+  below = All-append (λ (x : Option ℕ). number_or_zero x < product bs) entries block decomposes.below small;
 }
 
 -- all entries of another column under the same bases
@@ -88,17 +88,17 @@ pub all_entries : (bs others_bs : List ℕ) (not_null others bits : List Bool) (
     → others_bs ≡ bs → bits ≡ not_null ++ others → length all ≡ length bs
     → ((i : ℕ) → i < length bs → get_or all i [] ≡ get_or ds i [] ++ get_or more i [])
     → Decomposes bs bits all (entries ++ added)
-all_entries bs others_bs not_null others bits ds more all entries added kept of_others same bits_are long each =
+all_entries bs others_bs not_null others bits ds more all entries added decomposes of_others same bits_are long each =
     let other : Decomposes bs others more added = subst (λ b. Decomposes b others more added) same of_others in
-    more_entries bs not_null ds entries added bits all kept
+    more_entries bs not_null ds entries added bits all decomposes
     (bits_are ∙ ap (λ ps. not_null ++ ps) other.not_null_is) long
     (λ i below. each i below ∙ ap (λ xs. get_or ds i [] ++ xs) (other.digits_are i below)) other.below
 
 -- each component has as many digits as there are entries
 pub component_rows : {E : Type 0} (digits : E → List ℕ) (cs : List E) (bs : List ℕ) (not_null : List Bool) (entries : List (Option ℕ)) →
     Decomposes bs not_null (map digits cs) entries → (k : ℕ) (d : E) → k < length cs → length (digits (get_or cs k d)) ≡ length entries
-component_rows digits cs bs not_null entries kept k d within =
-    ap length (sym (get_or-map digits cs k d [] within) ∙ kept.digits_are k (omega (arith, kept.count, length-map cs digits)))
+component_rows digits cs bs not_null entries decomposes k d within =
+    ap length (sym (get_or-map digits cs k d [] within) ∙ decomposes.digits_are k (omega (arith, decomposes.count, length-map cs digits)))
     ∙ length-map entries (λ (e : Option ℕ). digit_of bs (number_or_zero e) k)
 
 -- the digits of a block's numbers are those of its entries

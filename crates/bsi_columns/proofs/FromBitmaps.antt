@@ -11,16 +11,16 @@ use Rattle.std.proofs.lemmas.Nat.{mod_below}
 use Rattle.std.proofs.lemmas.List.FromFn.{fill_by_all, get_or-map-range_with_len, length-map-range_with_len}
 use Rattle.bsi_bits.specs.BitList.{BitList}
 use Rattle.bsi_bits.specs.BitLists.{bits_at}
-use Rattle.bsi_components.specs.PlaceNumbers.{numbers_in, place_count, AreLevel, HasPast}
+use Rattle.bsi_components.specs.PlaceNumbers.{numbers_in, place_count, AreLevel, HasNumberPastBase}
 use Rattle.bsi_components.proofs.PlaceCounts.{count_enough, count_few}
 use Rattle.bsi_components.proofs.PlaceNumbers.{length-numbers_in, no_place, numbers_are, places_are}
 use Rattle.bsi_digits.specs.Digits.{digit_of, weight, IsBase, IsBaseList}
-use Rattle.bsi_orders.specs.Rows.{number_or_zero}
-use Rattle.bsi_words.specs.Nulls.{AreClearAtNulls, HasBitOfNull}
-use Rattle.bsi_words.specs.Places.{has_place, IsEncoded}
+use Rattle.bsi_digits.specs.Comparisons.{number_or_zero}
+use Rattle.bsi_kernels.specs.Nulls.{AreClearAtNulls, HasBitOfNull}
+use Rattle.bsi_kernels.specs.Places.{has_place, IsEncoded}
 use Rattle.bsi_columns.specs.ComponentPlaces.{component_bitmaps, digit_bitmaps}
 use Rattle.bsi_columns.specs.Decomposed.{AreDigitsBelow, Decomposes}
-use Rattle.bsi_columns.specs.Places.{bits_each, bitmaps_by, digit_places, places_under, slice_places, AreOfNone}
+use Rattle.bsi_columns.specs.Places.{bits_each, bitmaps_by, digit_places, places_under, slice_places, HaveNoEntriesBelow}
 use Rattle.bsi_columns.proofs.ColumnPlaces.{component_bitmaps_of, digits_in, maps_twice, rows_of_test}
 use Rattle.bsi_columns.proofs.PieceLists.{piece_at, pieces_long, pieces_more, pieces_same, pieces_within}
 
@@ -225,7 +225,7 @@ module _ (bs : List ℕ) (places : List BitList) (i : ℕ) (bases : List ℕ) (d
         let most : get_or bs i 0 ≤ 2 ^ length own = subst (λ (m : ℕ). get_or bs i 0 ≤ 2 ^ m) (sym own_long) (count_enough (get_or bs i 0) is_base) in
         numbers_are own (get_or others i []) own_level.some encoded (λ r. omega (arith, below.below i r within, most))
 
-    pub no_others : HasPast (get_or bs i 0) (numbers_in own) → (others : List (List ℕ)) → AreDigitsBelow bs (length (bits_at places 0)) others → component_bitmaps bs others ≢ bits_each places
+    pub no_others : HasNumberPastBase (get_or bs i 0) (numbers_in own) → (others : List (List ℕ)) → AreDigitsBelow bs (length (bits_at places 0)) others → component_bitmaps bs others ≢ bits_each places
     no_others past others below same =
         let is = others_digits others (length (bits_at places 0)) below same in
         omega (arith, past.2, ap (λ numbers. get_or numbers past.0 0) is, below.below i past.0 within)
@@ -313,18 +313,18 @@ module _ (old rest : List BitList) (first : BitList) (is : old ≡ first ∷ res
       ap₂ (λ (bits : List Bool) rows. bits ∷ rows) (sym marks) (sym (bits_of_slices rest w entries long each)) ∙ sym (ap bits_each is)
 
   -- of bitmaps with a bit of a null there is no column
-  pub none_with_null_bit : (tests : List (ℕ → Bool)) (size : ℕ) → All (λ test. test 0 ≡ false) tests → HasBitOfNull first.bits rest → AreOfNone tests size (bits_each old)
+  pub none_with_null_bit : (tests : List (ℕ → Bool)) (size : ℕ) → All (λ test. test 0 ≡ false) tests → HasBitOfNull first.bits rest → HaveNoEntriesBelow tests size (bits_each old)
   none_with_null_bit tests size zeros bit = λ entries below same. no_null_bit tests entries first.bits rest (same ∙ ap bits_each is) zeros bit
 
   -- components
   pub components_made : (bs : List ℕ) (ds : List (List ℕ)) (entries : List (Option ℕ)) → Decomposes bs first.bits ds entries → component_bitmaps bs ds ≡ bits_each rest
       → bitmaps_by (places_under bs) entries ≡ bits_each old
-  components_made bs ds entries kept same =
-      ap₂ (λ (bits : List Bool) rows. bits ∷ rows) (sym kept.not_null_is) (component_bitmaps_of bs entries ds kept.digits_are ∙ same) ∙ sym (ap bits_each is)
+  components_made bs ds entries decomposes same =
+      ap₂ (λ (bits : List Bool) rows. bits ∷ rows) (sym decomposes.not_null_is) (component_bitmaps_of bs entries ds decomposes.digits_are ∙ same) ∙ sym (ap bits_each is)
 
   -- where no digits have the bitmaps, no entries have
   pub none_with_digits : (bs : List ℕ) (size rows : ℕ) → IsBaseList bs → length first.bits ≡ rows → ((ds : List (List ℕ)) → AreDigitsBelow bs rows ds → component_bitmaps bs ds ≢ bits_each rest)
-      → AreOfNone (places_under bs) size (bits_each old)
+      → HaveNoEntriesBelow (places_under bs) size (bits_each old)
   none_with_digits bs size rows valid even none = λ entries below same.
       let same_rest = same ∙ ap bits_each is in
       let ds = map (digits_in bs entries) (range_with_len 0 (length bs)) in

@@ -7,7 +7,7 @@ use Rattle.std.proofs.lemmas.List.{length-map, get_or-map}
 use Rattle.std.proofs.lemmas.List.FromFn.{fill_by_all, get_or-map-range_with_len, length-map-range_with_len}
 use Rattle.bsi_digits.specs.Digits.{product, digit_of, components, weight, weighted_sum}
 use Rattle.bsi_digits.proofs.CallerLemmas.{get_or-digits_of, same_digits, weighted_sum-cons}
-use Rattle.bsi_columns.specs.Rows.{number_or_zero}
+use Rattle.bsi_columns.specs.Comparisons.{number_or_zero}
 use Rattle.bsi_columns.specs.Decomposed.{digits_at, weighed_entry, entries_of, AreDigitLists, Decomposes}
 
 maps_twice : {X Y : Type 0} (f : ℕ → X) (g : X → Y) (xs : List ℕ) → map g (map f xs) ≡ map (λ x. g (f x)) xs

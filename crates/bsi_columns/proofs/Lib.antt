@@ -3,9 +3,9 @@ pub mod BitmapEntries
 pub mod ColumnPlaces
 pub mod ComponentLists
 pub mod Deciding
-pub mod DigitStandings
+pub mod DigitRelations
 pub mod DigitSums
-pub mod EndDigits
+pub mod ExtremeDigits
 pub mod EntriesFrom
 pub mod EntryReads
 pub mod FromBitmaps
@@ -15,11 +15,11 @@ pub mod PieceLists
 pub mod PlaceSums
 pub mod Rungs
 pub mod SpanAnswers
-pub mod SpanParts
+pub mod SpanChunks
 pub use Rattle.bsi_slices.proofs.Adding
 pub use Rattle.bsi_slices.proofs.BlockNumbers
 pub use Rattle.bsi_slices.proofs.CallerLemmas
-pub use Rattle.bsi_slices.proofs.EndSpans
-pub use Rattle.bsi_slices.proofs.EndRows
+pub use Rattle.bsi_slices.proofs.ExtremeSpans
+pub use Rattle.bsi_slices.proofs.ExtremeRows
 pub use Rattle.bsi_slices.proofs.Ranking
 pub use Rattle.bsi_slices.proofs.WordSpans

@@ -7,8 +7,8 @@ use Rattle.std.proofs.lemmas.Bool.{cases_eq}
 use Rattle.std.proofs.lemmas.List.{get_or-map, get_or-set_same, get_or-set_other, length-map}
 use Rattle.bsi_digits.specs.Digits.{weight, product, digit_of, IsBaseList}
 use Rattle.bsi_digits.proofs.CallerLemmas.{high_all, high_digit}
-use Rattle.bsi_orders.specs.Rows.{number_or_zero}
-use Rattle.bsi_words.specs.Places.{has_place}
+use Rattle.bsi_digits.specs.Comparisons.{number_or_zero}
+use Rattle.bsi_kernels.specs.Places.{has_place}
 
 -- the numbers above component i of the rows from `first` on
 pub record AreNumbersAbove (bs : List ℕ) (entries : List (Option ℕ)) (first i : ℕ) (numbers : List ℕ) : Type 0 where

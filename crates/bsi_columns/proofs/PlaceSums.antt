@@ -11,7 +11,7 @@ use Rattle.bsi_bits.specs.BitList.{differ}
 use Rattle.bsi_slices.specs.Slices.{bit_value}
 use Rattle.bsi_slices.proofs.Related.{carry_more}
 use Rattle.bsi_slices.proofs.SliceNumbers.{places_more}
-use Rattle.bsi_words.specs.Places.{has_place}
+use Rattle.bsi_kernels.specs.Places.{has_place}
 
 -- a number below a power has no place from there on
 pub place_past : (x n k : ℕ) → n ≤ k → x < 2 ^ n → has_place k x ≡ false

@@ -12,9 +12,9 @@ use Rattle.bsi_bits.proofs.Logic.{and_not_bitwise}
 use Rattle.bsi_digits.specs.Digits.{product, weight, digit_of, IsBaseList}
 use Rattle.bsi_digits.proofs.CallerLemmas.{low_all}
 use Rattle.bsi_slices.specs.declared.decision.Relation.{Relation}
-use Rattle.bsi_orders.specs.Rows.{number_or_zero}
-use Rattle.bsi_slices.specs.Decisions.{as_wanted, relates}
-use Rattle.bsi_columns.specs.DigitTests.{relates_from, answers}
+use Rattle.bsi_digits.specs.Comparisons.{number_or_zero}
+use Rattle.bsi_slices.specs.Decisions.{as_expected, relates}
+use Rattle.bsi_columns.specs.DigitTests.{relates_step, answers}
 use Rattle.bsi_columns.proofs.WordSpans.{zipped_bit}
 use Rattle.bsi_columns.proofs.Answering.{holds_more, nothing_below, cut_answer}
 
@@ -23,8 +23,8 @@ pub record IsNarrowed (bs : List ℕ) (relation : Relation) (n : ℕ) (es : List
   pub bits : (p : ℕ) → p < 64 * length span → 64 * at + p < length es
       → (nat_eq i 0 || bit_of span p) ≡ relates relation (number_or_zero (get_or es (64 * at + p) None) % weight bs i) (n % weight bs i)
 
-behind_first : (i : ℕ) (b : Bool) → 0 < i → (nat_eq i 0 || b) ≡ b
-behind_first i b some = grind (arith, nat_tests)
+after_first : (i : ℕ) (b : Bool) → 0 < i → (nat_eq i 0 || b) ≡ b
+after_first i b some = grind (arith, nat_tests)
 
 module _ {bs : List ℕ} (valid : IsBaseList bs) (relation : Relation) (n : ℕ) (es : List (Option ℕ)) (at : ℕ) where
   pub narrowed_start : (span : List ℕ) → IsNarrowed bs relation n es at 0 span
@@ -37,7 +37,7 @@ module _ {bs : List ℕ} (valid : IsBaseList bs) (relation : Relation) (n : ℕ)
 
   pub narrowed_more : (i d : ℕ) (span after ds : List ℕ) → i < length bs → d ≡ digit_of bs n i → ds ≡ map (λ e. digit_of bs (number_or_zero e) i) es
       → length after ≡ length span → IsNarrowed bs relation n es at i span
-      → ((p : ℕ) → p < 64 * length span → 64 * at + p < length ds → bit_of after p ≡ relates_from relation (nat_eq i 0 || bit_of span p) (get_or ds (64 * at + p) 0) d)
+      → ((p : ℕ) → p < 64 * length span → 64 * at + p < length ds → bit_of after p ≡ relates_step relation (nat_eq i 0 || bit_of span p) (get_or ds (64 * at + p) 0) d)
       → IsNarrowed bs relation n es at (i + 1) after
   narrowed_more i d span after ds within d_is ds_is same before step = record {
     bits = λ p below row.
@@ -46,17 +46,17 @@ module _ {bs : List ℕ} (valid : IsBaseList bs) (relation : Relation) (n : ℕ)
         let number : ℕ = number_or_zero (get_or es (64 * at + p) None) in
         let digit : get_or ds (64 * at + p) 0 ≡ digit_of bs number i =
         ap (λ xs. get_or xs (64 * at + p) 0) ds_is ∙ get_or-map (λ (e : Option ℕ). digit_of bs (number_or_zero e) i) es (64 * at + p) None 0 row in
-        behind_first (i + 1) (bit_of after p) (omega arith)
+        after_first (i + 1) (bit_of after p) (omega arith)
         ∙ step p in_span (omega (arith, rows))
-        ∙ ap (λ low. relates_from relation low (get_or ds (64 * at + p) 0) d) (before.bits p in_span row)
-        ∙ ap₂ (relates_from relation (relates relation (number % weight bs i) (n % weight bs i))) digit d_is
+        ∙ ap (λ low. relates_step relation low (get_or ds (64 * at + p) 0) d) (before.bits p in_span row)
+        ∙ ap₂ (relates_step relation (relates relation (number % weight bs i) (n % weight bs i))) digit d_is
         ∙ sym (holds_more valid relation number n i within);
   }
 
   pub narrowed_all : (span : List ℕ) → n < product bs → All (λ e. number_or_zero e < product bs) es → IsNarrowed bs relation n es at (length bs) span
       → (p : ℕ) → p < 64 * length span → 64 * at + p < length es → bit_of span p ≡ relates relation (number_or_zero (get_or es (64 * at + p) None)) n
   narrowed_all span small all narrowed p below row =
-      sym (behind_first (length bs) (bit_of span p) valid.some) ∙ narrowed.bits p below row ∙ ap₂ (relates relation) (low_all bs (number_or_zero (get_or es (64 * at + p) None)) (all (64 * at + p) None row)) (low_all bs n small)
+      sym (after_first (length bs) (bit_of span p) valid.some) ∙ narrowed.bits p below row ∙ ap₂ (relates relation) (low_all bs (number_or_zero (get_or es (64 * at + p) None)) (all (64 * at + p) None row)) (low_all bs n small)
 
 -- the words that begin a list, and those appended to it
 module _ (P : ℕ → Bool) (n at : ℕ) (words span : List ℕ) (long : length words ≡ at) where
@@ -78,22 +78,22 @@ module _ (P : ℕ → Bool) (n at : ℕ) (words span : List ℕ) (long : length 
   ]
 
 -- a row of a span, cut with the not-null bitmap
-pub row_answer : (test : ℕ → Bool) (wanted : Bool) (es : List (Option ℕ)) (r : ℕ) (found there : Bool) → r < length es
-    → found ≡ as_wanted wanted (test (number_or_zero (get_or es r None))) → there ≡ get_or (map is_some es) r false
-    → (found && there) ≡ get_or (map (answers test wanted) es) r false
-row_answer test wanted es r found there row found_is there_is =
-    ap₂ ◌&&◌ found_is (there_is ∙ get_or-map is_some es r None false row)
-    ∙ cut_answer test wanted (get_or es r None)
-    ∙ sym (get_or-map (answers test wanted) es r None false row)
+pub row_answer : (test : ℕ → Bool) (expected : Bool) (es : List (Option ℕ)) (r : ℕ) (selection there : Bool) → r < length es
+    → selection ≡ as_expected expected (test (number_or_zero (get_or es r None))) → there ≡ get_or (map is_some es) r false
+    → (selection && there) ≡ get_or (map (answers test expected) es) r false
+row_answer test expected es r selection there row selection_is there_is =
+    ap₂ ◌&&◌ selection_is (there_is ∙ get_or-map is_some es r None false row)
+    ∙ cut_answer test expected (get_or es r None)
+    ∙ sym (get_or-map (answers test expected) es r None false row)
 
 -- an answer that is turned where the rows that fail are wanted
-pub answer_turned : (wanted bit found : Bool) → not wanted ≡ true → bit ≡ not found → bit ≡ as_wanted wanted found
-answer_turned true bit found failing turned = cc
-answer_turned false bit found failing turned = turned
+pub answer_turned : (expected bit selection : Bool) → not expected ≡ true → bit ≡ not selection → bit ≡ as_expected expected selection
+answer_turned true bit selection failing turned = cc
+answer_turned false bit selection failing turned = turned
 
-pub answer_kept : (wanted bit found : Bool) → not wanted ≡ false → bit ≡ found → bit ≡ as_wanted wanted found
-answer_kept true bit found passing kept = kept
-answer_kept false bit found passing kept = cc
+pub answer_narrowed : (expected bit selection : Bool) → not expected ≡ false → bit ≡ selection → bit ≡ as_expected expected selection
+answer_narrowed true bit selection passing decomposes = decomposes
+answer_narrowed false bit selection passing decomposes = cc
 
 -- the rows of a span that are not in another
 pub and_not_bit : (xs ys : List ℕ) → length xs ≡ length ys → ((k : ℕ) → get_or ys k 0 < 2 ^ 64) → (p : ℕ) → p < 64 * length xs

@@ -1,9 +1,9 @@
--- The numbers of a block of rows by their binary places, each of them the words of a bit for each row.
+-- The numbers of a block of rows by their binary places: for each place words with a bit for each row.
 use Rattle.std.specs.Prelude.{◌≡◌, ℕ, ◌<◌, List, [], length, slice_index_or}
 use Rattle.bsi_bits.specs.Packed.{bit_of}
-use Rattle.bsi_words.specs.Places.{has_place}
+use Rattle.bsi_kernels.specs.Places.{has_place}
 
--- bit p of each place, the least place first, is that of the number
+-- bit p of each place, the least place first, is the binary place of the number
 abbrev pub IsNumberAt : List (List ℕ) → ℕ → ℕ → Type 0
 IsNumberAt places p number =
     (k : ℕ) → k < length places → bit_of (slice_index_or places k []) p ≡ has_place k number

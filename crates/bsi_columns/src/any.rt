@@ -1,25 +1,25 @@
-//! A column of whichever form, chosen when the program runs.
+//! A column of whichever form, chosen when the program runs (`AnyColumn`).
 //!
-//! An index keeps its columns as this type, so `keep_selected` is no call of the trait `Column`: a user's own column is
+//! An index stores its columns as this type, so `and_compare` is no call of the trait `Column`: a user's own column is
 //! asked by `compare`.
 
 ghost use Rattle.std.specs.Prelude.{◌≡◌, ◌↔◌, ◌+◌, ◌*◌, ◌<◌, ◌≤◌, is_none, length, IfOk, IsFalse, IsOk, IsTrue};
 ghost use Rattle.bsi_bits.specs.BitList.{max_block, word_count};
 ghost use Rattle.bsi_digits.specs.Digits.{max_size};
 ghost use Rattle.bsi_slices.specs.Blocks.{AreNumbersFrom};
-ghost use Rattle.bsi_slices.specs.Related.{KeepsRelatedRows};
-ghost use Rattle.bsi_slices.specs.Spans.{KeepsRows};
-ghost use Rattle.bsi_columns.specs.AnyRows.{any_entries, any_form, any_room, size_in_form, AnyForm};
-ghost use Rattle.bsi_orders.specs.Orders.{values_at};
-ghost use Rattle.bsi_orders.specs.Rows.{selects};
-ghost use Rattle.bsi_orders.specs.Totals.{IsGreatestOf, IsLeastOf};
+ghost use Rattle.bsi_slices.specs.Related.{AndsComparedRows};
+ghost use Rattle.bsi_slices.specs.Spans.{AndsRows};
+ghost use Rattle.bsi_columns.specs.AnyColumns.{any_entries, any_form, any_room, size_in_form, AnyForm};
+ghost use Rattle.bsi_digits.specs.Orders.{values_at};
+ghost use Rattle.bsi_digits.specs.Comparisons.{selects};
+ghost use Rattle.bsi_digits.specs.Totals.{IsGreatestOf, IsLeastOf};
 
 use crate::{
-    Column, Decomposed, EqualityComponent, MAX_SPAN_WORDS, NoMemory, Op, RangeComponent, Relating,
-    Slices,
+    Column, ColumnComparison, Decomposed, EqualityComponent, MAX_SPAN_WORDS, NoMemory, Op,
+    RangeComponent, Slices,
 };
 use bsi_bits::{Bits, MAX_BLOCK};
-use bsi_words::spans::drop_in;
+use bsi_kernels::spans::and_not_assign;
 
 mod related;
 
@@ -38,15 +38,15 @@ impl AnyColumn {
     /// Keeps in a span of at most 1,024 words the rows whose number satisfies the comparison `op` with `constant`,
     /// which may be past the size. The first word stands for the 64 rows from row `64 * at` on. A null row is not kept,
     /// nor a bit past the last row. It takes no memory.
-    pub fn keep_selected(&self, op: Op, constant: u64, at: usize, span: &mut [u64])
+    pub fn and_compare(&self, op: Op, constant: u64, at: usize, span: &mut [u64])
         requires few { length span.old ≤ MAX_SPAN_WORDS }
         requires within { at + length span.old ≤ word_count (length (any_entries self.now)) }
-        ensures { KeepsRows (selects op constant) (any_entries self.now) at span.old span.new }
+        ensures { AndsRows (selects op constant) (any_entries self.now) at span.old span.new }
     {
         match self {
-            AnyColumn::Slices(column) => column.keep_selected(op, constant, at, span),
-            AnyColumn::Equality(column) => column.keep_selected(op, constant, at, span),
-            AnyColumn::Range(column) => column.keep_selected(op, constant, at, span),
+            AnyColumn::Slices(column) => column.and_compare(op, constant, at, span),
+            AnyColumn::Equality(column) => column.and_compare(op, constant, at, span),
+            AnyColumn::Range(column) => column.and_compare(op, constant, at, span),
         }
     }
 
@@ -82,11 +82,11 @@ impl AnyColumn {
 
     /// Keeps in a span of words the rows that are null. The first word stands for the 64 rows from row `64 * at` on.
     /// Bits past the last row stay as they are.
-    pub fn keep_nulls(&self, at: usize, span: &mut [u64])
+    pub fn and_nulls(&self, at: usize, span: &mut [u64])
         requires within { at + length span.old ≤ word_count (length (any_entries self.now)) }
-        ensures { KeepsRows is_none (any_entries self.now) at span.old span.new }
+        ensures { AndsRows is_none (any_entries self.now) at span.old span.new }
     {
-        drop_in(self.not_null(), at, span);
+        and_not_assign(self.not_null(), at, span);
     }
 }
 
@@ -177,43 +177,43 @@ impl Column for AnyColumn {
         }
     }
 
-    fn sum(&self, found: &Bits) -> u128 {
+    fn sum(&self, selection: &Bits) -> u128 {
         match self {
-            AnyColumn::Slices(column) => column.sum(found),
-            AnyColumn::Equality(column) => column.sum(found),
-            AnyColumn::Range(column) => column.sum(found),
+            AnyColumn::Slices(column) => column.sum(selection),
+            AnyColumn::Equality(column) => column.sum(selection),
+            AnyColumn::Range(column) => column.sum(selection),
         }
     }
 
-    fn ranked(&self, found: &Bits, rank: u64) -> Result<u64, NoMemory> {
+    fn ranked(&self, selection: &Bits, rank: u64) -> Result<u64, NoMemory> {
         match self {
-            AnyColumn::Slices(column) => column.ranked(found, rank),
-            AnyColumn::Equality(column) => column.ranked(found, rank),
-            AnyColumn::Range(column) => column.ranked(found, rank),
+            AnyColumn::Slices(column) => column.ranked(selection, rank),
+            AnyColumn::Equality(column) => column.ranked(selection, rank),
+            AnyColumn::Range(column) => column.ranked(selection, rank),
         }
     }
 
-    fn least(&self, found: &Bits) -> Result<Option<u64>, NoMemory>
-        requires { length (any_entries self.now) ≡ length found.now.bits }
-        ensures least { IfOk result (IsLeastOf (values_at found.now.bits (any_entries self.now))) }
+    fn least(&self, selection: &Bits) -> Result<Option<u64>, NoMemory>
+        requires { length (any_entries self.now) ≡ length selection.now.bits }
+        ensures least { IfOk result (IsLeastOf (values_at selection.now.bits (any_entries self.now))) }
         ensures succeeds { IsOk result }
     {
         match self {
-            AnyColumn::Slices(column) => column.least(found),
-            AnyColumn::Equality(column) => column.least(found),
-            AnyColumn::Range(column) => column.least(found),
+            AnyColumn::Slices(column) => column.least(selection),
+            AnyColumn::Equality(column) => column.least(selection),
+            AnyColumn::Range(column) => column.least(selection),
         }
     }
 
-    fn greatest(&self, found: &Bits) -> Result<Option<u64>, NoMemory>
-        requires { length (any_entries self.now) ≡ length found.now.bits }
-        ensures greatest { IfOk result (IsGreatestOf (values_at found.now.bits (any_entries self.now))) }
+    fn greatest(&self, selection: &Bits) -> Result<Option<u64>, NoMemory>
+        requires { length (any_entries self.now) ≡ length selection.now.bits }
+        ensures greatest { IfOk result (IsGreatestOf (values_at selection.now.bits (any_entries self.now))) }
         ensures succeeds { IsOk result }
     {
         match self {
-            AnyColumn::Slices(column) => column.greatest(found),
-            AnyColumn::Equality(column) => column.greatest(found),
-            AnyColumn::Range(column) => column.greatest(found),
+            AnyColumn::Slices(column) => column.greatest(selection),
+            AnyColumn::Equality(column) => column.greatest(selection),
+            AnyColumn::Range(column) => column.greatest(selection),
         }
     }
 

@@ -1,18 +1,18 @@
-//! Columns that are made of their bitmaps: the not-null bitmap, and then a bitmap for each binary place.
+//! Makes columns from bitmaps, as a file stores them: the not-null bitmap, and then a bitmap for each binary place.
 
 ghost use Rattle.std.specs.Prelude.{◌≡◌, ◌≢◌, ℕ, ◌+◌, ◌*◌, ◌<◌, ◌≤◌, ◌^◌, List, length, map, take, drop, IfNone, IfOk, IfSome, OnOk};
 ghost use Rattle.bsi_bits.specs.BitLists.{bits_at};
 ghost use Rattle.bsi_digits.specs.Digits.{max_bases, product, IsBaseList};
-ghost use Rattle.bsi_words.specs.Places.{max_digit_places, max_places};
+ghost use Rattle.bsi_kernels.specs.Places.{max_digit_places, max_places};
 ghost use Rattle.bsi_columns.specs.ComponentPlaces.{component_bitmaps};
 ghost use Rattle.bsi_columns.specs.Decomposed.{AreDigitsBelow};
-ghost use Rattle.bsi_columns.specs.Places.{bits_each, bitmaps_by, places_under, slice_places, AreOfNone};
+ghost use Rattle.bsi_columns.specs.Places.{bits_each, bitmaps_by, places_under, slice_places, HaveNoEntriesBelow};
 
 use crate::{BinaryPlaces, Decomposed, NoMemory, Slices};
 use bsi_bits::Bits;
 use bsi_components::place_count;
 use bsi_digits::Bases;
-use bsi_words::nulls::are_clear_at_nulls;
+use bsi_kernels::nulls::are_clear_at_nulls;
 use std::mem::replace;
 
 /// Returns how many binary places the digits under these bases take, at most 630.
@@ -38,7 +38,7 @@ pub fn slices_from_bitmaps(width: u32, mut bitmaps: Vec<Bits>) -> Option<Slices>
     ensures bitmaps { IfSome result (λ column.
         bitmaps_by (slice_places width) column.entries ≡ bits_each bitmaps.items) }
     ensures none { IfNone result
-        (AreOfNone (slice_places width) (2 ^ width) (bits_each bitmaps.items)) }
+        (HaveNoEntriesBelow (slice_places width) (2 ^ width) (bits_each bitmaps.items)) }
 {
     let not_null = bitmaps.remove(0);
     Slices::from_places(bitmaps, not_null)
@@ -58,7 +58,7 @@ impl<E: BinaryPlaces> Decomposed<E> {
         ensures bitmaps { IfOk result (λ made. IfSome made (λ column.
             bitmaps_by (places_under bases) column.entries ≡ bits_each bitmaps.items)) }
         ensures none { IfOk result (λ made. IfNone made
-            (AreOfNone (places_under bases) (product bases) (bits_each bitmaps.items))) }
+            (HaveNoEntriesBelow (places_under bases) (product bases) (bits_each bitmaps.items))) }
     {
         let not_null = bitmaps.remove(0);
         if !are_clear_at_nulls(&bitmaps, &not_null) {
@@ -92,7 +92,7 @@ fn components_from<E: BinaryPlaces>(
     let mut components = Vec::with_capacity(*places.allocator(), bases.len() as usize)?;
     'components: for i in 0..bases.len() {
         let base = bases.base(i);
-        let own = take_first(&mut places, place_count(base))?;
+        let own = split_off_first(&mut places, place_count(base))?;
         let Some(component) = E::from_places(base, own)? else {
             return Ok(None);
         };
@@ -101,11 +101,11 @@ fn components_from<E: BinaryPlaces>(
     Ok(Some(components))
 }
 
-/// Takes so many bitmaps out of a list, its first ones.
-fn take_first(bitmaps: &mut Vec<Bits>, count: usize) -> Result<Vec<Bits>, NoMemory>
+/// Splits the first `count` bitmaps off a list.
+fn split_off_first(bitmaps: &mut Vec<Bits>, count: usize) -> Result<Vec<Bits>, NoMemory>
     requires { count ≤ length bitmaps.old.items }
     ensures first { IfOk result (λ first. first.items ≡ take count bitmaps.old.items) }
-    ensures rest { OnOk result (bitmaps.new.items ≡ drop count bitmaps.old.items) }
+    ensures remaining { OnOk result (bitmaps.new.items ≡ drop count bitmaps.old.items) }
 {
     let rest = bitmaps.split_off(count)?;
     Ok(replace(bitmaps, rest))

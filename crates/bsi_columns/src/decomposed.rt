@@ -4,27 +4,27 @@
 ghost use Rattle.std.specs.Prelude.{◌≡◌, ℕ, ◌<◌, List, [], All, length, map, replicate, slice_index, IfOk, IsOk, IsTrue};
 ghost use Rattle.bsi_digits.specs.Digits.{digit_of, product};
 ghost use Rattle.bsi_columns.specs.Decomposed.{AreDigitLists, Decomposes};
-ghost use Rattle.bsi_orders.specs.Orders.{values_at};
-ghost use Rattle.bsi_orders.specs.Rows.{number_or_zero};
-ghost use Rattle.bsi_orders.specs.Totals.{IsGreatestOf, IsLeastOf};
+ghost use Rattle.bsi_digits.specs.Orders.{values_at};
+ghost use Rattle.bsi_digits.specs.Comparisons.{number_or_zero};
+ghost use Rattle.bsi_digits.specs.Totals.{IsGreatestOf, IsLeastOf};
 
 use crate::growth::{clear_each, push_all_digits, push_blocks, push_digits, reserve_each};
 use crate::{Column, Encoding, NoMemory, Op};
 use bsi_bits::{Bits, MAX_LEN, room_to_make};
 use bsi_digits::Bases;
-use bsi_slices::{End, NotNull};
+use bsi_slices::{Extreme, NotNull};
 use std::alloc::Global;
 use std::marker::Model;
 
 mod compare;
-mod ends;
+mod extremes;
 mod narrowing;
 mod numbers;
 mod related;
 mod totals;
 mod vectors;
 
-pub(crate) use compare::keep_wanted;
+pub(crate) use compare::and_expected;
 
 /// A column of numbers below the product of its bases, which keeps a component for each base.
 #[derive(Drop)]
@@ -135,10 +135,10 @@ impl<E: Encoding> Column for Decomposed<E> {
         if more <= self.room {
             return Ok(());
         }
-        let wanted = room_to_make(self.not_null.len(), more);
-        self.not_null.reserve(wanted)?;
-        reserve_each(&mut self.components, wanted)?;
-        self.room = wanted;
+        let growth = room_to_make(self.not_null.len(), more);
+        self.not_null.reserve(growth)?;
+        reserve_each(&mut self.components, growth)?;
+        self.room = growth;
         Ok(())
     }
 
@@ -172,30 +172,30 @@ impl<E: Encoding> Column for Decomposed<E> {
         self.selected(op, constant)
     }
 
-    fn sum(&self, found: &Bits) -> u128 {
-        self.sum_found(found)
+    fn sum(&self, selection: &Bits) -> u128 {
+        self.sum_selected(selection)
     }
 
-    fn ranked(&self, found: &Bits, rank: u64) -> Result<u64, NoMemory> {
-        self.number_of_rank(found, rank)
-    }
-
-    // It passes once over the components, and takes no memory, where the encoding works on spans.
-    fn least(&self, found: &Bits) -> Result<Option<u64>, NoMemory>
-        requires { length self.now.entries ≡ length found.now.bits }
-        ensures least { IfOk result (IsLeastOf (values_at found.now.bits self.now.entries)) }
-        ensures succeeds { IsTrue E.works_on_spans → IsOk result }
-    {
-        self.end_found(found, End::Least)
+    fn ranked(&self, selection: &Bits, rank: u64) -> Result<u64, NoMemory> {
+        self.number_of_rank(selection, rank)
     }
 
     // It passes once over the components, and takes no memory, where the encoding works on spans.
-    fn greatest(&self, found: &Bits) -> Result<Option<u64>, NoMemory>
-        requires { length self.now.entries ≡ length found.now.bits }
-        ensures greatest { IfOk result (IsGreatestOf (values_at found.now.bits self.now.entries)) }
+    fn least(&self, selection: &Bits) -> Result<Option<u64>, NoMemory>
+        requires { length self.now.entries ≡ length selection.now.bits }
+        ensures least { IfOk result (IsLeastOf (values_at selection.now.bits self.now.entries)) }
         ensures succeeds { IsTrue E.works_on_spans → IsOk result }
     {
-        self.end_found(found, End::Greatest)
+        self.find_extreme(selection, Extreme::Least)
+    }
+
+    // It passes once over the components, and takes no memory, where the encoding works on spans.
+    fn greatest(&self, selection: &Bits) -> Result<Option<u64>, NoMemory>
+        requires { length self.now.entries ≡ length selection.now.bits }
+        ensures greatest { IfOk result (IsGreatestOf (values_at selection.now.bits self.now.entries)) }
+        ensures succeeds { IsTrue E.works_on_spans → IsOk result }
+    {
+        self.find_extreme(selection, Extreme::Greatest)
     }
 
     fn not_null(&self) -> &Bits {

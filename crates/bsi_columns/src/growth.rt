@@ -15,7 +15,7 @@ pub(crate) fn reserve_each<E: Encoding>(components: &mut Vec<E>, more: u64) -> R
     requires { All (λ c. length (E.digits c) + more ≤ max_len) components.old.items }
     ensures digits { map E.digits components.new.items ≡ map E.digits components.old.items }
     ensures bases { map E.base_of components.new.items ≡ map E.base_of components.old.items }
-    ensures kept { (i : ℕ) →
+    ensures no_less { (i : ℕ) →
         slice_index (map E.room_of components.old.items) i
         ≤ slice_index (map E.room_of components.new.items) i }
     ensures ok { OnOk result ((i : ℕ) → i < length components.old.items →
@@ -84,11 +84,11 @@ pub(crate) fn push_blocks<E: Encoding>(components: &mut Vec<E>, bases: &Bases, n
         ≤ slice_index (map E.room_of components.new.items) i + length numbers.now }
 {
     // Of each number what is left above the digits that were appended.
-    let mut rests = [0; MAX_BLOCK];
-    rests[..numbers.len()].copy_from_slice(numbers);
+    let mut quotients = [0; MAX_BLOCK];
+    quotients[..numbers.len()].copy_from_slice(numbers);
     for i in 0..bases.len() {
         let component = &mut components[i as usize];
-        push_block(component, bases, i, numbers, &mut rests);
+        push_block(component, bases, i, numbers, &mut quotients);
     }
 }
 
@@ -114,14 +114,14 @@ pub(crate) fn push_all_digits<E: Encoding>(components: &mut Vec<E>, others: &[E]
     }
 }
 
-/// Appends to a component its digits of a block of at most 64 numbers, into room that is already there. The rests are
-/// the quotients of the numbers by the weight of that component, and become those by the weight of the next one.
+/// Appends to a component its digits of a block of at most 64 numbers, into room that is already there. The
+/// quotients are those of the numbers by the weight of that component, and become those by the weight of the next one.
 fn push_block<E: Encoding>(
     component: &mut E,
     bases: &Bases,
     i: u32,
     numbers: &[u64],
-    rests: &mut [u64; MAX_BLOCK],
+    quotients: &mut [u64; MAX_BLOCK],
 )
     requires within { i < length bases.now }
     requires base { E.base_of component.old ≡ slice_index bases.now i }
@@ -129,24 +129,24 @@ fn push_block<E: Encoding>(
     requires room { length numbers.now ≤ E.room_of component.old }
     requires below { (r : ℕ) → r < length numbers.now →
         slice_index numbers.now r < product bases.now }
-    requires rests { AreQuotients numbers.now (weight bases.now i) rests.old }
+    requires quotients { AreQuotients numbers.now (weight bases.now i) quotients.old }
     ensures digits { E.digits component.new
         ≡ E.digits component.old ++ map (λ n. digit_of bases.now n i) numbers.now }
     ensures base { E.base_of component.new ≡ E.base_of component.old }
     ensures room { E.room_of component.old ≤ E.room_of component.new + length numbers.now }
-    ensures rests { AreQuotients numbers.now (weight bases.now (i + 1)) rests.new }
+    ensures quotients { AreQuotients numbers.now (weight bases.now (i + 1)) quotients.new }
 {
     let mut digits = [0; MAX_BLOCK];
-    write_digits(bases, i, numbers, rests, &mut digits[..numbers.len()]);
+    write_digits(bases, i, numbers, quotients, &mut digits[..numbers.len()]);
     component.push_block_reserved(&digits[..numbers.len()]);
 }
 
-/// Writes for each number its digit of component `i`. The rests are as `push_block` has them.
+/// Writes for each number its digit of component `i`. The quotients are as `push_block` has them.
 fn write_digits(
     bases: &Bases,
     i: u32,
     numbers: &[u64],
-    rests: &mut [u64; MAX_BLOCK],
+    quotients: &mut [u64; MAX_BLOCK],
     digits: &mut [u32],
 )
     requires within { i < length bases.now }
@@ -154,40 +154,40 @@ fn write_digits(
     requires same { length digits.old ≡ length numbers.now }
     requires below { (r : ℕ) → r < length numbers.now →
         slice_index numbers.now r < product bases.now }
-    requires rests { AreQuotients numbers.now (weight bases.now i) rests.old }
+    requires quotients { AreQuotients numbers.now (weight bases.now i) quotients.old }
     ensures digits { digits.new ≡ map (λ n. digit_of bases.now n i) numbers.now }
     ensures below { (r : ℕ) → r < length numbers.now →
         slice_index digits.new r < slice_index bases.now i }
-    ensures rests { AreQuotients numbers.now (weight bases.now (i + 1)) rests.new }
+    ensures quotients { AreQuotients numbers.now (weight bases.now (i + 1)) quotients.new }
 {
     let base = bases.base(i);
     let places = base.trailing_zeros();
     // A digit under a power of two takes no multiplication. This is not `is_power_of_two`, since the kit has no lemma
     // from that to a power.
     if base == 1 << places {
-        split_rests(places, rests, digits);
+        split_quotients(places, quotients, digits);
         return;
     }
     for (r, number) in numbers.iter().enumerate() {
-        let DigitStep { digit, above } = bases.next_digit(*number, i, rests[r]);
+        let DigitStep { digit, above } = bases.next_digit(*number, i, quotients[r]);
         digits[r] = digit;
-        rests[r] = above;
+        quotients[r] = above;
     }
 }
 
-/// Writes for each digit the lowest binary places of its rest, and leaves the rest what is above them.
-fn split_rests(places: u32, rests: &mut [u64; MAX_BLOCK], digits: &mut [u32])
+/// Writes for each digit the lowest binary places of its quotient, and leaves the quotient what is above them.
+fn split_quotients(places: u32, quotients: &mut [u64; MAX_BLOCK], digits: &mut [u32])
     requires few { length digits.old ≤ max_block }
     requires places { places < 32 }
     ensures long { length digits.new ≡ length digits.old }
     ensures digits { (r : ℕ) → r < length digits.old →
-        slice_index digits.new r ≡ slice_index rests.old r % 2 ^ places }
-    ensures rests { (r : ℕ) → r < length digits.old →
-        slice_index rests.new r ≡ slice_index rests.old r / 2 ^ places }
+        slice_index digits.new r ≡ slice_index quotients.old r % 2 ^ places }
+    ensures quotients { (r : ℕ) → r < length digits.old →
+        slice_index quotients.new r ≡ slice_index quotients.old r / 2 ^ places }
 {
     let lowest = (1 << places) - 1;
     for r in 0..digits.len() {
-        digits[r] = (rests[r] & lowest) as u32;
-        rests[r] >>= places;
+        digits[r] = (quotients[r] & lowest) as u32;
+        quotients[r] >>= places;
     }
 }

@@ -4,7 +4,7 @@ use Rattle.std.proofs.lemmas.List.{length-map, get_or-map, map-append, get_or_pa
 use Rattle.std.proofs.lemmas.List.FromFn.{fill_by_all}
 use Rattle.std.proofs.lemmas.Bool.{cases_lt}
 use Rattle.bsi_bits.specs.BitList.{BitList}
-use Rattle.bsi_words.specs.Places.{IsEncoded}
+use Rattle.bsi_kernels.specs.Places.{IsEncoded}
 use Rattle.bsi_components.specs.Bitmaps.{row, digits_by}
 use Rattle.bsi_bits.specs.BitLists.{bits_at, no_bits}
 
@@ -23,7 +23,7 @@ module _ (holds : ℕ → ℕ → Bool) (rs : List BitList) (ds : List ℕ) (enc
   -- digits that are found by their rows are those of the bitmaps
   pub digits_are : (digit : List Bool → ℕ) → 0 < length rs → ((k : ℕ) → k < length ds → digit (row rs k) ≡ get_or ds k 0) → ds ≡ digits_by digit rs
   unfolding digits_by
-  digits_are digit some found = fill_by_all (λ k. digit (row rs k)) ds (length (bits_at rs 0)) 0 (sym (length-bits_at 0 some)) (λ k below. sym (found k (omega (arith, length-bits_at 0 some))))
+  digits_are digit some selection = fill_by_all (λ k. digit (row rs k)) ds (length (bits_at rs 0)) 0 (sym (length-bits_at 0 some)) (λ k below. sym (selection k (omega (arith, length-bits_at 0 some))))
 
 -- bitmaps with more bits are those of more digits
 pub encoded_more : (holds : ℕ → ℕ → Bool) (old new : List BitList) (ds block : List ℕ) → IsEncoded holds old ds → length new ≡ length old

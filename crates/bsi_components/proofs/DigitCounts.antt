@@ -1,4 +1,4 @@
--- How many rows of a found set have a digit that passes a test.
+-- How many rows of a selection have a digit that passes a test.
 use Rattle.std.proofs.Common.{◌≡◌, ℕ, ◌+◌, ◌<◌, ◌≤◌, suc, Bool, true, false, cond, List, [], ◌∷◌, length, get_or, ap, ap₂, sym, ◌∙◌, refl, arith}
 use Rattle.std.specs.Prelude.{count_by, nat_eq, nat_lt, nat_le, ◌&&◌}
 use Rattle.std.specs.Simd.Lanes.{zip2}

@@ -10,7 +10,7 @@ use Rattle.bsi_bits.proofs.Pairs.{zip2-map_right}
 use Rattle.bsi_components.specs.Equality.{is_among}
 use Rattle.bsi_components.specs.Component.{count_where}
 use Rattle.bsi_components.proofs.DigitCounts.{where_none, where_split, where_same, where_parts}
-use Rattle.bsi_words.proofs.DigitMaps.{zip2_maps, map_map, same_tests, map_same, same_steps, sum_parts, same_sums, zero_sum}
+use Rattle.bsi_kernels.proofs.DigitMaps.{zip2_maps, map_map, same_tests, map_same, same_steps, sum_parts, same_sums, zero_sum}
 
 zero_test : (v : ℕ) → v ≤ 1 → not (v == 1) ≡ (v == 0)
 zero_test v most = grind (arith, nat_tests)
@@ -24,8 +24,8 @@ zero_step true v most = zero_test v most
 zero_step false v most = refl
 
 -- the rows of a set that have it
-pub keep_zero : (rows : List Bool) (ds : List ℕ) → ((k : ℕ) → get_or ds k 0 ≤ 1) → zip2 without rows (map (λ v. v == 1) ds) ≡ zip2 (λ f v. f && (v == 0)) rows ds
-keep_zero rows ds most =
+pub and_zero : (rows : List Bool) (ds : List ℕ) → ((k : ℕ) → get_or ds k 0 ≤ 1) → zip2 without rows (map (λ v. v == 1) ds) ≡ zip2 (λ f v. f && (v == 0)) rows ds
+and_zero rows ds most =
     zip2-map_right without (λ v. v == 1) rows ds
     ∙ same_steps (λ f v. without f (v == 1)) (λ f v. f && (v == 0)) 1 zero_step rows ds most
 
@@ -51,20 +51,20 @@ among_rest : (d base v : ℕ) → v ≤ base - 1 → 1 ≤ base → cond (nat_le
 among_rest d base v most some = grind (arith, nat_tests)
 
 -- rows are counted digit by digit
-module _ (found : List Bool) (ds : List ℕ) where
-  pub among_start : (from : ℕ) → count_where (is_among from from) found ds ≡ 0
-  among_start from = where_none (is_among from from) (among_none from) found ds
+module _ (selection : List Bool) (ds : List ℕ) where
+  pub among_start : (from : ℕ) → count_where (is_among from from) selection ds ≡ 0
+  among_start from = where_none (is_among from from) (among_none from) selection ds
 
-  pub among_next : (from j : ℕ) → from ≤ j → count_where (is_among from (j + 1)) found ds ≡ count_where (is_among from j) found ds + count_where (λ v. v == j) found ds
-  among_next from j within = where_split (is_among from j) (λ v. v == j) (is_among from (j + 1)) (λ v. among_one from j v within) found ds
+  pub among_next : (from j : ℕ) → from ≤ j → count_where (is_among from (j + 1)) selection ds ≡ count_where (is_among from j) selection ds + count_where (λ v. v == j) selection ds
+  among_next from j within = where_split (is_among from j) (λ v. v == j) (is_among from (j + 1)) (λ v. among_one from j v within) selection ds
 
-  pub among_first : (d : ℕ) → count_where (is_among 0 (d + 1)) found ds ≡ count_where (λ v. nat_le v d) found ds
-  among_first d = where_same (is_among 0 (d + 1)) (λ v. nat_le v d) (among_least d) found ds
+  pub among_first : (d : ℕ) → count_where (is_among 0 (d + 1)) selection ds ≡ count_where (λ v. nat_le v d) selection ds
+  among_first d = where_same (is_among 0 (d + 1)) (λ v. nat_le v d) (among_least d) selection ds
 
-  pub among_last : (d base : ℕ) → 1 ≤ base → length found ≡ length ds → ((k : ℕ) → get_or ds k 0 ≤ base - 1)
-      → count_where (λ v. nat_le v d) found ds + count_where (is_among (d + 1) base) found ds ≡ count_by (λ b. b) found
+  pub among_last : (d base : ℕ) → 1 ≤ base → length selection ≡ length ds → ((k : ℕ) → get_or ds k 0 ≤ base - 1)
+      → count_where (λ v. nat_le v d) selection ds + count_where (is_among (d + 1) base) selection ds ≡ count_by (λ b. b) selection
   among_last d base some same most =
-      where_parts (λ v. nat_le v d) (is_among (d + 1) base) (base - 1) (λ v within. among_rest d base v within some) found ds same most
+      where_parts (λ v. nat_le v d) (is_among (d + 1) base) (base - 1) (λ v within. among_rest d base v within some) selection ds same most
 
 past_test : (d base v : ℕ) → v ≤ base - 1 → 1 ≤ base → not (is_among (d + 1) base v) ≡ nat_le v d
 past_test d base v most some = grind (arith, nat_tests)
@@ -79,27 +79,27 @@ lower_more : (j v : ℕ) → cond (nat_lt v (j + 1)) v 0 ≡ cond (v == j) j 0 +
 lower_more j v = grind (arith, nat_tests)
 
 -- a sum of the digits below j grows by j for each row that has it
-pub lower_sum_more : (j : ℕ) (found : List Bool) (ds : List ℕ) → sum_by (λ v. cond (nat_lt v j) v 0) (items_where_true found ds) + j * count_by (λ b. b) (zip2 ◌&&◌ found (map (λ v. v == j) ds)) ≡ sum_by (λ v. cond (nat_lt v (j + 1)) v 0) (items_where_true found ds)
-lower_sum_more j found ds =
-    let n = count_by (λ b. b) (zip2 (λ b v. b && (v == j)) found ds) in
-    let s = sum_by (λ v. cond (nat_lt v j) v 0) (items_where_true found ds) in
+pub lower_sum_more : (j : ℕ) (selection : List Bool) (ds : List ℕ) → sum_by (λ v. cond (nat_lt v j) v 0) (items_where_true selection ds) + j * count_by (λ b. b) (zip2 ◌&&◌ selection (map (λ v. v == j) ds)) ≡ sum_by (λ v. cond (nat_lt v (j + 1)) v 0) (items_where_true selection ds)
+lower_sum_more j selection ds =
+    let n = count_by (λ b. b) (zip2 (λ b v. b && (v == j)) selection ds) in
+    let s = sum_by (λ v. cond (nat_lt v j) v 0) (items_where_true selection ds) in
     let swap : s + j * n ≡ n * j + s = omega arith in
-    ap (λ bits. s + j * count_by (λ b. b) bits) (zip2-map_right ◌&&◌ (λ v. v == j) found ds)
+    ap (λ bits. s + j * count_by (λ b. b) bits) (zip2-map_right ◌&&◌ (λ v. v == j) selection ds)
     ∙ swap
-    ∙ sym (sum_parts (λ b v. b && (v == j)) j (λ v. cond (nat_lt v j) v 0) (λ v. cond (nat_lt v (j + 1)) v 0) (λ v. refl) (lower_more j) found ds)
+    ∙ sym (sum_parts (λ b v. b && (v == j)) j (λ v. cond (nat_lt v j) v 0) (λ v. cond (nat_lt v (j + 1)) v 0) (λ v. refl) (lower_more j) selection ds)
 
 none_lower : (v : ℕ) → cond (nat_lt v 1) v 0 ≡ 0
 none_lower v = grind (arith, nat_tests)
 
-pub lower_sum_none : (found : List Bool) (ds : List ℕ) → sum_by (λ v. cond (nat_lt v 1) v 0) (items_where_true found ds) ≡ 0
-lower_sum_none found ds = zero_sum (λ v. cond (nat_lt v 1) v 0) none_lower found ds
+pub lower_sum_none : (selection : List Bool) (ds : List ℕ) → sum_by (λ v. cond (nat_lt v 1) v 0) (items_where_true selection ds) ≡ 0
+lower_sum_none selection ds = zero_sum (λ v. cond (nat_lt v 1) v 0) none_lower selection ds
 
 all_lower : (base v : ℕ) → 1 ≤ base → v ≤ base - 1 → cond (nat_lt v base) v 0 ≡ v
 all_lower base v some most = grind (arith, nat_tests)
 
-pub lower_sum_all : (base : ℕ) (found : List Bool) (ds : List ℕ) → 1 ≤ base → ((k : ℕ) → get_or ds k 0 ≤ base - 1) → sum_by (λ v. cond (nat_lt v base) v 0) (items_where_true found ds) ≡ sum_by (λ v. v) (items_where_true found ds)
-lower_sum_all base found ds some most =
-    same_sums (λ v. cond (nat_lt v base) v 0) (λ v. v) (base - 1) (λ v within. all_lower base v some within) found ds most
+pub lower_sum_all : (base : ℕ) (selection : List Bool) (ds : List ℕ) → 1 ≤ base → ((k : ℕ) → get_or ds k 0 ≤ base - 1) → sum_by (λ v. cond (nat_lt v base) v 0) (items_where_true selection ds) ≡ sum_by (λ v. v) (items_where_true selection ds)
+lower_sum_all base selection ds some most =
+    same_sums (λ v. cond (nat_lt v base) v 0) (λ v. v) (base - 1) (λ v within. all_lower base v some within) selection ds most
 
 -- a product of a digit and a count stays small
 pub small_product : (j n : ℕ) → j ≤ 1024 → n < 2 ^ 64 → j * n ≤ 1024 * 2 ^ 64

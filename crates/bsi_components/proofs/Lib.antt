@@ -2,9 +2,9 @@ pub mod BitmapDigits
 pub mod Built
 pub mod DigitCounts
 pub mod DigitOrders
-pub mod EndRows
+pub mod ExtremeRows
 pub mod EqualityReads
-pub mod FoundDigits
+pub mod SelectedDigits
 pub mod MarkedDigits
 pub mod PlaceCounts
 pub mod PlaceNumbers

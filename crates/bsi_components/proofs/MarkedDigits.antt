@@ -3,9 +3,9 @@ use Rattle.std.proofs.Common.{◌≡◌, ℕ, zero, suc, ◌+◌, ◌-◌, ◌<�
 use Rattle.std.proofs.lemmas.Bool.{cases_eq}
 use Rattle.bsi_bits.specs.BitList.{BitList}
 use Rattle.bsi_bits.specs.BitLists.{bits_at}
-use Rattle.bsi_words.specs.Places.{then_places, IsCount}
-use Rattle.bsi_words.proofs.PlaceBitmaps.{own_test, count_same}
-use Rattle.bsi_components.specs.Bitmaps.{row, kept_places}
+use Rattle.bsi_kernels.specs.Places.{then_places, IsCount}
+use Rattle.bsi_kernels.proofs.PlaceBitmaps.{own_test, count_same}
+use Rattle.bsi_components.specs.Bitmaps.{row, stored_places}
 use Rattle.bsi_components.specs.Marked.{last_like, digits_in, shows, IsMarked, IsMarking}
 use Rattle.bsi_components.proofs.BitmapDigits.{length-bits_at, row_bits, digits_are, encoded_none, encoded_more, encoded_same, below_more}
 
@@ -31,7 +31,7 @@ module _ {first : ℕ → ℕ} {marks : ℕ → ℕ → Bool} (sound : IsMarking
         | inl same ↦
             ap (λ b. cond b w rest) (like_own mark (get_or bits n false) (bit ∙ ap (marks w) same)) ∙ sym same
         | inr apart ↦
-            ap (λ b. cond b w rest) (unlike_own mark (get_or bits n false) (bit ∙ sound.tells v w (omega arith)))
+            ap (λ b. cond b w rest) (unlike_own mark (get_or bits n false) (bit ∙ sound.distinguishes v w (omega arith)))
             ∙ like_digit base v bits n (omega arith) (λ i within. each i (omega arith))
       ]
 
@@ -60,7 +60,7 @@ module _ {first : ℕ → ℕ} {marks : ℕ → ℕ → Bool} (sound : IsMarking
 
 module _ {first : ℕ → ℕ} {marks : ℕ → ℕ → Bool} where
   -- no digits in empty bitmaps
-  pub marked_none : (base : ℕ) (rs : List BitList) → 2 ≤ base → base ≤ 1024 → IsCount base (base - first base) (length rs) → length rs ≡ base - first base + kept_places base
+  pub marked_none : (base : ℕ) (rs : List BitList) → 2 ≤ base → base ≤ 1024 → IsCount base (base - first base) (length rs) → length rs ≡ base - first base + stored_places base
       → ((j : ℕ) → bits_at rs j ≡ []) → IsMarked first marks base rs []
   marked_none base rs least most count many empty = record {
     count = count;
@@ -101,11 +101,11 @@ module _ {first : ℕ → ℕ} {marks : ℕ → ℕ → Bool} where
     }
 
   -- the digits of one component behind those of another of the same base
-  module _ {base other : ℕ} {old others : List BitList} {ds more : List ℕ} (marked : IsMarked first marks base old ds) (behind : IsMarked first marks other others more) (same_base : other ≡ base) where
+  module _ {base other : ℕ} {old others : List BitList} {ds more : List ℕ} (marked : IsMarked first marks base old ds) (appended : IsMarked first marks other others more) (same_base : other ≡ base) where
     pub marked_count : length others ≡ length old
-    marked_count = behind.many ∙ ap (λ b. b - first b + kept_places b) same_base ∙ sym marked.many
+    marked_count = appended.many ∙ ap (λ b. b - first b + stored_places b) same_base ∙ sym marked.many
 
     pub marked_joined : (new : List BitList) → length new ≡ length old → ((j : ℕ) → j < length old → bits_at new j ≡ bits_at old j ++ bits_at others j) → IsMarked first marks base new (ds ++ more)
     marked_joined new same joined =
-        marked_more marked new same more (λ k within. omega (arith, behind.below k, same_base)) (λ j below.
-        joined j below ∙ ap (λ bits. bits_at old j ++ bits) (behind.encoded.each j (omega (arith, below, marked_count)) ∙ ap (λ b. map (shows first marks b j) more) same_base))
+        marked_more marked new same more (λ k within. omega (arith, appended.below k, same_base)) (λ j below.
+        joined j below ∙ ap (λ bits. bits_at old j ++ bits) (appended.encoded.each j (omega (arith, below, marked_count)) ∙ ap (λ b. map (shows first marks b j) more) same_base))

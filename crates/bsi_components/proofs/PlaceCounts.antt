@@ -1,7 +1,7 @@
 -- How many binary places the digits below a base take.
 use Rattle.std.proofs.Common.{◌≡◌, ℕ, zero, suc, ◌+◌, ◌-◌, ◌*◌, ◌^◌, ◌<◌, ◌≤◌, Bool, true, false, inl, inr, arith, refl, subst}
 use Rattle.std.specs.Prelude.{nat_lt, if◌then◌else◌}
-use Rattle.bsi_components.specs.Bitmaps.{kept_places}
+use Rattle.bsi_components.specs.Bitmaps.{stored_places}
 use Rattle.std.specs.Int.Count.{count_leading_zeros}
 use Rattle.std.proofs.Math.Nat.{pow-le-pow_right}
 use Rattle.std.proofs.lemmas.Bool.{cases_lt}
@@ -36,8 +36,8 @@ count_enough base is_base =
     subst (λ (k : ℕ). base ≤ 2 ^ k) same (omega (arith, length_is.2, is_base.0))
 
 -- all places are kept if any are
-pub kept_all : (base : ℕ) → 0 < kept_places base → kept_places base ≡ place_count base
-kept_all base some = chosen (nat_lt base 4) (place_count base) some
+pub stored_all : (base : ℕ) → 0 < stored_places base → stored_places base ≡ place_count base
+stored_all base some = chosen (nat_lt base 4) (place_count base) some
   where
     chosen : (b : Bool) (n : ℕ) → 0 < (if b then 0 else n) → (if b then 0 else n) ≡ n
     chosen true n some = absurd (omega arith)

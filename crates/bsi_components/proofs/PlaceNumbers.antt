@@ -15,9 +15,9 @@ use Rattle.std.proofs.lemmas.List.Sums.{sum_by-cons}
 use Rattle.std.proofs.Math.Nat.{mod-eq_of_lt}
 use Rattle.bsi_bits.specs.BitList.{BitList, without}
 use Rattle.bsi_bits.specs.BitLists.{bits_at, no_bits}
-use Rattle.bsi_words.specs.Places.{has_place, IsEncoded}
-use Rattle.bsi_words.proofs.DigitMaps.{zip2_maps, map_map, same_tests, map_same}
-use Rattle.bsi_components.specs.PlaceNumbers.{number_at, numbers_in, AreLevel, HasPast}
+use Rattle.bsi_kernels.specs.Places.{has_place, IsEncoded}
+use Rattle.bsi_kernels.proofs.DigitMaps.{zip2_maps, map_map, same_tests, map_same}
+use Rattle.bsi_components.specs.PlaceNumbers.{number_in, numbers_in, AreLevel, HasNumberPastBase}
 
 abbrev bit_value : Bool → ℕ
 bit_value bit = if bit then 1 else 0
@@ -30,22 +30,22 @@ small_bit true = omega arith
 small_bit false = omega arith
 
 -- it is below two to the power of the number of bitmaps
-pub number_below : (places : List BitList) (r : ℕ) → number_at places r < 2 ^ length places
-unfolding number_at
+pub number_below : (places : List BitList) (r : ℕ) → number_in places r < 2 ^ length places
+unfolding number_in
 number_below [] r = omega arith
 number_below (s ∷ places) r = omega (arith, two_pow (length places), number_below places r, small_bit (get_or s.bits r false))
 
 -- binary place k of a number is the bit in bitmap k
-pub number_place : (places : List BitList) (r k : ℕ) → k < length places → has_place k (number_at places r) ≡ get_or (bits_at places k) r false
-unfolding number_at
+pub number_place : (places : List BitList) (r k : ℕ) → k < length places → has_place k (number_in places r) ≡ get_or (bits_at places k) r false
+unfolding number_in
 number_place [] r k within = absurd (omega arith)
-number_place (s ∷ places) r zero within = lowest (get_or s.bits r false) (number_at places r)
+number_place (s ∷ places) r zero within = lowest (get_or s.bits r false) (number_in places r)
   where
     lowest : (b : Bool) (m : ℕ) → (bit_at (bit_value b + 2 * m) 0 == 1) ≡ b
     lowest true m = grind (arith, nat_tests)
     lowest false m = grind (arith, nat_tests)
 number_place (s ∷ places) r (suc k) within =
-    ap (λ x. x == 1) (bit_at-suc (bit_value (get_or s.bits r false) + 2 * number_at places r) k ∙ ap (λ x. bit_at x k) (half (get_or s.bits r false) (number_at places r)))
+    ap (λ x. x == 1) (bit_at-suc (bit_value (get_or s.bits r false) + 2 * number_in places r) k ∙ ap (λ x. bit_at x k) (half (get_or s.bits r false) (number_in places r)))
     ∙ number_place places r k (omega arith)
   where
     half : (b : Bool) (m : ℕ) → (bit_value b + 2 * m) / 2 ≡ m
@@ -54,11 +54,11 @@ number_place (s ∷ places) r (suc k) within =
 -- there are as many numbers as bits
 pub length-numbers_in : (places : List BitList) → length (numbers_in places) ≡ length (bits_at places 0)
 unfolding numbers_in
-length-numbers_in places = length-map-range_with_len (number_at places) 0 (length (bits_at places 0))
+length-numbers_in places = length-map-range_with_len (number_in places) 0 (length (bits_at places 0))
 
-pub get_or-numbers_in : (places : List BitList) (r : ℕ) → r < length (bits_at places 0) → get_or (numbers_in places) r 0 ≡ number_at places r
+pub get_or-numbers_in : (places : List BitList) (r : ℕ) → r < length (bits_at places 0) → get_or (numbers_in places) r 0 ≡ number_in places r
 unfolding numbers_in
-get_or-numbers_in places r within = get_or-map-range_with_len (number_at places) 0 (length (bits_at places 0)) r r 0 within (omega arith)
+get_or-numbers_in places r within = get_or-map-range_with_len (number_in places) 0 (length (bits_at places 0)) r r 0 within (omega arith)
 
 pub numbers_below : (places : List BitList) (r : ℕ) → get_or (numbers_in places) r 0 < 2 ^ length places
 numbers_below places r = elim (cases_lt r (length (bits_at places 0))) [
@@ -72,8 +72,8 @@ unfolding numbers_in
 places_are places level = record {
   each = λ k within.
       let n = length (bits_at places 0) in
-      fill_by_all (λ r. has_place k (number_at places r)) (bits_at places k) n false (level.even k within) (λ r below. sym (number_place places r k within))
-      ∙ sym (maps_twice (number_at places) (has_place k) (range_with_len 0 n));
+      fill_by_all (λ r. has_place k (number_in places r)) (bits_at places k) n false (level.even k within) (λ r below. sym (number_place places r k within))
+      ∙ sym (maps_twice (number_in places) (has_place k) (range_with_len 0 n));
 }
   where
     maps_twice : (f : ℕ → ℕ) (g : ℕ → Bool) (xs : List ℕ) → map g (map f xs) ≡ map (λ x. g (f x)) xs
@@ -273,7 +273,7 @@ all_below base ns some none k = elim (cases_lt k (length ns)) [
 ]
 
 -- a row is
-pub one_past : (base : ℕ) (ns : List ℕ) → 0 < base → 0 < count_by (λ b. b) (map (nat_lt (base - 1)) ns) → HasPast base ns
+pub one_past : (base : ℕ) (ns : List ℕ) → 0 < base → 0 < count_by (λ b. b) (map (nat_lt (base - 1)) ns) → HasNumberPastBase base ns
 one_past base ns some counted =
     let one = one_counted (nat_lt (base - 1)) ns counted in
     (one.0, one.1, past (get_or ns one.0 0) one.2)
@@ -302,18 +302,18 @@ low_bit v = elim (cases_eq (v % 2) 1) [
   | inr other ↦ let off : has_place 0 v ≡ false = grind (arith, nat_tests) in let none : v % 2 ≡ 0 = omega arith in ap bit_value off ∙ sym none
 ]
 
-number_by : (places : List BitList) (r v : ℕ) → ((k : ℕ) → k < length places → get_or (bits_at places k) r false ≡ has_place k v) → number_at places r ≡ v % 2 ^ length places
-unfolding number_at
+number_by : (places : List BitList) (r v : ℕ) → ((k : ℕ) → k < length places → get_or (bits_at places k) r false ≡ has_place k v) → number_in places r ≡ v % 2 ^ length places
+unfolding number_in
 number_by [] r v same = omega arith
 number_by (s ∷ places) r v same =
     let low : bit_value (get_or s.bits r false) ≡ v % 2 = ap bit_value (same 0 (omega arith)) ∙ low_bit v in
-    let rest : number_at places r ≡ v / 2 % 2 ^ length places = number_by places r (v / 2) (λ k within. same (suc k) (omega arith) ∙ ap (λ b. b == 1) (bit_at-suc v k)) in
+    let rest : number_in places r ≡ v / 2 % 2 ^ length places = number_by places r (v / 2) (λ k within. same (suc k) (omega arith) ∙ ap (λ b. b == 1) (bit_at-suc v k)) in
     omega (arith, low, rest, low_split v (2 ^ length places) (pow_pos (length places)), ap (λ n. v % n) (two_pow (length places)))
 
 pub numbers_are : (places : List BitList) (ds : List ℕ) → 0 < length places → IsEncoded has_place places ds → ((k : ℕ) → get_or ds k 0 < 2 ^ length places) → numbers_in places ≡ ds
 unfolding numbers_in
 numbers_are places ds some encoded below =
     let long : length ds ≡ length (bits_at places 0) = sym (ap length (encoded.each 0 some) ∙ length-map ds (has_place 0)) in
-    sym (fill_by_all (number_at places) ds (length (bits_at places 0)) 0 long (λ r within.
+    sym (fill_by_all (number_in places) ds (length (bits_at places 0)) 0 long (λ r within.
     sym (number_by places r (get_or ds r 0) (λ k inside. ap (λ bits. get_or bits r false) (encoded.each k inside) ∙ get_or-map (has_place k) ds r 0 false (omega (arith, within, long)))
     ∙ mod-eq_of_lt (below r))))

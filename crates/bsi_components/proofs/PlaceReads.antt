@@ -5,14 +5,14 @@ use Rattle.std.specs.Int.{bit_at}
 use Rattle.std.proofs.lemmas.List.{get_or-map}
 use Rattle.bsi_bits.specs.BitList.{BitList}
 use Rattle.bsi_bits.specs.Packed.{bit_of}
-use Rattle.bsi_words.proofs.BitmapReads.{read_bitmap}
-use Rattle.bsi_words.specs.Places.{has_place, IsEncoded}
-use Rattle.bsi_components.specs.Bitmaps.{kept_places}
+use Rattle.bsi_kernels.proofs.BitmapReads.{read_bitmap}
+use Rattle.bsi_kernels.specs.Places.{has_place, IsEncoded}
+use Rattle.bsi_components.specs.Bitmaps.{stored_places}
 use Rattle.bsi_components.specs.PlaceNumbers.{place_count}
 
 -- where places are kept, all are
-kept_within : (base n k : ℕ) → n ≡ kept_places base → 0 < n → k < place_count base → k < n
-kept_within base n k many some within = by _ many
+stored_within : (base n k : ℕ) → n ≡ stored_places base → 0 < n → k < place_count base → k < n
+stored_within base n k many some within = by _ many
   where
     by : (few : Bool) → n ≡ cond few 0 (place_count base) → k < n
     by true none = absurd (omega (arith, none, some))
@@ -25,12 +25,12 @@ word_bit words at r near =
     let place : r ≡ (64 * at + r) % 64 = omega arith in
     ap₂ (λ i p. bit_at (get_or words i 0) p == 1) word place
 
-module _ (places : List BitList) (digits : List ℕ) (base k : ℕ) (place : BitList) (encoded : IsEncoded has_place places digits) (many : length places ≡ kept_places base)
+module _ (places : List BitList) (digits : List ℕ) (base k : ℕ) (place : BitList) (encoded : IsEncoded has_place places digits) (many : length places ≡ stored_places base)
     (some : 0 < length places) (within : k < place_count base) (read : place ≡ get_or places k place) where
   -- the vector of a place, where places are kept
   place_is : place.bits ≡ map (has_place k) digits
   place_is =
-      let there = kept_within base (length places) k many some within in
+      let there = stored_within base (length places) k many some within in
       ap (λ v. v.bits) (read_bitmap places k place there read) ∙ encoded.each k there
 
   -- a row of it

@@ -6,7 +6,7 @@ use Rattle.std.specs.Simd.Lanes.{zip2}
 use Rattle.std.proofs.lemmas.Bool.Decides.{nat_tests}
 use Rattle.bsi_bits.specs.BitList.{without}
 use Rattle.bsi_bits.proofs.Pairs.{zip2-map_right}
-use Rattle.bsi_words.proofs.DigitMaps.{zip2_maps, map_map, same_tests, map_same, zip2_twice, same_steps, sum_parts, same_sums, zero_sum}
+use Rattle.bsi_kernels.proofs.DigitMaps.{zip2_maps, map_map, same_tests, map_same, zip2_twice, same_steps, sum_parts, same_sums, zero_sum}
 
 top_test : (d v : ℕ) → 0 < d → v ≤ d → not (nat_le v (d - 1)) ≡ (v == d)
 top_test d v some most = grind (arith, nat_tests)
@@ -40,18 +40,18 @@ top_step d some false v most = refl
 
 -- the rows of a set that have digit 0, one between, and the greatest
 module _ (top : ℕ) (rows : List Bool) (ds : List ℕ) (most : (k : ℕ) → get_or ds k 0 ≤ top) where
-  pub keep_least : zip2 ◌&&◌ rows (map (λ v. nat_le v 0) ds) ≡ zip2 (λ f v. f && (v == 0)) rows ds
-  keep_least =
+  pub and_least : zip2 ◌&&◌ rows (map (λ v. nat_le v 0) ds) ≡ zip2 (λ f v. f && (v == 0)) rows ds
+  and_least =
       zip2-map_right ◌&&◌ (λ v. nat_le v 0) rows ds
       ∙ same_steps (λ f v. f && nat_le v 0) (λ f v. f && (v == 0)) top (λ f v within. least_step f v) rows ds most
 
-  pub keep_between : (d : ℕ) → 0 < d → zip2 without (zip2 ◌&&◌ rows (map (λ v. nat_le v d) ds)) (map (λ v. nat_le v (d - 1)) ds) ≡ zip2 (λ f v. f && (v == d)) rows ds
-  keep_between d some =
+  pub and_between : (d : ℕ) → 0 < d → zip2 without (zip2 ◌&&◌ rows (map (λ v. nat_le v d) ds)) (map (λ v. nat_le v (d - 1)) ds) ≡ zip2 (λ f v. f && (v == d)) rows ds
+  and_between d some =
       zip2_twice ◌&&◌ without (λ v. nat_le v d) (λ v. nat_le v (d - 1)) rows ds
       ∙ same_steps (λ f v. without (f && nat_le v d) (nat_le v (d - 1))) (λ f v. f && (v == d)) top (λ f v within. between_step d some f v) rows ds most
 
-  pub keep_top : 0 < top → zip2 without rows (map (λ v. nat_le v (top - 1)) ds) ≡ zip2 (λ f v. f && (v == top)) rows ds
-  keep_top some =
+  pub and_greatest : 0 < top → zip2 without rows (map (λ v. nat_le v (top - 1)) ds) ≡ zip2 (λ f v. f && (v == top)) rows ds
+  and_greatest some =
       zip2-map_right without (λ v. nat_le v (top - 1)) rows ds
       ∙ same_steps (λ f v. without f (nat_le v (top - 1))) (λ f v. f && (v == top)) top (top_step top some) rows ds most
 
@@ -73,17 +73,17 @@ capped_more : (j v : ℕ) → min v (j + 1) ≡ cond (without true (nat_le v j))
 capped_more j v = grind (arith, nat_tests)
 
 -- a sum of digits, each up to j, grows by the rows that the bitmap of j does not have
-pub capped_sum_more : (j : ℕ) (found : List Bool) (ds : List ℕ) → sum_by (λ v. min v j) (items_where_true found ds) + count_by (λ b. b) (zip2 without found (map (λ v. nat_le v j) ds)) ≡ sum_by (λ v. min v (j + 1)) (items_where_true found ds)
-capped_sum_more j found ds =
-    let n = count_by (λ b. b) (zip2 (λ b v. without b (nat_le v j)) found ds) in
-    let s = sum_by (λ v. min v j) (items_where_true found ds) in
+pub capped_sum_more : (j : ℕ) (selection : List Bool) (ds : List ℕ) → sum_by (λ v. min v j) (items_where_true selection ds) + count_by (λ b. b) (zip2 without selection (map (λ v. nat_le v j) ds)) ≡ sum_by (λ v. min v (j + 1)) (items_where_true selection ds)
+capped_sum_more j selection ds =
+    let n = count_by (λ b. b) (zip2 (λ b v. without b (nat_le v j)) selection ds) in
+    let s = sum_by (λ v. min v j) (items_where_true selection ds) in
     let swap : s + n ≡ n * 1 + s = omega arith in
-    ap (λ bits. s + count_by (λ b. b) bits) (zip2-map_right without (λ v. nat_le v j) found ds)
+    ap (λ bits. s + count_by (λ b. b) bits) (zip2-map_right without (λ v. nat_le v j) selection ds)
     ∙ swap
-    ∙ sym (sum_parts (λ b v. without b (nat_le v j)) 1 (λ v. min v j) (λ v. min v (j + 1)) (λ v. refl) (capped_more j) found ds)
+    ∙ sym (sum_parts (λ b v. without b (nat_le v j)) 1 (λ v. min v j) (λ v. min v (j + 1)) (λ v. refl) (capped_more j) selection ds)
 
-pub capped_sum_none : (found : List Bool) (ds : List ℕ) → sum_by (λ v. min v 0) (items_where_true found ds) ≡ 0
-capped_sum_none found ds = zero_sum (λ v. min v 0) (λ v. omega arith) found ds
+pub capped_sum_none : (selection : List Bool) (ds : List ℕ) → sum_by (λ v. min v 0) (items_where_true selection ds) ≡ 0
+capped_sum_none selection ds = zero_sum (λ v. min v 0) (λ v. omega arith) selection ds
 
-pub capped_sum_all : (top : ℕ) (found : List Bool) (ds : List ℕ) → ((k : ℕ) → get_or ds k 0 ≤ top) → sum_by (λ v. min v top) (items_where_true found ds) ≡ sum_by (λ v. v) (items_where_true found ds)
-capped_sum_all top found ds most = same_sums (λ v. min v top) (λ v. v) top (λ v within. omega arith) found ds most
+pub capped_sum_all : (top : ℕ) (selection : List Bool) (ds : List ℕ) → ((k : ℕ) → get_or ds k 0 ≤ top) → sum_by (λ v. min v top) (items_where_true selection ds) ≡ sum_by (λ v. v) (items_where_true selection ds)
+capped_sum_all top selection ds most = same_sums (λ v. min v top) (λ v. v) top (λ v within. omega arith) selection ds most

@@ -31,19 +31,19 @@ first_of_two : (a b : ℕ) → a < 2 → b < 2 → min a b ≡ 1 → (a == 1) �
 first_of_two a b low high both = grind (arith, nat_tests, both)
 
 -- the word that is kept has the rows with the digit, and may have others past the last row
-module _ (digits : List ℕ) (d at : ℕ) (span : List ℕ) (k : ℕ) (kept : List ℕ) (within : k < length span)
+module _ (digits : List ℕ) (d at : ℕ) (span : List ℕ) (k : ℕ) (matched : List ℕ) (within : k < length span)
     (rows : (p : ℕ) → p < 64 * length span → bit_of span p ≡ true → 64 * at + p < length digits)
     (narrowed : (q : ℕ) → q < 64 → 64 * (at + k) + q < length digits
-    → bit_of kept q ≡ (bit_of (get_or span k 0 ∷ []) q && nat_eq (get_or digits (64 * (at + k) + q) 0) d)) where
+    → bit_of matched q ≡ (bit_of (get_or span k 0 ∷ []) q && nat_eq (get_or digits (64 * (at + k) + q) 0) d)) where
   read : (q : ℕ) → q < 64 → bit_of span (64 * k + q) ≡ true
-      → (bit_at (get_or kept 0 0) q == 1) ≡ (bit_of span (64 * k + q) && nat_eq (get_or digits (64 * at + (64 * k + q)) 0) d)
+      → (bit_at (get_or matched 0 0) q == 1) ≡ (bit_of span (64 * k + q) && nat_eq (get_or digits (64 * at + (64 * k + q)) 0) d)
   read q small set =
       let row : 64 * at + (64 * k + q) < length digits = rows (64 * k + q) (omega arith) set in
       let same : 64 * (at + k) + q ≡ 64 * at + (64 * k + q) = omega arith in
-      sym (first_place kept q small) ∙ narrowed q small (omega (arith, row))
+      sym (first_place matched q small) ∙ narrowed q small (omega (arith, row))
       ∙ ap₂ (λ b i. b && nat_eq (get_or digits i 0) d) (first_place (get_or span k 0 ∷ []) q small ∙ sym (word_place span k q small)) same
 
-  pub none_here : bit_and (get_or kept 0 0) (get_or span k 0) ≡ 0 → (p : ℕ) → 64 * k ≤ p → p < 64 * (k + 1) → bit_of span p ≡ true
+  pub none_here : bit_and (get_or matched 0 0) (get_or span k 0) ≡ 0 → (p : ℕ) → 64 * k ≤ p → p < 64 * (k + 1) → bit_of span p ≡ true
       → get_or digits (64 * at + p) 0 ≡ d → ⊥
   none_here none p low high set is =
       let q : ℕ = p - 64 * k in
@@ -51,21 +51,21 @@ module _ (digits : List ℕ) (d at : ℕ) (span : List ℕ) (k : ℕ) (kept : Li
       let there : p ≡ 64 * k + q = omega arith in
       let here : bit_of span (64 * k + q) ≡ true = ap (bit_of span) (sym there) ∙ set in
       let digit : get_or digits (64 * at + (64 * k + q)) 0 ≡ d = ap (λ i. get_or digits (64 * at + i) 0) (sym there) ∙ is in
-      let both : (bit_at (get_or kept 0 0) q == 1) ≡ true = read q small here ∙ ap₂ (λ b v. b && nat_eq v d) here digit ∙ grind (arith, nat_tests) in
-      clash (bit_at (get_or kept 0 0) q) (bit_at (get_or span k 0) q) both (sym (word_place span k q small) ∙ here)
-      (sym (bit_at_and (get_or kept 0 0) (get_or span k 0) q) ∙ ap (λ m. bit_at m q) none ∙ bit_at-zero q)
+      let both : (bit_at (get_or matched 0 0) q == 1) ≡ true = read q small here ∙ ap₂ (λ b v. b && nat_eq v d) here digit ∙ grind (arith, nat_tests) in
+      clash (bit_at (get_or matched 0 0) q) (bit_at (get_or span k 0) q) both (sym (word_place span k q small) ∙ here)
+      (sym (bit_at_and (get_or matched 0 0) (get_or span k 0) q) ∙ ap (λ m. bit_at m q) none ∙ bit_at-zero q)
 
-  pub some_here : get_or span k 0 < 2 ^ 64 → (bit_and (get_or kept 0 0) (get_or span k 0) ≡ 0 → ⊥)
+  pub some_here : get_or span k 0 < 2 ^ 64 → (bit_and (get_or matched 0 0) (get_or span k 0) ≡ 0 → ⊥)
       → HasRow (λ p. bit_of span p && nat_eq (get_or digits (64 * at + p) 0) d) (64 * length span)
   some_here fits some =
-      let m : ℕ = bit_and (get_or kept 0 0) (get_or span k 0) in
-      let lowest = bit_at-trailing_zeros w64 m (omega (arith, some)) (omega (arith, fits, and_le_r (get_or kept 0 0) (get_or span k 0))) in
+      let m : ℕ = bit_and (get_or matched 0 0) (get_or span k 0) in
+      let lowest = bit_at-trailing_zeros w64 m (omega (arith, some)) (omega (arith, fits, and_le_r (get_or matched 0 0) (get_or span k 0))) in
       let q : ℕ = trailing_zeros w64 m in
       let small : q < 64 = lowest.0 in
-      let both : min (bit_at (get_or kept 0 0) q) (bit_at (get_or span k 0) q) ≡ 1 = sym (bit_at_and (get_or kept 0 0) (get_or span k 0) q) ∙ lowest.1 in
+      let both : min (bit_at (get_or matched 0 0) q) (bit_at (get_or span k 0) q) ≡ 1 = sym (bit_at_and (get_or matched 0 0) (get_or span k 0) q) ∙ lowest.1 in
       let set : bit_of span (64 * k + q) ≡ true = word_place span k q small
-      ∙ second_of (bit_at (get_or kept 0 0) q) (bit_at (get_or span k 0) q) (bit_at-lt _ q) (bit_at-lt _ q) both in
-      (64 * k + q, omega (arith, small), sym (read q small set) ∙ first_of_two (bit_at (get_or kept 0 0) q) (bit_at (get_or span k 0) q) (bit_at-lt _ q) (bit_at-lt _ q) both)
+      ∙ second_of (bit_at (get_or matched 0 0) q) (bit_at (get_or span k 0) q) (bit_at-lt _ q) (bit_at-lt _ q) both in
+      (64 * k + q, omega (arith, small), sym (read q small set) ∙ first_of_two (bit_at (get_or matched 0 0) q) (bit_at (get_or span k 0) q) (bit_at-lt _ q) (bit_at-lt _ q) both)
 
 equal_of : (b : Bool) (v d : ℕ) → (b && nat_eq v d) ≡ true → (b ≡ true) × (v ≡ d)
 equal_of b v d both = grind (arith, nat_tests, both)

@@ -1,7 +1,7 @@
--- Equality encoding: a bitmap for each digit says which rows have it.
+-- Equality encoding: the first digit with a bitmap (`first_stored`), and which digits are in an interval (`is_among`).
 use Rattle.std.specs.Prelude.{ℕ, ◌==◌, ◌&&◌, Bool, nat_le, nat_lt, if◌then◌else◌}
 
--- the first digit that has a bitmap: base 2 stores that of digit 1 alone
+-- the first digit that has a bitmap; base 2 stores the bitmap of digit 1 alone
 abbrev pub first_stored : ℕ → ℕ
 first_stored base = if base == 2 then 1 else 0
 

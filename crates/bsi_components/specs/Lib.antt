@@ -1,6 +1,6 @@
 pub mod Bitmaps
 pub mod Component
-pub mod EndDigits
+pub mod ExtremeDigits
 pub mod Equality
 pub mod Marked
 pub mod PlaceNumbers

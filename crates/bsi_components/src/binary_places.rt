@@ -1,12 +1,12 @@
-//! Components by the binary places of their digits: what each place is, and the component that is made of all of them.
+//! The trait `BinaryPlaces`: a component gives the binary places of its digits, and is made of all of them.
 
 ghost use Rattle.std.specs.Prelude.{◌≡◌, ℕ, ◌+◌, ◌*◌, ◌<◌, ◌≤◌, ◌==◌, length, map, slice_index, IfNone, IfOk, IfSome, OnSome};
 ghost use Rattle.std.specs.Int.{bit_at};
 ghost use Rattle.bsi_bits.specs.BitList.{max_block, word_count};
 ghost use Rattle.bsi_bits.specs.Packed.{bit_of};
 ghost use Rattle.bsi_digits.specs.Digits.{IsBase};
-ghost use Rattle.bsi_words.specs.Places.{has_place};
-ghost use Rattle.bsi_components.specs.PlaceNumbers.{numbers_in, place_count, AreLevel, HasPast};
+ghost use Rattle.bsi_kernels.specs.Places.{has_place};
+ghost use Rattle.bsi_components.specs.PlaceNumbers.{numbers_in, place_count, AreLevel, HasNumberPastBase};
 
 use crate::{Encoding, NoMemory};
 use bsi_bits::Bits;
@@ -46,5 +46,5 @@ pub trait BinaryPlaces: Encoding {
             × (Self.digits c ≡ numbers_in places.items))) }
         ensures below { IfOk result (λ made. OnSome made ((k : ℕ) →
             slice_index (numbers_in places.items) k < base)) }
-        ensures none { IfOk result (λ made. IfNone made (HasPast base (numbers_in places.items))) };
+        ensures none { IfOk result (λ made. IfNone made (HasNumberPastBase base (numbers_in places.items))) };
 }

@@ -1,23 +1,23 @@
-//! The bitmaps of a component, made of the binary places of its digits.
+//! Makes the bitmaps of a component from the binary places of its digits (`make_bitmaps`).
 //!
 //! Each bitmap is made by one pass over the places, as a comparison with its digit. A digit that is not below the base
-//! is found first.
+//! is refused first.
 
 ghost use Rattle.std.specs.Prelude.{◌≡◌, ℕ, ◌+◌, ◌-◌, ◌*◌, ◌^◌, ◌<◌, ◌≤◌, ◌==◌, ◌&&◌, ◌||◌, ◌++◌, if◌then◌else◌, length, map, nat_le, nat_lt, true, slice_index, vec_capacity, IfOk, IsTrue, IsFalse};
 ghost use Rattle.std.specs.Simd.Lanes.{zip2};
 ghost use Rattle.bsi_bits.specs.BitList.{without};
 ghost use Rattle.bsi_bits.specs.BitLists.{bits_at};
 ghost use Rattle.bsi_digits.specs.Digits.{IsBase};
-ghost use Rattle.bsi_words.specs.Places.{has_place, max_digit_places, min_base_with_places};
-ghost use Rattle.bsi_components.specs.PlaceNumbers.{numbers_in, place_count, AreLevel, HasPast};
+ghost use Rattle.bsi_kernels.specs.Places.{has_place, max_digit_places, min_base_with_places};
+ghost use Rattle.bsi_components.specs.PlaceNumbers.{numbers_in, place_count, AreLevel, HasNumberPastBase};
 
 use crate::NoMemory;
 use crate::marking::Marking;
 use bsi_bits::Bits;
 use std::alloc::Global;
 
-/// Takes one more place, from the least up, into the rows whose number is above a constant. `is_one` tells whether the
-/// place is 1 in the constant.
+/// Compares one more place, from the least up, for the rows whose number is above a constant. `is_one` tells whether
+/// the place is 1 in the constant.
 fn step_above(rows: &mut Bits, place: &Bits, is_one: bool)
     requires { length rows.old.bits ≡ length place.now.bits }
     ensures { rows.new.bits ≡ (if is_one then zip2 ◌&&◌ rows.old.bits place.now.bits else zip2 ◌||◌
@@ -30,7 +30,7 @@ fn step_above(rows: &mut Bits, place: &Bits, is_one: bool)
     }
 }
 
-/// Takes one more place into the rows whose number is a constant.
+/// Compares one more place for the rows whose number is a constant.
 fn step_equal(rows: &mut Bits, place: &Bits, is_one: bool)
     requires { length rows.old.bits ≡ length place.now.bits }
     ensures { rows.new.bits ≡ (if is_one then zip2 ◌&&◌ rows.old.bits place.now.bits else zip2
@@ -79,7 +79,7 @@ pub(crate) fn are_below(alloc: Global, places: &[Bits], base: u32) -> Result<boo
     requires enough { base ≤ 2 ^ length places.now }
     ensures all { IfOk result (λ all. IsTrue all →
         (k : ℕ) → slice_index (numbers_in places.now) k < base) }
-    ensures past { IfOk result (λ all. IsFalse all → HasPast base (numbers_in places.now)) }
+    ensures past { IfOk result (λ all. IsFalse all → HasNumberPastBase base (numbers_in places.now)) }
 {
     let past = rows_above(alloc, places, base - 1)?;
     Ok(past.count() == 0)
@@ -110,13 +110,13 @@ pub(crate) fn make_bitmaps<M: Marking>(
     Ok(made)
 }
 
-/// Puts the places behind the bitmaps if any are kept, into room that is already there.
-pub(crate) fn with_places(mut made: Vec<Bits>, mut places: Vec<Bits>, kept: usize) -> Vec<Bits>
-    requires room { length made.items + kept ≤ vec_capacity made }
-    requires all { 0 < kept → kept ≡ length places.items }
-    ensures { result.items ≡ (if nat_lt 0 kept then made.items ++ places.items else made.items) }
+/// Appends the places to the bitmaps if any are stored, into room that is already there.
+pub(crate) fn with_places(mut made: Vec<Bits>, mut places: Vec<Bits>, stored: usize) -> Vec<Bits>
+    requires room { length made.items + stored ≤ vec_capacity made }
+    requires all { 0 < stored → stored ≡ length places.items }
+    ensures { result.items ≡ (if nat_lt 0 stored then made.items ++ places.items else made.items) }
 {
-    if kept > 0 {
+    if stored > 0 {
         // There is room, so no memory is asked for.
         made.append(&mut places).unwrap();
     }

@@ -5,13 +5,13 @@ ghost use Rattle.std.specs.Prelude.{◌≡◌, ℕ, ◌+◌, ◌-◌, ◌^◌, �
 ghost use Rattle.bsi_bits.specs.BitList.{max_block};
 ghost use Rattle.bsi_bits.specs.BitLists.{bits_at};
 ghost use Rattle.bsi_digits.specs.Digits.{IsBase};
-ghost use Rattle.bsi_words.specs.Places.{has_place, max_digit_places, IsCount, IsEncoded};
-ghost use Rattle.bsi_components.specs.Bitmaps.{kept_places};
+ghost use Rattle.bsi_kernels.specs.Places.{has_place, max_digit_places, IsCount, IsEncoded};
+ghost use Rattle.bsi_components.specs.Bitmaps.{stored_places};
 ghost use Rattle.bsi_components.specs.Marked.{shows};
 
 use crate::marking::Marking;
 use bsi_bits::{Bitmaps, Bits};
-use bsi_words::marks::{MAX_MARK_WORDS, MAX_SPREAD_WORDS};
+use bsi_kernels::marks::{MAX_MARK_WORDS, MAX_SCATTER_WORDS};
 use std::marker::{Model, PhantomData};
 
 mod binary_places;
@@ -77,8 +77,8 @@ fn push_block<M: Marking>(bitmaps: &mut Bitmaps, base: u32, block: &[u32])
     ensures room { bitmaps.new.room + length block.now ≡ bitmaps.old.room }
 {
     let count = M::first_stored(base) as usize + bitmaps.as_slice().len();
-    if count <= MAX_SPREAD_WORDS {
-        let mut words = [0; MAX_SPREAD_WORDS];
+    if count <= MAX_SCATTER_WORDS {
+        let mut words = [0; MAX_SCATTER_WORDS];
         push_marked::<M>(bitmaps, base, block, &mut words[..count]);
     } else {
         let mut words = [0; MAX_MARK_WORDS];
@@ -108,7 +108,7 @@ impl<M: Marking> Component<M> {
     /// Lends the bit vectors of the binary places of the digits, the least first, if any are stored.
     pub(crate) fn places(&self) -> &[Bits]
         ensures places { IsEncoded has_place result.now self.now.digits }
-        ensures many { length result.now ≡ kept_places self.now.base }
+        ensures many { length result.now ≡ stored_places self.now.base }
         ensures few { length result.now ≤ max_digit_places }
         ensures enough { 0 < length result.now → self.now.base ≤ 2 ^ length result.now }
         ensures below { 0 < length result.now → (k : ℕ) →

@@ -1,4 +1,4 @@
-//! What a component is to a column: a list of digits below its base.
+//! The trait of a component (`Encoding`): a list of digits below a base that grows, and is compared, summed and ranked.
 
 ghost use Rattle.std.specs.Prelude.{◌≡◌, ◌≢◌, ◌↔◌, ℕ, ◌+◌, ◌*◌, ◌≤◌, ◌<◌, ◌==◌, ◌&&◌, Bool, true, List, [], ◌∷◌, ◌++◌, length, map, sum, count_by, slice_index, nat_lt, nat_le, IfOk, OnOk, OnErr, IsOk, IsTrue, IsFalse};
 ghost use Rattle.std.specs.List.{items_where_true};
@@ -6,14 +6,14 @@ ghost use Rattle.bsi_bits.specs.BitList.{max_block, max_len, word_count};
 ghost use Rattle.bsi_bits.specs.Packed.{bit_of};
 ghost use Rattle.bsi_bits.specs.SetRows.{HasRow};
 ghost use Rattle.bsi_digits.specs.Digits.{IsBase};
-ghost use Rattle.bsi_words.specs.Ranks.{IsRankedRows};
+ghost use Rattle.bsi_kernels.specs.Ranks.{IsRankedRows};
 ghost use Rattle.bsi_components.specs.Component.{count_where};
-ghost use Rattle.bsi_words.specs.Places.{at_most_from};
-ghost use Rattle.bsi_components.specs.EndDigits.{AnswersLeast, AnswersGreatest};
+ghost use Rattle.bsi_kernels.specs.Places.{at_most_step};
+ghost use Rattle.bsi_components.specs.ExtremeDigits.{AnswersLeast, AnswersGreatest};
 
 use crate::NoMemory;
 use bsi_bits::{Bits, MAX_LEN};
-use bsi_words::RankedRows;
+use bsi_kernels::RankedRows;
 use std::alloc::Global;
 
 /// A component: the digits of one place of a column's numbers, a row each, kept as bitmaps.
@@ -70,7 +70,7 @@ pub trait Encoding: Drop {
         ensures digits { digits self.new ≡ digits self.old }
         ensures base { base_of self.new ≡ base_of self.old }
         ensures ok { OnOk result (more ≤ room_of self.new) }
-        ensures kept { room_of self.old ≤ room_of self.new }
+        ensures no_less { room_of self.old ≤ room_of self.new }
         ensures err { OnErr result (room_of self.new ≡ room_of self.old) }
         ensures refused { OnErr result (room_of self.new < more) }
         ensures succeeds { more ≤ room_of self.old → IsOk result };
@@ -125,7 +125,7 @@ pub trait Encoding: Drop {
         ensures digits { digits self.new ≡ digits self.old }
         ensures base { base_of self.new ≡ base_of self.old }
         ensures ok { OnOk result (0 < room_of self.new) }
-        ensures kept { room_of self.old ≤ room_of self.new }
+        ensures no_less { room_of self.old ≤ room_of self.new }
         ensures err { OnErr result (room_of self.new ≡ room_of self.old) }
         ensures succeeds { 0 < room_of self.old → IsOk result }
     {
@@ -146,40 +146,40 @@ pub trait Encoding: Drop {
         ensures bits { out.new.bits ≡ map (λ v. nat_le v d) (digits self.now) }
         ensures room { out.new.room ≡ out.old.room };
 
-    /// Returns the sum of the digits of the rows of a found set.
-    fn digit_sum(&self, found: &Bits) -> u128
-        requires { length (digits self.now) ≡ length found.now.bits }
-        ensures { result ≡ sum (items_where_true found.now.bits (digits self.now)) };
+    /// Returns the sum of the digits of the rows of a selection.
+    fn digit_sum(&self, selection: &Bits) -> u128
+        requires { length (digits self.now) ≡ length selection.now.bits }
+        ensures { result ≡ sum (items_where_true selection.now.bits (digits self.now)) };
 
-    /// Returns how many rows of a found set have a digit of at most `d`. `scratch` is a vector of as many bits, and
+    /// Returns how many rows of a selection have a digit of at most `d`. `scratch` is a vector of as many bits, and
     /// its bits are unspecified afterwards.
-    fn count_le(&self, d: u32, found: &Bits, scratch: &mut Bits) -> u64
+    fn count_le(&self, d: u32, selection: &Bits, scratch: &mut Bits) -> u64
         requires below { d < base_of self.now }
-        requires same { length (digits self.now) ≡ length found.now.bits }
+        requires same { length (digits self.now) ≡ length selection.now.bits }
         requires scratch { length (digits self.now) ≡ length scratch.old.bits }
-        ensures count { result ≡ count_where (λ v. nat_le v d) found.now.bits (digits self.now) }
+        ensures count { result ≡ count_where (λ v. nat_le v d) selection.now.bits (digits self.now) }
         ensures scratch { length scratch.new.bits ≡ length scratch.old.bits }
     {
         self.le_into(d, scratch);
-        found.count_and(scratch)
+        selection.count_and(scratch)
     }
 
-    /// Finds the digit of the row of rank `rank`, from 0, among the rows of a found set in order of their digits, and
+    /// Finds the digit of the row of rank `rank`, from 0, among the rows of a selection in order of their digits, and
     /// returns the rows that have this digit. The provided body halves the range of possible digits by one `count_le`
     /// after the other, and takes memory for a vector of as many bits.
-    fn rows_of_rank(&self, rank: u64, found: Bits) -> Result<RankedRows, NoMemory>
-        requires same { length (digits self.now) ≡ length found.bits }
-        requires there { rank < count_by (λ b. b) found.bits }
+    fn rows_of_rank(&self, rank: u64, selection: Bits) -> Result<RankedRows, NoMemory>
+        requires same { length (digits self.now) ≡ length selection.bits }
+        requires there { rank < count_by (λ b. b) selection.bits }
         ensures digit { IfOk result (λ ranked. ranked.number < base_of self.now) }
-        ensures ranked { IfOk result (λ ranked. IsRankedRows rank found.bits (digits self.now)
+        ensures ranked { IfOk result (λ ranked. IsRankedRows rank selection.bits (digits self.now)
             ranked.number ranked.rank ranked.rows.bits) }
     {
-        let mut scratch = found.copy()?;
+        let mut scratch = selection.copy()?;
         let (mut low, mut high) = (0, self.base() - 1);
         let mut below = 0;
         'digits: while low < high {
             let middle = low + (high - low) / 2;
-            let upto = self.count_le(middle, &found, &mut scratch);
+            let upto = self.count_le(middle, &selection, &mut scratch);
             if rank < upto {
                 high = middle;
             } else {
@@ -188,7 +188,7 @@ pub trait Encoding: Drop {
             }
         }
         self.eq_into(low, &mut scratch);
-        let mut rows = found;
+        let mut rows = selection;
         rows.and_with(&scratch);
         Ok(RankedRows {
             number: u64::from(low),
@@ -212,14 +212,14 @@ pub trait Encoding: Drop {
             && (slice_index (digits self.now) (64 * at + p) == d)) };
 
     /// Sets in a span of words the rows whose digit is below `d`, and clears those whose digit is above. The words
-    /// stand for the rows from `64 * at` on. Where a bit told whether a row's digits of the lower places are at most
-    /// those of a constant, it then tells so of the digits up to this one.
+    /// stand for the rows from `64 * at` on. Where a bit said whether a row's digits of the lower places are at most
+    /// those of a constant, it says so of the digits up to this one afterwards.
     fn le_span(&self, d: u32, at: usize, span: &mut [u64])
         requires below { d < base_of self.now }
         requires within { at + length span.old ≤ word_count (length (digits self.now)) }
         ensures { IsTrue works_on_spans → (p : ℕ) → p < 64 * length span.old →
             64 * at + p < length (digits self.now) →
-            bit_of span.new p ≡ at_most_from (bit_of span.old p)
+            bit_of span.new p ≡ at_most_step (bit_of span.old p)
             (slice_index (digits self.now) (64 * at + p)) d };
 
     /// Writes into a span of words whether the digit of each row is `d`. The words stand for the rows from `64 * at`
@@ -265,10 +265,10 @@ pub trait Encoding: Drop {
         // The proof takes from this that there are at most 2^32 rows, so at most 2^26 words.
         prove!(self.len() <= MAX_LEN);
         'words: for (k, word) in span.iter().enumerate() {
-            let mut kept = [*word];
-            self.eq_span(d, at + k, &mut kept);
+            let mut matched = [*word];
+            self.eq_span(d, at + k, &mut matched);
             // What `eq_span` leaves past the last row is open.
-            if kept[0] & word != 0 {
+            if matched[0] & word != 0 {
                 return true;
             }
         }

@@ -7,7 +7,7 @@
 ghost use Rattle.std.specs.Prelude.{◌≡◌, ◌≢◌, ℕ, ◌+◌, ◌*◌, ◌<◌, ◌≤◌, ◌==◌, ◌&&◌, ◌||◌, not, length, map, slice_index, IsTrue, IsFalse};
 ghost use Rattle.bsi_bits.specs.BitList.{word_count};
 ghost use Rattle.bsi_bits.specs.Packed.{bit_of};
-ghost use Rattle.bsi_words.specs.Places.{at_most_from};
+ghost use Rattle.bsi_kernels.specs.Places.{at_most_step};
 ghost use Rattle.bsi_components.specs.Equality.{is_among};
 
 use crate::NoMemory;
@@ -15,12 +15,12 @@ use crate::building::rows_equal;
 use crate::component::Component;
 use crate::marking::Marking;
 use bsi_bits::Bits;
-use bsi_words::marks::mark_digits;
-use bsi_words::spans::{add_in, add_missing, drop_in, keep_in};
+use bsi_kernels::marks::one_hot_digits;
+use bsi_kernels::spans::{and_assign, and_not_assign, or_assign, or_not_assign};
 use std::alloc::Global;
 
 mod counts;
-mod ends;
+mod extremes;
 mod reads;
 
 /// Equality encoding: the bitmap of a digit has the rows of this digit. Base 2 has that of digit 1 alone.
@@ -44,14 +44,14 @@ impl Marking for Equality {
         if base == 2 { 1 } else { 0 }
     }
 
-    fn places_of(base: u32, digit: u32) -> (usize, usize) {
+    fn marked_range(base: u32, digit: u32) -> (usize, usize) {
         // Under base 2 the digit 0 has no bitmap.
         let to = (digit + 1 - Self::first_stored(base)) as usize;
         (to.saturating_sub(1), to)
     }
 
     fn mark_block(block: &[u32], base: u32, words: &mut [u64]) {
-        mark_digits(block, base as usize, words);
+        one_hot_digits(block, base as usize, words);
     }
 
     fn make_bitmap(alloc: Global, places: &[Bits], base: u32, j: u32) -> Result<Bits, NoMemory> {
@@ -60,7 +60,7 @@ impl Marking for Equality {
 
     ghost sound = { record {
       low = λ base. Prim.grind (arith, nat_tests);
-      tells = λ v w below. Prim.grind (arith, nat_tests);
+      distinguishes = λ v w below. Prim.grind (arith, nat_tests);
     } };
 }
 
@@ -104,27 +104,27 @@ impl EqualityComponent {
         requires within { at + length span.old ≤ word_count (length self.now.digits) }
         ensures len { length span.new ≡ length span.old }
         ensures bits { (p : ℕ) → p < 64 * length span.old → 64 * at + p < length self.now.digits →
-            bit_of span.new p ≡ at_most_from (bit_of span.old p)
+            bit_of span.new p ≡ at_most_step (bit_of span.old p)
             (slice_index self.now.digits (64 * at + p)) d }
     {
         let base = self.own_base();
         if base == 2 {
             if d == 0 {
-                drop_in(self.bitmap(1), at, span);
+                and_not_assign(self.bitmap(1), at, span);
             } else {
-                add_missing(self.bitmap(1), at, span);
+                or_not_assign(self.bitmap(1), at, span);
             }
         } else if 2 * d < base {
-            keep_in(self.bitmap(d), at, span);
-            self.add_among(0, d, at, span);
+            and_assign(self.bitmap(d), at, span);
+            self.or_among(0, d, at, span);
         } else {
-            add_missing(self.bitmap(d), at, span);
-            self.drop_among(d + 1, base, at, span);
+            or_not_assign(self.bitmap(d), at, span);
+            self.and_not_among(d + 1, base, at, span);
         }
     }
 
     /// Sets in a span the rows whose digit is from `from` on and below `to`.
-    fn add_among(&self, from: u32, to: u32, at: usize, span: &mut [u64])
+    fn or_among(&self, from: u32, to: u32, at: usize, span: &mut [u64])
         requires within { (from ≤ to) × (to ≤ self.now.base) }
         requires stored { self.now.base ≢ 2 }
         requires rows { at + length span.old ≤ word_count (length self.now.digits) }
@@ -134,12 +134,12 @@ impl EqualityComponent {
             || is_among from to (slice_index self.now.digits (64 * at + p))) }
     {
         'digits: for j in from..to {
-            add_in(self.bitmap(j), at, span);
+            or_assign(self.bitmap(j), at, span);
         }
     }
 
     /// Clears in a span the rows whose digit is from `from` on and below `to`.
-    fn drop_among(&self, from: u32, to: u32, at: usize, span: &mut [u64])
+    fn and_not_among(&self, from: u32, to: u32, at: usize, span: &mut [u64])
         requires within { (from ≤ to) × (to ≤ self.now.base) }
         requires stored { self.now.base ≢ 2 }
         requires rows { at + length span.old ≤ word_count (length self.now.digits) }
@@ -149,7 +149,7 @@ impl EqualityComponent {
             && not (is_among from to (slice_index self.now.digits (64 * at + p)))) }
     {
         'digits: for j in from..to {
-            drop_in(self.bitmap(j), at, span);
+            and_not_assign(self.bitmap(j), at, span);
         }
     }
 }

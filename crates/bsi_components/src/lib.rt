@@ -1,7 +1,6 @@
 //! A list of digits, kept as bitmaps, equality or range encoded: one digit of each number of a column.
 #![tactic(auto)]
 
-mod answers;
 mod binary_places;
 mod building;
 mod component;
@@ -10,10 +9,11 @@ mod equality;
 mod marking;
 mod places;
 mod range;
+mod ranked_digit;
 mod reads;
 
 pub use binary_places::BinaryPlaces;
-pub use bsi_words::RankedRows;
+pub use bsi_kernels::RankedRows;
 pub use component::Component;
 pub use encoding::Encoding;
 pub use equality::{Equality, EqualityComponent};

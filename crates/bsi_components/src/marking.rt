@@ -1,10 +1,10 @@
-//! What an encoding by bitmaps is: which digits have a bitmap, and which rows the bitmap of a digit has.
+//! The trait of an encoding by bitmaps (`Marking`): which digits have a bitmap, and which rows such a bitmap has.
 
 ghost use Rattle.std.specs.Prelude.{◌≡◌, ℕ, ◌+◌, ◌-◌, ◌<◌, ◌≤◌, ◌^◌, ◌&&◌, Bool, length, map, nat_le, nat_lt, slice_index, IfOk};
 ghost use Rattle.bsi_bits.specs.BitList.{max_block};
 ghost use Rattle.bsi_digits.specs.Digits.{IsBase};
-ghost use Rattle.bsi_words.specs.Marks.{AreDigitMarks};
-ghost use Rattle.bsi_words.specs.Places.{max_digit_places, then_places, IsCount};
+ghost use Rattle.bsi_kernels.specs.Marks.{AreDigitMarks};
+ghost use Rattle.bsi_kernels.specs.Places.{max_digit_places, then_places, IsCount};
 ghost use Rattle.bsi_components.specs.Marked.{IsMarking};
 ghost use Rattle.bsi_components.specs.PlaceNumbers.{numbers_in, AreLevel};
 
@@ -24,9 +24,9 @@ pub trait Marking: Drop {
     fn first_stored(base: u32) -> u32
         ensures { result ≡ first base };
 
-    /// Tells which bitmaps have the rows of a digit, where the first bitmap has place 0: those from one place on and
+    /// Returns which bitmaps have the rows of a digit, where the first bitmap has index 0: those from one index on and
     /// below another.
-    fn places_of(base: u32, digit: u32) -> (usize, usize)
+    fn marked_range(base: u32, digit: u32) -> (usize, usize)
         requires base { IsBase base }
         requires below { digit < base }
         ensures order { result.0 ≤ result.1 }
@@ -45,7 +45,7 @@ pub trait Marking: Drop {
         ensures long { length words.new ≡ length words.old }
         ensures marks { AreDigitMarks (then_places base marks) block.now words.new };
 
-    /// Makes the bitmap at place `j` of the binary places of the digits.
+    /// Makes the bitmap of index `j`, from the binary places of the digits.
     fn make_bitmap(alloc: Global, places: &[Bits], base: u32, j: u32) -> Result<Bits, NoMemory>
         requires level { AreLevel places.now }
         requires few { length places.now ≤ max_digit_places }

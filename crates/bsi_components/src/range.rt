@@ -15,8 +15,8 @@ use crate::building::rows_above;
 use crate::component::Component;
 use crate::marking::Marking;
 use bsi_bits::Bits;
-use bsi_words::marks::{mark_below, mark_digits};
-use bsi_words::spans::{exceeds, meets};
+use bsi_kernels::marks::{mark_below, one_hot_digits};
+use bsi_kernels::spans::{has_bit_outside, intersects};
 use std::alloc::Global;
 
 mod ranks;
@@ -42,12 +42,12 @@ impl Marking for Range {
         1
     }
 
-    fn places_of(base: u32, digit: u32) -> (usize, usize) {
+    fn marked_range(base: u32, digit: u32) -> (usize, usize) {
         (digit as usize, base as usize - 1)
     }
 
     fn mark_block(block: &[u32], base: u32, words: &mut [u64]) {
-        mark_digits(block, base as usize, words);
+        one_hot_digits(block, base as usize, words);
         mark_below(words, base as usize);
     }
 
@@ -59,7 +59,7 @@ impl Marking for Range {
 
     ghost sound = { record {
       low = λ base. Prim.omega arith;
-      tells = λ v w below. Prim.grind (arith, nat_tests);
+      distinguishes = λ v w below. Prim.grind (arith, nat_tests);
     } };
 }
 
@@ -86,7 +86,7 @@ impl RangeComponent {
         ensures none { IsFalse result → (p : ℕ) → p < 64 * length span.now →
             bit_of span.now p ≡ true → d < slice_index self.now.digits (64 * at + p) }
     {
-        meets(self.bitmap(d), at, span)
+        intersects(self.bitmap(d), at, span)
     }
 
     /// Returns whether a row of a span has a digit above `d`.
@@ -101,7 +101,7 @@ impl RangeComponent {
         ensures none { IsFalse result → (p : ℕ) → p < 64 * length span.now →
             bit_of span.now p ≡ true → slice_index self.now.digits (64 * at + p) ≤ d }
     {
-        exceeds(self.bitmap(d), at, span)
+        has_bit_outside(self.bitmap(d), at, span)
     }
 
     /// Returns the greatest digit.

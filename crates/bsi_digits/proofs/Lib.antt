@@ -1,9 +1,11 @@
+pub mod BlockEntries
 pub mod CallerLemmas
-mod Products
-mod Parts
-mod DigitLists
 mod Comparing
+mod DigitLists
+mod Parts
+mod Products
+mod Reciprocals
 mod Refusals
 mod Twos
-mod KeptWeights
-mod Reciprocals
+pub mod Unique
+mod WeightLists

@@ -9,21 +9,21 @@ use Rattle.std.proofs.lemmas.List.Sorted.{IsPermutation-reverse, sum_by-IsPermut
 use Rattle.bsi_digits.specs.declared.bases_error.BasesError.{BasesError}
 use Rattle.bsi_digits.specs.declared.bases_error.BasesError.TheVariants.{Empty, TooMany, TooWide, ProductTooLarge}
 use Rattle.bsi_digits.specs.Digits.{max_base, max_bases, max_size, max_sum, product, IsBase, IsBaseList}
-use Rattle.bsi_digits.specs.Refusal.{refusal, refusal_by_place, is_bad_base}
+use Rattle.bsi_digits.specs.Refusal.{refusal, refusal_at, is_bad_base}
 use Rattle.bsi_digits.proofs.Products.{product-reverse}
 
 good_base : (b : ℕ) → is_bad_base b ≡ false → IsBase b
 good_base b good = (grind (arith, nat_tests), grind (arith, nat_tests))
 
-past_all_by : (place n : ℕ) → (place < n) ⊎ (n ≤ place) → cond (nat_lt place n) (Some place) None ≡ None → n ≤ place
-past_all_by place n (inr past) none = past
-past_all_by place n (inl before) none =
-    let test : nat_lt place n ≡ true = grind (arith, nat_tests) in
-    let wrong : Some place ≡ None = rw test at none in
+past_all_by : (index n : ℕ) → (index < n) ⊎ (n ≤ index) → cond (nat_lt index n) (Some index) None ≡ None → n ≤ index
+past_all_by index n (inr past) none = past
+past_all_by index n (inl before) none =
+    let test : nat_lt index n ≡ true = grind (arith, nat_tests) in
+    let wrong : Some index ≡ None = rw test at none in
     cc
 
-past_all : (place n : ℕ) → cond (nat_lt place n) (Some place) None ≡ None → n ≤ place
-past_all place n none = past_all_by place n (cases_lt place n) none
+past_all : (index n : ℕ) → cond (nat_lt index n) (Some index) None ≡ None → n ≤ index
+past_all index n none = past_all_by index n (cases_lt index n) none
 
 bad_from_base : (b : ℕ) → IsBase b → is_bad_base b ≡ false
 bad_from_base b good =
@@ -110,17 +110,17 @@ if_none : {A : Type 0} (b : Bool) (x : A) (rest : Option A) → (if b then Some 
 if_none true x rest none = (cc, cc)
 if_none false x rest none = (refl, none)
 
-by_place_none : (place : Option ℕ) (bs : List ℕ) → refusal_by_place place bs ≡ None →
-    (place ≡ None) × ((if nat_lt max_sum (sum bs) then Some TooWide else if nat_lt max_size (product bs) then Some ProductTooLarge else None) ≡ None)
-by_place_none (Some place) bs none = (cc, cc)
-by_place_none None bs none = (refl, none)
+refusal_at_none : (index : Option ℕ) (bs : List ℕ) → refusal_at index bs ≡ None →
+    (index ≡ None) × ((if nat_lt max_sum (sum bs) then Some TooWide else if nat_lt max_size (product bs) then Some ProductTooLarge else None) ≡ None)
+refusal_at_none (Some index) bs none = (cc, cc)
+refusal_at_none None bs none = (refl, none)
 
 base_list_as_written : (bs : List ℕ) → refusal bs ≡ None → IsBaseList bs
 base_list_as_written bs none =
-    let past_place : Option BasesError = refusal_by_place (position is_bad_base bs) bs in
-    let past_empty = if_none (nat_eq (length bs) 0) Empty (if nat_lt max_bases (length bs) then Some TooMany else past_place) none in
-    let past_many = if_none (nat_lt max_bases (length bs)) TooMany past_place past_empty.1 in
-    let past_bases = by_place_none (position is_bad_base bs) bs past_many.1 in
+    let past_index : Option BasesError = refusal_at (position is_bad_base bs) bs in
+    let past_empty = if_none (nat_eq (length bs) 0) Empty (if nat_lt max_bases (length bs) then Some TooMany else past_index) none in
+    let past_many = if_none (nat_lt max_bases (length bs)) TooMany past_index past_empty.1 in
+    let past_bases = refusal_at_none (position is_bad_base bs) bs past_many.1 in
     let past_wide = if_none (nat_lt max_sum (sum bs)) TooWide (if nat_lt max_size (product bs) then Some ProductTooLarge else None) past_bases.1 in
     let past_large = if_none (nat_lt max_size (product bs)) ProductTooLarge None past_wide.1 in
     let one : nat_eq (length bs) 0 ≡ false = past_empty.0 in

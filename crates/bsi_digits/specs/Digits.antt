@@ -1,8 +1,9 @@
--- The digits of a value under bases. Bases and digits stand least significant first: component 0 is the first.
+-- The digits of a number under a list of bases (`IsDigits`), and which lists are accepted (`IsBaseList`). Bases and
+-- digits are listed least significant first: component 0 is the first.
 use Rattle.std.specs.Prelude.{◌≡◌, ℕ, ◌*◌, ◌/◌, ◌%◌, ◌^◌, ◌<◌, ◌≤◌, List, [], ◌∷◌, length, take, map, sum, sum_by, slice_index, EachIndex}
 use Rattle.std.specs.List.{range_with_len}
 
--- the product of the bases: how many values they tell apart
+-- the product of the bases: how many values have different digits
 abbrev pub product : List ℕ → ℕ
 product [] = 1
 product (b ∷ bs) = b * product bs
@@ -15,11 +16,11 @@ weight bs i = product (take i bs)
 abbrev pub components : List ℕ → List ℕ
 components bs = range_with_len 0 (length bs)
 
--- each of these components' digits times its weight, added up in this order
+-- the sum of digit times weight over the listed components, in their order
 abbrev pub weighted_sum : List ℕ → List ℕ → List ℕ → ℕ
 weighted_sum bs ds order = sum_by (λ i. slice_index ds i * weight bs i) order
 
--- one digit for each base, below it, and together they weigh v
+-- the digits of v: one for each base, below the base, and their weighted sum is v
 pub record IsDigits (bs : List ℕ) (v : ℕ) (ds : List ℕ) : Type 0 where
   pub count : length ds ≡ length bs
   pub below : (i : ℕ) → i < length bs → slice_index ds i < slice_index bs i
@@ -29,6 +30,7 @@ pub record IsDigits (bs : List ℕ) (v : ℕ) (ds : List ℕ) : Type 0 where
 abbrev pub digit_of : List ℕ → ℕ → ℕ → ℕ
 digit_of bs v i = v / weight bs i % slice_index bs i
 
+-- the digits of all components
 abbrev pub digits_of : List ℕ → ℕ → List ℕ
 digits_of bs v = map (digit_of bs v) (components bs)
 
@@ -48,21 +50,27 @@ max_base = 1024
 abbrev pub max_sum : ℕ
 max_sum = 4096
 
--- the most numbers that bases tell apart, or that a column takes
+-- the most numbers that have different digits under one list of bases, and the most that one column accepts
 abbrev pub max_size : ℕ
 max_size = 2 ^ 63
 
--- the most that the least number and the size of a column add up to
+-- the greatest sum of the least number and the size of a column
 abbrev pub max_end : ℕ
 max_end = 2 ^ 63
 
+-- a base: from 2 to 1,024
 abbrev pub IsBase : ℕ → Type 0
 IsBase b = (min_base ≤ b) × (b ≤ max_base)
 
--- the lists of bases that are accepted
+-- an accepted list of bases
 pub record IsBaseList (bs : List ℕ) : Type 0 where
+  -- there is at least one base
   pub some : 0 < length bs
+  -- there are at most 63 bases
   pub few : length bs ≤ max_bases
+  -- each base is from 2 to 1,024
   pub each : EachIndex bs (λ i. IsBase (slice_index bs i))
+  -- the sum of the bases, which bounds the number of bitmaps, is at most 4,096
   pub narrow : sum bs ≤ max_sum
+  -- the product of the bases, which is the number of values, is at most 2^63
   pub small : product bs ≤ max_size

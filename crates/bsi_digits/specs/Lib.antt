@@ -1,5 +1,12 @@
+pub mod Blocks
+pub mod Comparisons
 pub mod Digits
-pub mod Refusal
-pub mod Weights
 pub mod Divisor
+pub mod Offsets
+pub mod Orders
+pub mod Ranks
+pub mod Refusal
 pub mod Signed
+pub mod Totals
+pub mod Weights
+pub mod WholeNumbers

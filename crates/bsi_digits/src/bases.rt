@@ -1,10 +1,10 @@
-//! A list of bases, under which a number has its digits.
+//! Tests a list of bases (`Bases`), and gives the weights and the digits of numbers under it without a division.
 
 ghost use Rattle.std.specs.Prelude.{◌≡◌, ℕ, ◌+◌, ◌/◌, ◌<◌, ◌≤◌, ◌↔◌, length, slice_index, position, sum, reverse, replicate, EachIndex, IsNone, IfNone, IfOk, IfErr, IfSome, IsErrOf, IsTrue};
 ghost use Rattle.std.specs.Result.{result_err};
 ghost use Rattle.bsi_digits.specs.Digits.{digit_of, max_bases, max_size, product, weight, IsBase, IsBaseList};
 ghost use Rattle.bsi_digits.specs.Refusal.{refusal, is_bad_base, IsFirstOr};
-ghost use Rattle.bsi_digits.specs.Weights.{HoldsWeights};
+ghost use Rattle.bsi_digits.specs.Weights.{AreWeights};
 
 use crate::divisor::Divisor;
 use crate::{BasesError, NoMemory};
@@ -46,13 +46,13 @@ pub struct DigitStep {
 impl Model for Bases {
     ghost use Rattle.std.specs.Prelude.{ℕ, List};
     ghost use Rattle.bsi_digits.specs.Digits.{IsBaseList};
-    ghost use Rattle.bsi_digits.specs.Weights.{HoldsWeights};
+    ghost use Rattle.bsi_digits.specs.Weights.{AreWeights};
 
     ghost Value = { List ℕ };
 
     ghost view = { λ b. b.bases.items };
 
-    ghost invariant = { λ b. IsBaseList b.bases.items × HoldsWeights b.bases.items b.weights };
+    ghost invariant = { λ b. IsBaseList b.bases.items × AreWeights b.bases.items b.weights };
 }
 
 impl Bases {
@@ -67,8 +67,8 @@ impl Bases {
         if bases.len() > MAX_BASES {
             return Err(BasesError::TooMany);
         }
-        if let Some(place) = bad_place(&bases) {
-            return Err(BasesError::BaseOutOfRange(place as u32));
+        if let Some(at) = bad_base_at(&bases) {
+            return Err(BasesError::BaseOutOfRange(at as u32));
         }
         if sum_of(&bases) > MAX_SUM {
             return Err(BasesError::TooWide);
@@ -180,22 +180,22 @@ impl Bases {
         self.divisor(i as usize).value()
     }
 
-    /// Returns the divisor of the component at `place`, which is its weight or, after the last component, the size.
-    fn divisor(&self, place: usize) -> &Divisor
-        requires { place ≤ length self.now }
-        ensures weight { result.now ≡ weight self.now place }
+    /// Returns the divisor of component `at`, which is its weight or, after the last component, the size.
+    fn divisor(&self, at: usize) -> &Divisor
+        requires { at ≤ length self.now }
+        ensures weight { result.now ≡ weight self.now at }
         ensures valid { IsBaseList self.now }
     {
         // A slice: at an array's index the proof would have to bound a multiplication before it knows the place.
         let weights = &self.weights[..];
-        &weights[place]
+        &weights[at]
     }
 }
 
-/// Returns the first place whose base is out of range.
-fn bad_place(bases: &[u32]) -> Option<usize>
-    ensures place { result ≡ position is_bad_base bases.now }
-    ensures within { IfSome result (λ place. place < length bases.now) }
+/// Returns the position of the first base that is out of range.
+fn bad_base_at(bases: &[u32]) -> Option<usize>
+    ensures position { result ≡ position is_bad_base bases.now }
+    ensures within { IfSome result (λ at. at < length bases.now) }
     ensures none { IfNone result (EachIndex bases.now (λ i. IsBase (slice_index bases.now i))) }
 {
     bases
@@ -217,9 +217,9 @@ fn weights(bases: &[u32]) -> Option<[Divisor; MAX_BASES + 1]>
     requires few { length bases.now ≤ max_bases }
     requires each { EachIndex bases.now (λ i. 1 ≤ slice_index bases.now i) }
     ensures none { IsNone result ↔ (max_size < product bases.now) }
-    ensures some { IfSome result (HoldsWeights bases.now) }
+    ensures some { IfSome result (AreWeights bases.now) }
 {
-    let mut kept = [Divisor::new(1); MAX_BASES + 1];
+    let mut divisors = [Divisor::new(1); MAX_BASES + 1];
     let mut weight = 1u64;
     for (i, base) in bases.iter().enumerate() {
         let next = u128::from(weight) * u128::from(*base);
@@ -227,7 +227,7 @@ fn weights(bases: &[u32]) -> Option<[Divisor; MAX_BASES + 1]>
             return None;
         }
         weight = next as u64;
-        kept[i + 1] = Divisor::new(weight);
+        divisors[i + 1] = Divisor::new(weight);
     }
-    Some(kept)
+    Some(divisors)
 }

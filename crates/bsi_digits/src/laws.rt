@@ -1,5 +1,5 @@
-//! The laws of digits: functions that do nothing, each with a law for its contract, so that a law is checked as any contract
-//! is.
+//! Laws of digits: a number has one list of digits, which add up to it in any order and compare as it does. Each is the
+//! contract of a function that does nothing, so that it is checked as any contract is.
 ghost use Rattle.std.specs.Prelude.{◌≡◌, ℕ, ◌<◌, ◌↔◌, List, None, reverse, IsPermutation};
 ghost use Rattle.std.specs.Ordering.{nat_cmp};
 ghost use Rattle.std.specs.Cmp.Lexicographic.{slice_cmp};

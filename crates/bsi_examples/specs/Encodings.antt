@@ -1,29 +1,29 @@
--- What a contract sees of a component that is kept in one of two encodings.
+-- What a contract sees of a component in one of two encodings (`EitherComponent`), and which encoding suits its base.
 use Rattle.std.specs.Prelude.{◌≡◌, ℕ, Bool, true, false, List, nat_le}
-use Rattle.bsi_examples.specs.declared.encoding.Kept.{Kept}
-use Rattle.bsi_examples.specs.declared.encoding.Kept.TheVariants.{Range, Equality}
+use Rattle.bsi_examples.specs.declared.encoding.EitherComponent.{EitherComponent}
+use Rattle.bsi_examples.specs.declared.encoding.EitherComponent.TheVariants.{Range, Equality}
 
-abbrev pub kept_base : Kept → ℕ
-kept_base (Range c) = c.base
-kept_base (Equality c) = c.base
+abbrev pub inner_base : EitherComponent → ℕ
+inner_base (Range c) = c.base
+inner_base (Equality c) = c.base
 
-abbrev pub kept_digits : Kept → List ℕ
-kept_digits (Range c) = c.digits
-kept_digits (Equality c) = c.digits
+abbrev pub inner_digits : EitherComponent → List ℕ
+inner_digits (Range c) = c.digits
+inner_digits (Equality c) = c.digits
 
--- how many more digits can be appended with no memory
-abbrev pub kept_room : Kept → ℕ
-kept_room (Range c) = c.room
-kept_room (Equality c) = c.room
+-- for how many more digits there is room
+abbrev pub inner_room : EitherComponent → ℕ
+inner_room (Range c) = c.room
+inner_room (Equality c) = c.room
 
-abbrev pub is_range : Kept → Bool
+abbrev pub is_range : EitherComponent → Bool
 is_range (Range c) = true
 is_range (Equality c) = false
 
--- past this base a component is equality encoded
+-- the greatest base of a range encoded component; past this base a component is equality encoded
 abbrev pub max_range_base : ℕ
 max_range_base = 16
 
--- the encoding is that of its base
-abbrev pub Suits : Kept → Type 0
-Suits kept = is_range kept ≡ nat_le (kept_base kept) max_range_base
+-- the encoding suits the base
+abbrev pub Suits : EitherComponent → Type 0
+Suits inner = is_range inner ≡ nat_le (inner_base inner) max_range_base

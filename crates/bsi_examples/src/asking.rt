@@ -1,4 +1,4 @@
-//! A question about the prices of an index.
+//! Asks an index of prices for the lower median of those below a bound.
 
 use bsi_library::{Answer, AskError, Index, Op, Pred, Query, Total};
 

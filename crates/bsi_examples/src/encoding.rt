@@ -1,9 +1,9 @@
 //! A column of a caller's own encoding: each component in the encoding that suits its base.
 
 ghost use Rattle.std.specs.Prelude.{◌≡◌, true, IfOk, map, sum};
-ghost use Rattle.bsi_library.specs.ColumnRows.{selects};
+ghost use Rattle.bsi_library.specs.Comparisons.{selects};
 ghost use Rattle.bsi_library.specs.Orders.{values_at};
-ghost use Rattle.bsi_examples.specs.Encodings.{kept_base, kept_digits, kept_room, Suits};
+ghost use Rattle.bsi_examples.specs.Encodings.{inner_base, inner_digits, inner_room, Suits};
 
 use crate::refused::Refused;
 use bsi_library::NoMemory;
@@ -20,7 +20,7 @@ const MAX_NUMBERS: u64 = 1_000_000;
 
 /// A component in one of two encodings.
 #[derive(Drop)]
-enum Kept {
+enum EitherComponent {
     Range(RangeComponent),
     Equality(EqualityComponent),
 }
@@ -28,16 +28,16 @@ enum Kept {
 /// A component that is range encoded under a small base, and equality encoded under a large one.
 #[derive(Drop)]
 pub struct ByBase {
-    kept: Kept,
-    ghost suits: { Suits kept },
+    inner: EitherComponent,
+    ghost suits: { Suits inner },
 }
 
 impl Encoding for ByBase {
-    ghost base_of = { λ c. kept_base c.kept };
+    ghost base_of = { λ c. inner_base c.inner };
 
-    ghost digits = { λ c. kept_digits c.kept };
+    ghost digits = { λ c. inner_digits c.inner };
 
-    ghost room_of = { λ c. kept_room c.kept };
+    ghost room_of = { λ c. inner_room c.inner };
 
     ghost works_on_spans = { true };
 
@@ -46,60 +46,61 @@ impl Encoding for ByBase {
     }
 
     fn make(alloc: Global, base: u32) -> Result<Self, NoMemory> {
-        let kept = if base <= MAX_RANGE_BASE {
-            Kept::Range(RangeComponent::make(alloc, base)?)
+        let inner = if base <= MAX_RANGE_BASE {
+            EitherComponent::Range(RangeComponent::make(alloc, base)?)
         } else {
-            Kept::Equality(EqualityComponent::make(alloc, base)?)
+            EitherComponent::Equality(EqualityComponent::make(alloc, base)?)
         };
-        Ok(ByBase { kept })
+        Ok(ByBase { inner })
     }
 
     fn base(&self) -> u32 {
-        match &self.kept {
-            Kept::Range(component) => component.base(),
-            Kept::Equality(component) => component.base(),
+        match &self.inner {
+            EitherComponent::Range(component) => component.base(),
+            EitherComponent::Equality(component) => component.base(),
         }
     }
 
     fn len(&self) -> u64 {
-        match &self.kept {
-            Kept::Range(component) => component.len(),
-            Kept::Equality(component) => component.len(),
+        match &self.inner {
+            EitherComponent::Range(component) => component.len(),
+            EitherComponent::Equality(component) => component.len(),
         }
     }
 
     fn room(&self) -> u64 {
-        match &self.kept {
-            Kept::Range(component) => component.room(),
-            Kept::Equality(component) => component.room(),
+        match &self.inner {
+            EitherComponent::Range(component) => component.room(),
+            EitherComponent::Equality(component) => component.room(),
         }
     }
 
     fn reserve(&mut self, more: u64) -> Result<(), NoMemory> {
-        match &mut self.kept {
-            Kept::Range(component) => component.reserve(more),
-            Kept::Equality(component) => component.reserve(more),
+        match &mut self.inner {
+            EitherComponent::Range(component) => component.reserve(more),
+            EitherComponent::Equality(component) => component.reserve(more),
         }
     }
 
     fn clear(&mut self) {
-        match &mut self.kept {
-            Kept::Range(component) => component.clear(),
-            Kept::Equality(component) => component.clear(),
+        match &mut self.inner {
+            EitherComponent::Range(component) => component.clear(),
+            EitherComponent::Equality(component) => component.clear(),
         }
     }
 
     fn push_reserved(&mut self, digit: u32) {
-        match &mut self.kept {
-            Kept::Range(component) => component.push_reserved(digit),
-            Kept::Equality(component) => component.push_reserved(digit),
+        match &mut self.inner {
+            EitherComponent::Range(component) => component.push_reserved(digit),
+            EitherComponent::Equality(component) => component.push_reserved(digit),
         }
     }
 
     fn push_all_reserved(&mut self, other: &Self) {
-        match (&mut self.kept, &other.kept) {
-            (Kept::Range(component), Kept::Range(others)) => component.push_all_reserved(others),
-            (Kept::Equality(component), Kept::Equality(others)) => {
+        match (&mut self.inner, &other.inner) {
+            (EitherComponent::Range(component), EitherComponent::Range(others)) =>
+                component.push_all_reserved(others),
+            (EitherComponent::Equality(component), EitherComponent::Equality(others)) => {
                 component.push_all_reserved(others);
             }
             // Components of one base are in one encoding.
@@ -108,46 +109,46 @@ impl Encoding for ByBase {
     }
 
     fn eq_into(&self, d: u32, out: &mut Bits) {
-        match &self.kept {
-            Kept::Range(component) => component.eq_into(d, out),
-            Kept::Equality(component) => component.eq_into(d, out),
+        match &self.inner {
+            EitherComponent::Range(component) => component.eq_into(d, out),
+            EitherComponent::Equality(component) => component.eq_into(d, out),
         }
     }
 
     fn le_into(&self, d: u32, out: &mut Bits) {
-        match &self.kept {
-            Kept::Range(component) => component.le_into(d, out),
-            Kept::Equality(component) => component.le_into(d, out),
+        match &self.inner {
+            EitherComponent::Range(component) => component.le_into(d, out),
+            EitherComponent::Equality(component) => component.le_into(d, out),
         }
     }
 
     fn eq_span(&self, d: u32, at: usize, span: &mut [u64]) {
-        match &self.kept {
-            Kept::Range(component) => component.eq_span(d, at, span),
-            Kept::Equality(component) => component.eq_span(d, at, span),
+        match &self.inner {
+            EitherComponent::Range(component) => component.eq_span(d, at, span),
+            EitherComponent::Equality(component) => component.eq_span(d, at, span),
         }
     }
 
     fn le_span(&self, d: u32, at: usize, span: &mut [u64]) {
-        match &self.kept {
-            Kept::Range(component) => component.le_span(d, at, span),
-            Kept::Equality(component) => component.le_span(d, at, span),
+        match &self.inner {
+            EitherComponent::Range(component) => component.le_span(d, at, span),
+            EitherComponent::Equality(component) => component.le_span(d, at, span),
         }
     }
 
-    fn digit_sum(&self, found: &Bits) -> u128 {
-        match &self.kept {
-            Kept::Range(component) => component.digit_sum(found),
-            Kept::Equality(component) => component.digit_sum(found),
+    fn digit_sum(&self, selection: &Bits) -> u128 {
+        match &self.inner {
+            EitherComponent::Range(component) => component.digit_sum(selection),
+            EitherComponent::Equality(component) => component.digit_sum(selection),
         }
     }
 
     fn copy(&self) -> Result<Self, NoMemory> {
-        let kept = match &self.kept {
-            Kept::Range(component) => Kept::Range(component.copy()?),
-            Kept::Equality(component) => Kept::Equality(component.copy()?),
+        let inner = match &self.inner {
+            EitherComponent::Range(component) => EitherComponent::Range(component.copy()?),
+            EitherComponent::Equality(component) => EitherComponent::Equality(component.copy()?),
         };
-        Ok(ByBase { kept })
+        Ok(ByBase { inner })
     }
 }
 
@@ -170,6 +171,6 @@ pub(crate) fn sum_up_to<E: Encoding>(column: &Decomposed<E>, bound: u64) -> Resu
     ensures { IfOk result (λ total. total
         ≡ sum (values_at (map (selects Op.Le bound) column.now.entries) column.now.entries)) }
 {
-    let found = column.compare(Op::Le, bound)?;
-    Ok(column.sum(&found))
+    let selection = column.compare(Op::Le, bound)?;
+    Ok(column.sum(&selection))
 }

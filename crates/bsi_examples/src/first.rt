@@ -1,4 +1,4 @@
-//! An index over prices.
+//! Makes an index of the prices that fit (`index_prices`), the first example of CALLING.md.
 
 use crate::refused::Refused;
 use bsi_library::{ColumnSpec, Index, Row, Schema};

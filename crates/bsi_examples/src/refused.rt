@@ -1,4 +1,4 @@
-//! Why a use has no result: the refusal of one of its calls.
+//! The one error of the examples (`Refused`): the refusal of a call that they make.
 
 use bsi_library::digits::BasesError;
 use bsi_library::machine::{LoadRefused, MakeError, SubmitRefused};

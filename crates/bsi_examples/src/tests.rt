@@ -1,4 +1,4 @@
-//! Runs each use. One that is refused memory is run again.
+//! Runs each example. One that is refused memory is run again.
 
 use crate::asking::find_median;
 use crate::encoding::{make_column, sum_up_to};

@@ -5,7 +5,7 @@ ghost use Rattle.bsi_library.specs.Table.{no_rows};
 ghost use Rattle.bsi_library.specs.Running.{IsFeederOf};
 
 use bsi_library::running::{
-    Analyst, Closing, Feeder, History, Loader, Naming, OpenRefused, System, Told, open,
+    Analyst, Closing, Feeder, History, Loader, OpenRefused, System, SystemTag, Told, open,
 };
 use bsi_library::{Answer, ColumnSpec, Pred, Query, Row, Schema, Total};
 use std::alloc::Global;
@@ -55,7 +55,7 @@ fn start<R: Threads>(rt: &R, alloc: Global, feeder: Feeder) -> Option<Sender>
 }
 
 /// Waits for a feeder's thread, and loads all that it sent.
-fn load_all<B: Naming, R: Threads>(rt: &R, loader: &mut Loader<B>, sender: Sender) -> Option<()>
+fn load_all<B: SystemTag, R: Threads>(rt: &R, loader: &mut Loader<B>, sender: Sender) -> Option<()>
     requires { IsFeederOf sender.promise.feeder.value loader.old.system }
     ensures { loader.new.system ≡ loader.old.system }
 {
@@ -69,7 +69,7 @@ fn load_all<B: Naming, R: Threads>(rt: &R, loader: &mut Loader<B>, sender: Sende
 }
 
 /// Learns what was published, and sums it.
-fn sum_told<B: Naming>(analyst: Analyst<B>, told: Told<B>) -> Option<Answer> {
+fn sum_published<B: SystemTag>(analyst: Analyst<B>, told: Told<B>) -> Option<Answer> {
     let mut analyst = analyst;
     analyst.learn(told);
     let total = Total::Sum(0);
@@ -78,7 +78,7 @@ fn sum_told<B: Naming>(analyst: Analyst<B>, told: Told<B>) -> Option<Answer> {
 }
 
 /// Runs two feeders on threads, loads and publishes what they send, and tells an analyst on a thread.
-fn serve<B: Naming + Send + Sync + 'static, R: Threads + Wait>(
+fn serve<B: SystemTag + Send + Sync + 'static, R: Threads + Wait>(
     rt: &R,
     alloc: Global,
     feeders: Vec<Feeder>,
@@ -94,12 +94,12 @@ fn serve<B: Naming + Send + Sync + 'static, R: Threads + Wait>(
     load_all(rt, loader, second)?;
     loader.publish(rt).ok()?;
     let told = loader.tell();
-    let asking = thread::spawn(rt, move || sum_told(analyst, told)).ok()?;
+    let asking = thread::spawn(rt, move || sum_published(analyst, told)).ok()?;
     asking.join(rt)
 }
 
 /// Opens a system with a feeder for each capacity and one analyst, and ends it once all were served.
-fn run_in<B: Naming + Send + Sync + 'static, R: Threads + Wait>(
+fn run_in<B: SystemTag + Send + Sync + 'static, R: Threads + Wait>(
     rt: &R,
     alloc: Global,
     history: History,

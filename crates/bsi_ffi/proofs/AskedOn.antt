@@ -1,10 +1,10 @@
 -- A predicate and a column that were read are there, so that a call on them is refused for memory alone.
 use Rattle.std.proofs.Common.{◌≡◌, ℕ, [], ◌∷◌, List, Option, None, Err, length, codes, refl, subst, sym, ◌∙◌}
 use Rattle.std.specs.Prelude.{MatchOption}
-use Rattle.bsi_groups.specs.Replies.{missing_on, IsReplyOn}
-use Rattle.bsi_records.proofs.Ranked.{question_is_there}
-use Rattle.bsi_records.proofs.Spelling.{not_missing}
-use Rattle.bsi_records.specs.Numbers.{Field}
+use Rattle.bsi_aggregates.specs.Replies.{missing_on, IsReplyOn}
+use Rattle.bsi_syntax.proofs.Ranked.{question_is_there}
+use Rattle.bsi_syntax.proofs.Spelling.{not_missing}
+use Rattle.bsi_syntax.specs.Numbers.{Field}
 use Rattle.bsi_rows.specs.Answers.{columns_of_pred}
 use Rattle.bsi_rows.specs.Table.{Table}
 use Rattle.bsi_rows.specs.declared.errors.AskError.{AskError}

@@ -1,11 +1,11 @@
 pub mod AsBox
 pub mod AskedOn
 pub mod Flat
-pub mod GivenColumns
-pub mod GivenRows
-pub mod KeptBytes
+pub mod ColumnInputs
+pub mod InputRows
+pub mod FileBytes
 pub mod NotNullWords
 pub mod RowsByColumn
 pub mod Steps
-pub mod Telling
+pub mod Statuses
 pub mod Zips

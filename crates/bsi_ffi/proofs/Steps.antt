@@ -1,4 +1,4 @@
--- The steps that the walks of `held` take, passed on.
+-- The steps that the walks of `pointer` take, passed on.
 pub use mathlib.Core.Path.{◌≡◌, refl, sym, ap, subst, ◌∙◌}
 pub use mathlib.Core.List.{List, [], ◌∷◌, ◌++◌}
 pub use mir.Val.{Val, vptr, vint, vstruct, vcons, vnil, of_list}

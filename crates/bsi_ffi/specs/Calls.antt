@@ -1,14 +1,15 @@
--- What each call does to what a handle holds, what it answers, and when it is refused.
+-- What each call does to the index of a handle, what it answers, and when it is refused.
 use Rattle.std.specs.Prelude.{◌≡◌, ℕ, ◌+◌, ◌*◌, ◌%◌, ◌<◌, ◌≤◌, ◌⊎◌, List, length, map, slice_index_or, take, Option, Some, None, Ok, Err, IsSome, true, false, MatchOption, drop, nat_eq, if◌then◌else◌}
 use Rattle.std.specs.Int.{cast_unsigned, w128}
 use Rattle.bsi_bits.specs.BitList.{word_count}
 use Rattle.bsi_bits.specs.Packed.{bit_of, end_of_u64}
-use Rattle.bsi_groups.specs.Replies.{selected}
-use Rattle.bsi_records.specs.Numbers.{Field}
-use Rattle.bsi_records.specs.Predicates.{IsPredicate}
-use Rattle.bsi_records.specs.Questions.{IsQueryIn}
-use Rattle.bsi_records.specs.declared.grammar.Grammar.TheVariants.{Index}
-use Rattle.bsi_records.specs.Vocabularies.{schema_words}
+use Rattle.bsi_aggregates.specs.Replies.{selection_of}
+use Rattle.bsi_syntax.specs.Bytes.{Bytes, KnownBytes}
+use Rattle.bsi_syntax.specs.Numbers.{Field}
+use Rattle.bsi_syntax.specs.Predicates.{IsPredicate}
+use Rattle.bsi_syntax.specs.Questions.{IsQueryIn}
+use Rattle.bsi_syntax.specs.declared.grammar.Grammar.TheVariants.{Index}
+use Rattle.bsi_syntax.specs.Vocabularies.{schema_vocabulary}
 use Rattle.bsi_rows.specs.Answers.{IsAnswer}
 use Rattle.bsi_rows.specs.RowBlocks.{max_block_rows}
 use Rattle.bsi_rows.specs.Table.{max_feeders, no_rows, with_rows, Table}
@@ -16,34 +17,34 @@ use Rattle.bsi_rows.specs.declared.query.Answer.{Answer}
 use Rattle.bsi_rows.specs.declared.query.Answer.TheVariants.{Count as count_answer, Sum as sum_answer, Value as value_answer, Rows as rows_answer}
 use Rattle.bsi_rows.specs.declared.query.Pred.{Pred}
 use Rattle.bsi_rows.specs.declared.query.Query.{Query}
-use Rattle.bsi_reading.specs.SchemaTexts.{DeclaresNoColumn, DeclaresTooLong, IsBadRecord, IsSchemaText}
-use Rattle.bsi_saved.specs.Faults.{IsFirstFault, IsOpened}
-use Rattle.bsi_saved.specs.Saved.{kept_file, max_notes, Keeps, MayBeKept}
-use Rattle.bsi_saved.specs.declared.fault.OpenFault.{OpenFault}
-use Rattle.bsi_saved.specs.declared.fault.OpenFault.TheVariants as open_fault
-use Rattle.bsi_ffi.specs.Columns.{are_columns, first_unlike, given_rows, row_count, row_of, AreTaken, IsFirstMisfit, IsFirstRefusing}
-use Rattle.bsi_ffi.specs.Opened.{Opened}
+use Rattle.bsi_input.specs.SchemaTexts.{DeclaresNoColumn, DeclaresTooLong, IsBadDeclaration, IsSchemaText}
+use Rattle.bsi_storage.specs.Faults.{IsFirstSegmentFault, IsOpened}
+use Rattle.bsi_storage.specs.Saved.{max_notes, table_segment, IsFileOf, MayBeSaved}
+use Rattle.bsi_storage.specs.declared.fault.OpenFault.{OpenFault}
+use Rattle.bsi_storage.specs.declared.fault.OpenFault.TheVariants as open_fault
+use Rattle.bsi_ffi.specs.Columns.{are_columns, first_unlike, input_rows, row_count, row_of, AreAccepted, IsFirstMisfit, IsFirstRefusing}
+use Rattle.bsi_ffi.specs.OpenIndex.{OpenIndex}
 use Rattle.bsi_ffi.specs.States.{is_shared, opened_in}
 use Rattle.bsi_ffi.specs.Statuses.{Ending}
 use Rattle.bsi_ffi.specs.declared.answers.FlatAnswer.{FlatAnswer}
-use Rattle.bsi_ffi.specs.declared.answers.Place.{Place}
-use Rattle.bsi_ffi.specs.declared.columns.GivenColumn.{GivenColumn}
+use Rattle.bsi_ffi.specs.declared.answers.Origin.{Origin}
+use Rattle.bsi_ffi.specs.declared.columns.ColumnInput.{ColumnInput}
 use Rattle.bsi_ffi.specs.declared.refusal.Refusal.{Refusal}
-use Rattle.bsi_ffi.specs.declared.refusal.Refusal.TheVariants.{Closed, Open, NoMemory, BadSchema, NoColumns, BadFeeder, BadColumns, BadRow, IndexFull, Shared, BadQuery, NoRoom, BadText, LongNotes, NotKept, OtherVersion, CutShort, Damaged}
-use Rattle.bsi_ffi.specs.declared.state.State.{State}
-use Rattle.bsi_ffi.specs.declared.state.State.TheVariants.{Alone, Shared as shared_state, Moved}
+use Rattle.bsi_ffi.specs.declared.refusal.Refusal.TheVariants.{BadColumns, BadFeeder, BadQuery, BadRow, BadSchema, BadText, BufferTooSmall, Closed, CutShort, Damaged, IndexFull, LongNotes, NoColumns, NoMemory, NotAnIndex, Open, OtherVersion, Shared}
+use Rattle.bsi_ffi.specs.declared.state.HandleState.{HandleState}
+use Rattle.bsi_ffi.specs.declared.state.HandleState.TheVariants.{Moved, Owned, Shared as shared_state}
 
 -- ---- opening
 
--- an index of no rows, of the schema and the limit that the text declares
-pub record IsNew (text : List ℕ) (feeders : ℕ) (opened : Opened) : Type 0 where
+-- An index without rows, of the schema and the limit that the text declares.
+pub record IsNewIndex (text : Bytes) (feeders : ℕ) (opened : OpenIndex) : Type 0 where
   pub text_is : opened.text ≡ text
   pub declared : IsSchemaText text opened.table.schema opened.table.limit
   pub empty : opened.table ≡ no_rows opened.table.schema feeders opened.table.limit
 
--- the text is refused; of a bad record this is the number, and else it is 0
+-- The text is refused. `number` is that of a bad record, else 0.
 abbrev pub IsTextRefusal : List ℕ → ℕ → Refusal → Type 0
-IsTextRefusal text number BadSchema = IsBadRecord text number
+IsTextRefusal text number BadSchema = IsBadDeclaration text number
 IsTextRefusal text number NoColumns = DeclaresNoColumn text × (number ≡ 0)
 IsTextRefusal text number BadText = DeclaresTooLong text × (number ≡ 0)
 IsTextRefusal text number NoMemory = number ≡ 0
@@ -52,9 +53,9 @@ IsTextRefusal text number why = ⊥
 abbrev pub IsFeederCount : ℕ → Type 0
 IsFeederCount feeders = (1 ≤ feeders) × (feeders ≤ max_feeders)
 
-abbrev pub IsOpening : Option State → List ℕ → ℕ → ℕ → Option State → Ending → Type 0
+abbrev pub IsOpening : Option HandleState → List ℕ → ℕ → ℕ → Option HandleState → Ending → Type 0
 IsOpening before text feeders number after (Ok done) =
-    (opened_in before ≡ None) × IsFeederCount feeders × MatchOption (opened_in after) ⊥ (IsNew text feeders)
+    (opened_in before ≡ None) × IsFeederCount feeders × MatchOption (opened_in after) ⊥ (IsNewIndex text feeders)
     × (is_shared after ≡ false) × (number ≡ 0)
 IsOpening before text feeders number after (Err Open) = IsSome (opened_in before) × (number ≡ 0)
 IsOpening before text feeders number after (Err BadFeeder) =
@@ -64,20 +65,24 @@ IsOpening before text feeders number after (Err why) =
 
 -- ---- appending
 
--- all rows of the columns can be appended
-pub record AreAppendable (table : Table) (feeder : ℕ) (columns : List GivenColumn) : Type 0 where
+-- All rows of the columns can be appended.
+pub record AreAppendable (table : Table) (feeder : ℕ) (columns : List ColumnInput) : Type 0 where
+  -- The table has a feeder of this number.
   pub fed : feeder < table.feeders
+  -- There are as many columns as the schema has, all of one length, with a bit for each number.
   pub even : are_columns (length table.schema.columns) columns ≡ true
-  pub taken : AreTaken table.schema.columns columns (row_count columns)
+  -- Each row fits the schema.
+  pub accepted : AreAccepted table.schema.columns columns (row_count columns)
+  -- With the new rows, the table is within its limit.
   pub within : length table.rows + row_count columns ≤ table.limit
 
--- the columns are of a feeder that there is, and of the index's number and one length
-abbrev pub AreOfIndex : Table → ℕ → List GivenColumn → Type 0
+-- The feeder is one of the index, and the columns are as many as the index has, all of one length.
+abbrev pub AreOfIndex : Table → ℕ → List ColumnInput → Type 0
 AreOfIndex table feeder columns = (feeder < table.feeders) × (are_columns (length table.schema.columns) columns ≡ true)
 
--- the rows are refused, for the first cause that applies. Of a row that does not fit this is the number, and else it is 0; this
--- is the first column that does not take that row's entry, or that the index can't take, and else it is 0
-abbrev pub IsRowsRefusal : Table → ℕ → List GivenColumn → ℕ → ℕ → Refusal → Type 0
+-- The rows are refused, for the first cause that applies. `row` is the first that does not fit, else 0. `column` is
+-- the first that is refused, else 0.
+abbrev pub IsRowsRefusal : Table → ℕ → List ColumnInput → ℕ → ℕ → Refusal → Type 0
 IsRowsRefusal table feeder columns row column BadFeeder = (table.feeders ≤ feeder) × (row ≡ 0) × (column ≡ 0)
 IsRowsRefusal table feeder columns row column BadColumns =
     (feeder < table.feeders) × (are_columns (length table.schema.columns) columns ≡ false) × (row ≡ 0)
@@ -86,16 +91,16 @@ IsRowsRefusal table feeder columns row column BadRow =
     AreOfIndex table feeder columns × IsFirstMisfit table.schema.columns columns row
     × IsFirstRefusing table.schema.columns (row_of columns row) column
 IsRowsRefusal table feeder columns row column IndexFull =
-    AreOfIndex table feeder columns × AreTaken table.schema.columns columns (row_count columns)
+    AreOfIndex table feeder columns × AreAccepted table.schema.columns columns (row_count columns)
     × (table.limit < length table.rows + row_count columns) × (row ≡ 0) × (column ≡ 0)
 IsRowsRefusal table feeder columns row column why = ⊥
 
--- the first so many rows of the columns were appended
-abbrev pub with_first : Table → ℕ → List GivenColumn → ℕ → Table
-with_first table feeder columns n = with_rows table (given_rows feeder columns 0 n)
+-- The table after the first n rows of the columns were appended.
+abbrev pub with_first : Table → ℕ → List ColumnInput → ℕ → Table
+with_first table feeder columns n = with_rows table (input_rows feeder columns 0 n)
 
--- an index takes rows: all of them, or, if memory is refused, those of the first full blocks but not all, or none
-abbrev pub AppendsColumns : Table → ℕ → List GivenColumn → ℕ → ℕ → Table → Ending → Type 0
+-- The rows are appended: all, or, if memory is refused, those of the first full blocks but not all, or none.
+abbrev pub AppendsColumns : Table → ℕ → List ColumnInput → ℕ → ℕ → Table → Ending → Type 0
 AppendsColumns before feeder columns row column after (Ok done) =
     AreAppendable before feeder columns × (row ≡ row_count columns) × (column ≡ 0) × (after ≡ with_first before feeder columns row)
 AppendsColumns before feeder columns row column after (Err NoMemory) =
@@ -104,44 +109,44 @@ AppendsColumns before feeder columns row column after (Err NoMemory) =
 AppendsColumns before feeder columns row column after (Err why) =
     IsRowsRefusal before feeder columns row column why × (after ≡ before)
 
--- the index of a handle, with the other table
-abbrev pub with_table : Opened → Table → Opened
+-- The index with another table.
+abbrev pub with_table : OpenIndex → Table → OpenIndex
 with_table opened table = record opened { table = table }
 
-abbrev pub IsAppending : Option State → ℕ → List GivenColumn → ℕ → ℕ → Option State → Ending → Type 0
+abbrev pub IsAppending : Option HandleState → ℕ → List ColumnInput → ℕ → ℕ → Option HandleState → Ending → Type 0
 IsAppending None feeder columns row column after ending =
     (ending ≡ Err Closed) × (row ≡ 0) × (column ≡ 0) × (after ≡ None)
-IsAppending (Some (Alone opened)) feeder columns row column after ending =
-    (table : Table) × (after ≡ Some (Alone (with_table opened table)))
+IsAppending (Some (Owned opened)) feeder columns row column after ending =
+    (table : Table) × (after ≡ Some (Owned (with_table opened table)))
     × AppendsColumns opened.table feeder columns row column table ending
 IsAppending (Some (shared_state opened)) feeder columns row column after ending =
     (ending ≡ Err Shared) × (row ≡ 0) × (column ≡ 0) × (after ≡ Some (shared_state opened))
 IsAppending (Some Moved) feeder columns row column after ending =
     (ending ≡ Err Closed) × (row ≡ 0) × (column ≡ 0) × (after ≡ Some Moved)
 
--- ---- making room
+-- ---- reserving
 
--- an index makes room for so many further rows, unless they would leave its limit
-abbrev pub IsMakingRoom : Table → ℕ → Ending → Type 0
-IsMakingRoom table rows (Ok done) = length table.rows + rows ≤ table.limit
-IsMakingRoom table rows (Err NoMemory) = length table.rows + rows ≤ table.limit
-IsMakingRoom table rows (Err IndexFull) = table.limit < length table.rows + rows
-IsMakingRoom table rows (Err why) = ⊥
+-- Memory for `rows` more rows is reserved, if the limit allows them.
+abbrev pub IsReservingRows : Table → ℕ → Ending → Type 0
+IsReservingRows table rows (Ok done) = length table.rows + rows ≤ table.limit
+IsReservingRows table rows (Err NoMemory) = length table.rows + rows ≤ table.limit
+IsReservingRows table rows (Err IndexFull) = table.limit < length table.rows + rows
+IsReservingRows table rows (Err why) = ⊥
 
--- a handle does so if it alone holds an index
-abbrev pub IsReserving : Option State → ℕ → Ending → Type 0
+-- A handle reserves memory if it alone owns an index.
+abbrev pub IsReserving : Option HandleState → ℕ → Ending → Type 0
 IsReserving None rows ending = ending ≡ Err Closed
-IsReserving (Some (Alone opened)) rows ending = IsMakingRoom opened.table rows ending
+IsReserving (Some (Owned opened)) rows ending = IsReservingRows opened.table rows ending
 IsReserving (Some (shared_state opened)) rows ending = ending ≡ Err Shared
 IsReserving (Some Moved) rows ending = ending ≡ Err Closed
 
 -- ---- asking
 
--- the rows of an answer
-abbrev pub as_pairs : List Place → List (ℕ × ℕ)
-as_pairs places = map (λ place. (place.feeder, place.row)) places
+-- The rows of an answer, as pairs.
+abbrev pub as_pairs : List Origin → List (ℕ × ℕ)
+as_pairs origins = map (λ origin. (origin.feeder, origin.row)) origins
 
--- the kinds of an answer
+-- The kinds of an answer.
 abbrev pub count_kind : ℕ
 count_kind = 1
 
@@ -154,186 +159,187 @@ value_kind = 3
 abbrev pub rows_kind : ℕ
 rows_kind = 4
 
--- an answer is written so
-abbrev pub IsWritten : Answer → FlatAnswer → List Place → Type 0
-IsWritten (count_answer n) answer places = (answer.kind ≡ count_kind) × (answer.count ≡ n)
-IsWritten (sum_answer s) answer places =
+-- The answer is written to `answer`, and its rows to `origins`.
+abbrev pub IsWrittenAnswer : Answer → FlatAnswer → List Origin → Type 0
+IsWrittenAnswer (count_answer n) answer origins = (answer.kind ≡ count_kind) × (answer.count ≡ n)
+IsWrittenAnswer (sum_answer s) answer origins =
     (answer.kind ≡ sum_kind) × (answer.low + end_of_u64 * answer.high ≡ cast_unsigned w128 s)
-IsWritten (value_answer None) answer places = (answer.kind ≡ value_kind) × (answer.present ≡ false)
-IsWritten (value_answer (Some x)) answer places =
+IsWrittenAnswer (value_answer None) answer origins = (answer.kind ≡ value_kind) × (answer.present ≡ false)
+IsWrittenAnswer (value_answer (Some x)) answer origins =
     (answer.kind ≡ value_kind) × (answer.present ≡ true) × (answer.value ≡ x)
-IsWritten (rows_answer rows) answer places =
-    (answer.kind ≡ rows_kind) × (answer.count ≡ length rows.items) × (as_pairs (take answer.count places) ≡ rows.items)
+IsWrittenAnswer (rows_answer rows) answer origins =
+    (answer.kind ≡ rows_kind) × (answer.count ≡ length rows.items) × (as_pairs (take answer.count origins) ≡ rows.items)
 
--- the answer lists more rows than there are places, and how many is written
-abbrev pub IsShort : Answer → FlatAnswer → List Place → Type 0
-IsShort (rows_answer rows) answer places =
-    (answer.kind ≡ rows_kind) × (answer.count ≡ length rows.items) × (length places < answer.count)
-IsShort other answer places = ⊥
+-- The answer has more rows than there are origins. Their number is written.
+abbrev pub ListsTooMany : Answer → FlatAnswer → List Origin → Type 0
+ListsTooMany (rows_answer rows) answer origins =
+    (answer.kind ≡ rows_kind) × (answer.count ≡ length rows.items) × (length origins < answer.count)
+ListsTooMany other answer origins = ⊥
 
--- how many places an answer takes
-abbrev pub places_of : FlatAnswer → ℕ
-places_of answer = if nat_eq answer.kind rows_kind then answer.count else 0
+-- How many origins an answer fills.
+abbrev pub origin_count : FlatAnswer → ℕ
+origin_count answer = if nat_eq answer.kind rows_kind then answer.count else 0
 
--- the places behind those of the answer are what they were
-abbrev pub LeavesRest : FlatAnswer → List Place → List Place → Type 0
-LeavesRest answer before places = drop (places_of answer) places ≡ drop (places_of answer) before
+-- The origins after those of the answer are unchanged.
+abbrev pub LeavesRest : FlatAnswer → List Origin → List Origin → Type 0
+LeavesRest answer before origins = drop (origin_count answer) origins ≡ drop (origin_count answer) before
 
--- of a query that the fields ask, and of its answer over the rows, this is so
-abbrev pub IsAsked : Table → List Field → (Answer → Type 0) → Type 0
-IsAsked table fields Is =
-    (query : Query) × (reply : Answer) × IsQueryIn Index (schema_words table.schema) fields query × IsAnswer query table.rows reply × Is reply
+-- The fields ask a query, whose answer over the rows satisfies `Is`.
+abbrev pub ForAskedQuery : Table → List Field → (Answer → Type 0) → Type 0
+ForAskedQuery table fields Is =
+    (query : Query) × (reply : Answer) × IsQueryIn Index (schema_vocabulary table.schema) fields query × IsAnswer query table.rows reply × Is reply
 
-abbrev pub IsReplied : Opened → List Field → FlatAnswer → List Place → Ending → Type 0
-IsReplied opened fields answer places (Ok done) =
-    IsAsked opened.table fields (λ reply. IsWritten reply answer places)
-IsReplied opened fields answer places (Err BadQuery) = (query : Query) → IsQueryIn Index (schema_words opened.table.schema) fields query → ⊥
-IsReplied opened fields answer places (Err NoRoom) =
-    IsAsked opened.table fields (λ reply. IsShort reply answer places)
-IsReplied opened fields answer places (Err NoMemory) = Unit {0}
-IsReplied opened fields answer places (Err why) = ⊥
+abbrev pub IsReplied : OpenIndex → List Field → FlatAnswer → List Origin → Ending → Type 0
+IsReplied opened fields answer origins (Ok done) =
+    ForAskedQuery opened.table fields (λ reply. IsWrittenAnswer reply answer origins)
+IsReplied opened fields answer origins (Err BadQuery) = (query : Query) → IsQueryIn Index (schema_vocabulary opened.table.schema) fields query → ⊥
+IsReplied opened fields answer origins (Err BufferTooSmall) =
+    ForAskedQuery opened.table fields (λ reply. ListsTooMany reply answer origins)
+IsReplied opened fields answer origins (Err NoMemory) = Unit {0}
+IsReplied opened fields answer origins (Err why) = ⊥
 
--- what is so of a call of an open handle; a closed one is refused
-abbrev pub WhereOpen : Option Opened → (Opened → Ending → Type 0) → Ending → Type 0
+-- `Is` holds of a call of an open handle. A closed handle is refused.
+abbrev pub WhereOpen : Option OpenIndex → (OpenIndex → Ending → Type 0) → Ending → Type 0
 WhereOpen None Is ending = ending ≡ Err Closed
 WhereOpen (Some opened) Is ending = Is opened ending
 
-abbrev pub IsAsking : Option Opened → List Field → FlatAnswer → List Place → Ending → Type 0
-IsAsking held fields answer places ending =
-    WhereOpen held (λ opened ending. IsReplied opened fields answer places ending) ending
+abbrev pub IsAsking : Option OpenIndex → List Field → FlatAnswer → List Origin → Ending → Type 0
+IsAsking index fields answer origins ending =
+    WhereOpen index (λ opened ending. IsReplied opened fields answer origins ending) ending
 
 -- ---- selecting
 
--- bit i of the words says whether the predicate holds of row i; past the last row it is clear
+-- Bit i of the words is set if the predicate holds of row i. Past the last row it is clear.
 pub record IsMask (table : Table) (pred : Pred) (words : List ℕ) : Type 0 where
   pub long : length words ≡ word_count (length table.rows)
-  pub bits : (i : ℕ) → bit_of words i ≡ slice_index_or (selected pred table.rows) i false
+  pub bits : (i : ℕ) → bit_of words i ≡ slice_index_or (selection_of pred table.rows) i false
 
-abbrev pub IsMasked : Opened → List Field → List ℕ → Ending → Type 0
+abbrev pub IsMasked : OpenIndex → List Field → List ℕ → Ending → Type 0
 IsMasked opened fields words (Ok done) =
-    (pred : Pred) × IsPredicate (schema_words opened.table.schema) fields pred
+    (pred : Pred) × IsPredicate (schema_vocabulary opened.table.schema) fields pred
     × IsMask opened.table pred (take (word_count (length opened.table.rows)) words)
-IsMasked opened fields words (Err BadQuery) = (pred : Pred) → IsPredicate (schema_words opened.table.schema) fields pred → ⊥
-IsMasked opened fields words (Err NoRoom) =
-    (pred : Pred) × IsPredicate (schema_words opened.table.schema) fields pred × (length words < word_count (length opened.table.rows))
+IsMasked opened fields words (Err BadQuery) = (pred : Pred) → IsPredicate (schema_vocabulary opened.table.schema) fields pred → ⊥
+IsMasked opened fields words (Err BufferTooSmall) =
+    (pred : Pred) × IsPredicate (schema_vocabulary opened.table.schema) fields pred × (length words < word_count (length opened.table.rows))
 IsMasked opened fields words (Err NoMemory) = Unit {0}
 IsMasked opened fields words (Err why) = ⊥
 
-abbrev pub IsSelecting : Option Opened → List Field → List ℕ → Ending → Type 0
-IsSelecting held fields words ending = WhereOpen held (λ opened ending. IsMasked opened fields words ending) ending
+abbrev pub IsSelecting : Option OpenIndex → List Field → List ℕ → Ending → Type 0
+IsSelecting index fields words ending = WhereOpen index (λ opened ending. IsMasked opened fields words ending) ending
 
--- the words behind those of the rows are what they were
-abbrev pub LeavesWords : Option Opened → List ℕ → List ℕ → Type 0
+-- The words after those of the rows are unchanged.
+abbrev pub LeavesWords : Option OpenIndex → List ℕ → List ℕ → Type 0
 LeavesWords None before words = Unit {0}
 LeavesWords (Some opened) before words =
     drop (word_count (length opened.table.rows)) words ≡ drop (word_count (length opened.table.rows)) before
 
--- ---- what stands
+-- ---- what the index is
 
-abbrev pub IsCounted : Opened → ℕ → Ending → Type 0
-IsCounted opened rows (Ok done) = rows ≡ length opened.table.rows
-IsCounted opened rows (Err why) = ⊥
+abbrev pub IsRowCount : OpenIndex → ℕ → Ending → Type 0
+IsRowCount opened rows (Ok done) = rows ≡ length opened.table.rows
+IsRowCount opened rows (Err why) = ⊥
 
-abbrev pub IsCounting : Option Opened → ℕ → Ending → Type 0
-IsCounting held rows ending = WhereOpen held (λ opened ending. IsCounted opened rows ending) ending
+-- The call for the number of rows: of an open handle it always succeeds.
+abbrev pub IsCounting : Option OpenIndex → ℕ → Ending → Type 0
+IsCounting index rows ending = WhereOpen index (λ opened ending. IsRowCount opened rows ending) ending
 
--- the first bytes are a text that declares the schema and the limit
-abbrev pub IsDescribed : Opened → List ℕ → ℕ → Ending → Type 0
+-- The first bytes are a text that declares the schema and the limit.
+abbrev pub IsDescribed : OpenIndex → List ℕ → ℕ → Ending → Type 0
 IsDescribed opened bytes size (Ok done) =
     (size ≡ length opened.text) × (take size bytes ≡ opened.text)
     × IsSchemaText (take size bytes) opened.table.schema opened.table.limit
-IsDescribed opened bytes size (Err NoRoom) = (size ≡ length opened.text) × (length bytes < size)
+IsDescribed opened bytes size (Err BufferTooSmall) = (size ≡ length opened.text) × (length bytes < size)
 IsDescribed opened bytes size (Err why) = ⊥
 
-abbrev pub IsDescribing : Option Opened → List ℕ → ℕ → Ending → Type 0
-IsDescribing held bytes size ending = WhereOpen held (λ opened ending. IsDescribed opened bytes size ending) ending
+abbrev pub IsDescribing : Option OpenIndex → List ℕ → ℕ → Ending → Type 0
+IsDescribing index bytes size ending = WhereOpen index (λ opened ending. IsDescribed opened bytes size ending) ending
 
--- ---- keeping
+-- ---- saving
 
--- the first bytes are a file that keeps the index and these notes
-abbrev pub IsKept : Opened → List ℕ → List ℕ → ℕ → Ending → Type 0
-IsKept opened notes bytes size (Ok done) =
-    (length notes ≤ max_notes) × (size ≡ length (kept_file opened.table notes))
-    × (take size bytes ≡ kept_file opened.table notes) × MayBeKept opened.table notes
-IsKept opened notes bytes size (Err LongNotes) = max_notes < length notes
-IsKept opened notes bytes size (Err NoRoom) =
-    (length notes ≤ max_notes) × (size ≡ length (kept_file opened.table notes)) × (length bytes < size)
-IsKept opened notes bytes size (Err NoMemory) = Unit {0}
-IsKept opened notes bytes size (Err why) = ⊥
+-- The first bytes are a file of the index with these notes.
+abbrev pub IsSerialized : OpenIndex → List ℕ → List ℕ → ℕ → Ending → Type 0
+IsSerialized opened notes bytes size (Ok done) =
+    (length notes ≤ max_notes) × (size ≡ length (table_segment opened.table notes))
+    × (take size bytes ≡ table_segment opened.table notes) × MayBeSaved opened.table notes
+IsSerialized opened notes bytes size (Err LongNotes) = max_notes < length notes
+IsSerialized opened notes bytes size (Err BufferTooSmall) =
+    (length notes ≤ max_notes) × (size ≡ length (table_segment opened.table notes)) × (length bytes < size)
+IsSerialized opened notes bytes size (Err NoMemory) = Unit {0}
+IsSerialized opened notes bytes size (Err why) = ⊥
 
-abbrev pub IsKeeping : Option Opened → List ℕ → List ℕ → ℕ → Ending → Type 0
-IsKeeping held notes bytes size ending = WhereOpen held (λ opened ending. IsKept opened notes bytes size ending) ending
+abbrev pub IsSaving : Option OpenIndex → List ℕ → List ℕ → ℕ → Ending → Type 0
+IsSaving index notes bytes size ending = WhereOpen index (λ opened ending. IsSerialized opened notes bytes size ending) ending
 
--- ---- opening what was kept
+-- ---- opening a file
 
--- the refusal of bytes with this fault
-abbrev pub kept_refusal : OpenFault → Refusal
-kept_refusal open_fault.NotKept = NotKept
-kept_refusal open_fault.OtherVersion = OtherVersion
-kept_refusal open_fault.CutShort = CutShort
-kept_refusal open_fault.Damaged = Damaged
-kept_refusal open_fault.Read = NoMemory
-kept_refusal open_fault.NoMemory = NoMemory
+-- The refusal of a file with this fault.
+abbrev pub file_refusal : OpenFault → Refusal
+file_refusal open_fault.NotAnIndex = NotAnIndex
+file_refusal open_fault.OtherVersion = OtherVersion
+file_refusal open_fault.CutShort = CutShort
+file_refusal open_fault.Damaged = Damaged
+file_refusal open_fault.Read = NoMemory
+file_refusal open_fault.NoMemory = NoMemory
 
--- this fault is met at the first of the bytes, or behind the first so many, which keep an index
-abbrev pub Meets : List ℕ → ℕ → OpenFault → Type 0
-Meets bytes whole fault =
-    ((whole ≡ 0) × ((after : Option (List ℕ)) × IsFirstFault (Some bytes) after fault))
-    ⊎ ((after : Option (List ℕ)) × (t : Table) × (notes : List ℕ) × IsOpened (Some bytes) after t notes whole (Some fault))
+-- The fault is met at the first segment, or after the first `whole` bytes, which are a file.
+abbrev pub MeetsFaultAfter : List ℕ → ℕ → OpenFault → Type 0
+MeetsFaultAfter bytes whole fault =
+    ((whole ≡ 0) × ((after : KnownBytes) × IsFirstSegmentFault (Some bytes) after fault))
+    ⊎ ((after : KnownBytes) × (t : Table) × (notes : Bytes) × IsOpened (Some bytes) after t notes whole (Some fault))
 
--- the first so many bytes keep an index, or they are none
-abbrev pub FirstKeep : List ℕ → ℕ → Type 0
-FirstKeep bytes whole =
-    (whole ≡ 0) ⊎ ((whole ≤ length bytes) × (t : Table) × (notes : List ℕ) × Keeps (take whole bytes) t notes)
+-- The first `whole` bytes are a file, or there are none.
+abbrev pub BeginsWithFile : List ℕ → ℕ → Type 0
+BeginsWithFile bytes whole =
+    (whole ≡ 0) ⊎ ((whole ≤ length bytes) × (t : Table) × (notes : Bytes) × IsFileOf (take whole bytes) t notes)
 
--- the bytes are refused, and so many first ones keep an index
-abbrev pub IsKeptRefusal : List ℕ → ℕ → Refusal → Type 0
-IsKeptRefusal bytes whole NotKept = Meets bytes whole open_fault.NotKept
-IsKeptRefusal bytes whole OtherVersion = Meets bytes whole open_fault.OtherVersion
-IsKeptRefusal bytes whole CutShort = Meets bytes whole open_fault.CutShort
-IsKeptRefusal bytes whole Damaged = Meets bytes whole open_fault.Damaged
-IsKeptRefusal bytes whole NoMemory = FirstKeep bytes whole
-IsKeptRefusal bytes whole why = ⊥
+-- The bytes are refused. The first `whole` bytes are a file, or there are none.
+abbrev pub IsFileRefusal : List ℕ → ℕ → Refusal → Type 0
+IsFileRefusal bytes whole NotAnIndex = MeetsFaultAfter bytes whole open_fault.NotAnIndex
+IsFileRefusal bytes whole OtherVersion = MeetsFaultAfter bytes whole open_fault.OtherVersion
+IsFileRefusal bytes whole CutShort = MeetsFaultAfter bytes whole open_fault.CutShort
+IsFileRefusal bytes whole Damaged = MeetsFaultAfter bytes whole open_fault.Damaged
+IsFileRefusal bytes whole NoMemory = BeginsWithFile bytes whole
+IsFileRefusal bytes whole why = ⊥
 
--- all bytes keep the index, whose text declares its schema and its limit
-pub record IsKeptBy (bytes notes : List ℕ) (opened : Opened) : Type 0 where
-  pub keeps : Keeps bytes opened.table notes
+-- The bytes are a file of the index, whose text declares its schema and limit.
+pub record IsIndexOfFile (bytes notes : Bytes) (opened : OpenIndex) : Type 0 where
+  pub file : IsFileOf bytes opened.table notes
   pub declared : IsSchemaText opened.text opened.table.schema opened.table.limit
 
--- the bytes keep notes of this length, for which there is too little room
-abbrev pub AreLong : List ℕ → List ℕ → ℕ → Type 0
-AreLong bytes room size =
-    (t : Table) × (notes : List ℕ) × Keeps bytes t notes × (size ≡ length notes) × (length room < size)
+-- The file has notes of `size` bytes, too many for the buffer.
+abbrev pub AreNotesTooLong : List ℕ → List ℕ → ℕ → Type 0
+AreNotesTooLong bytes out size =
+    (t : Table) × (notes : Bytes) × IsFileOf bytes t notes × (size ≡ length notes) × (length out < size)
 
--- a closed handle gets the index that all bytes keep, and the first of the room its notes
-abbrev pub IsReopening : Option State → List ℕ → List ℕ → ℕ → ℕ → Option State → Ending → Type 0
-IsReopening before bytes room size whole after (Ok done) =
-    (opened_in before ≡ None) × MatchOption (opened_in after) ⊥ (IsKeptBy bytes (take size room))
-    × (is_shared after ≡ false) × (size ≤ length room) × (whole ≡ length bytes)
-IsReopening before bytes room size whole after (Err Open) = IsSome (opened_in before) × (whole ≡ 0)
-IsReopening before bytes room size whole after (Err NoRoom) =
-    (opened_in before ≡ None) × AreLong bytes room size × (whole ≡ length bytes)
-IsReopening before bytes room size whole after (Err why) = (opened_in before ≡ None) × IsKeptRefusal bytes whole why
+-- A closed handle gets the index of the file, and the buffer gets the notes.
+abbrev pub IsReopening : Option HandleState → List ℕ → List ℕ → ℕ → ℕ → Option HandleState → Ending → Type 0
+IsReopening before bytes out size whole after (Ok done) =
+    (opened_in before ≡ None) × MatchOption (opened_in after) ⊥ (IsIndexOfFile bytes (take size out))
+    × (is_shared after ≡ false) × (size ≤ length out) × (whole ≡ length bytes)
+IsReopening before bytes out size whole after (Err Open) = IsSome (opened_in before) × (whole ≡ 0)
+IsReopening before bytes out size whole after (Err BufferTooSmall) =
+    (opened_in before ≡ None) × AreNotesTooLong bytes out size × (whole ≡ length bytes)
+IsReopening before bytes out size whole after (Err why) = (opened_in before ≡ None) × IsFileRefusal bytes whole why
 
 -- ---- sharing and closing
 
--- a handle holds this index, with others
-abbrev pub HoldsShared : Option State → Option Opened → Type 0
-HoldsShared held opened = (opened_in held ≡ opened) × (is_shared held ≡ true)
+-- The handle shares this index with others.
+abbrev pub HoldsShared : Option HandleState → Option OpenIndex → Type 0
+HoldsShared index opened = (opened_in index ≡ opened) × (is_shared index ≡ true)
 
--- an index can't be shared: there is none, or memory was refused
-abbrev pub IsShareRefusal : Option Opened → Refusal → Type 0
-IsShareRefusal held Closed = held ≡ None
-IsShareRefusal held NoMemory = IsSome held
-IsShareRefusal held why = ⊥
+-- The index can't be shared: there is none, or memory was refused.
+abbrev pub IsShareRefusal : Option OpenIndex → Refusal → Type 0
+IsShareRefusal index Closed = index ≡ None
+IsShareRefusal index NoMemory = IsSome index
+IsShareRefusal index why = ⊥
 
-abbrev pub IsSharing : Option State → Option State → Option State → Option State → Ending → Type 0
+abbrev pub IsSharing : Option HandleState → Option HandleState → Option HandleState → Option HandleState → Ending → Type 0
 IsSharing before other after beside (Ok done) =
     (opened_in other ≡ None) × HoldsShared after (opened_in before) × HoldsShared beside (opened_in before)
 IsSharing before other after beside (Err Open) = IsSome (opened_in other)
 IsSharing before other after beside (Err why) = (opened_in other ≡ None) × IsShareRefusal (opened_in before) why
 
-abbrev pub IsClosing : Option Opened → Ending → Type 0
-IsClosing held (Ok done) = IsSome held
-IsClosing held (Err Closed) = held ≡ None
-IsClosing held (Err why) = ⊥
+abbrev pub IsClosing : Option OpenIndex → Ending → Type 0
+IsClosing index (Ok done) = IsSome index
+IsClosing index (Err Closed) = index ≡ None
+IsClosing index (Err why) = ⊥

@@ -3,7 +3,7 @@ pub mod Columns
 pub mod Groups
 pub mod Memory
 pub mod Numbers
-pub mod Opened
+pub mod OpenIndex
 pub mod Owned
 pub mod Pairs
 pub mod States

@@ -1,9 +1,9 @@
 -- The numbers by which C knows how a call ended.
 use Rattle.std.specs.Prelude.{◌≡◌, ℕ, Result, Ok, Err}
 use Rattle.bsi_ffi.specs.declared.refusal.Refusal.{Refusal}
-use Rattle.bsi_ffi.specs.declared.refusal.Refusal.TheVariants.{Closed, Open, NoMemory, BadSchema, NoColumns, BadFeeder, BadColumns, BadRow, IndexFull, Shared, BadQuery, NoRoom, BadText, LongNotes, NotKept, OtherVersion, CutShort, Damaged}
+use Rattle.bsi_ffi.specs.declared.refusal.Refusal.TheVariants.{BadColumns, BadFeeder, BadQuery, BadRow, BadSchema, BadText, BufferTooSmall, Closed, CutShort, Damaged, IndexFull, LongNotes, NoColumns, NoMemory, NotAnIndex, Open, OtherVersion, Shared}
 
--- how a call ended: it was done, or refused
+-- How a call ended: it was done, or refused.
 abbrev pub Ending : Type 0
 Ending = Result (Unit {0}) Refusal
 
@@ -20,14 +20,14 @@ status_of (Err BadRow) = 8
 status_of (Err IndexFull) = 9
 status_of (Err Shared) = 10
 status_of (Err BadQuery) = 11
-status_of (Err NoRoom) = 12
+status_of (Err BufferTooSmall) = 12
 status_of (Err BadText) = 13
 status_of (Err LongNotes) = 14
-status_of (Err NotKept) = 15
+status_of (Err NotAnIndex) = 15
 status_of (Err OtherVersion) = 16
 status_of (Err CutShort) = 17
 status_of (Err Damaged) = 18
 
--- the status is that of an ending of which this is so
-abbrev pub Tells : ℕ → (Ending → Type 0) → Type 0
-Tells status Is = (ending : Ending) × (status ≡ status_of ending) × Is ending
+-- The status is that of an ending which satisfies `Is`.
+abbrev pub ReturnsStatus : ℕ → (Ending → Type 0) → Type 0
+ReturnsStatus status Is = (ending : Ending) × (status ≡ status_of ending) × Is ending

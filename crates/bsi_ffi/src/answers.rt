@@ -1,9 +1,9 @@
-//! Answers as C has them.
+//! Answers the query that C passes as fields, and writes the answer as a C struct (`FlatAnswer`) and a list of rows.
 
 ghost use Rattle.std.specs.Prelude.{◌≡◌, ◌≢◌, ◌<◌, drop, map, take, length, Err, IfErr, OnErr, OnOk};
-ghost use Rattle.bsi_ffi.specs.Calls.{as_pairs, IsReplied, IsShort, IsWritten, LeavesRest};
+ghost use Rattle.bsi_ffi.specs.Calls.{as_pairs, IsReplied, IsWrittenAnswer, LeavesRest, ListsTooMany};
 
-use crate::opened::Opened;
+use crate::open_index::OpenIndex;
 use crate::refusal::Refusal;
 use crate::selection::read_query;
 use bsi_table::{Answer, AskError};
@@ -45,7 +45,7 @@ pub struct FlatAnswer {
 /// A row of an answer: its feeder, and its number among the feeder's rows.
 #[repr(C)]
 #[derive(Clone, Copy, Debug, PartialEq, Eq)]
-pub struct Place {
+pub struct Origin {
     /// The feeder.
     pub feeder: u32,
     /// The number, from 0.
@@ -55,22 +55,22 @@ pub struct Place {
 /// Answers the query that the fields ask.
 pub(crate) fn reply(
     alloc: Global,
-    opened: &Opened,
+    opened: &OpenIndex,
     fields: &[&[u8]],
     answer: &mut FlatAnswer,
-    places: &mut [Place],
+    origins: &mut [Origin],
 ) -> Result<(), Refusal>
-    ensures replied { IsReplied opened.now (map (λ f. f.now) fields.now) answer.new places.new result }
-    ensures left { IfErr result (λ why. why ≢ Refusal.NoRoom → answer.new ≡ answer.old) }
-    ensures unfilled { OnErr result (places.new ≡ places.old) }
-    ensures rest { OnOk result (LeavesRest answer.new places.old places.new) }
+    ensures replied { IsReplied opened.now (map (λ f. f.now) fields.now) answer.new origins.new result }
+    ensures answer_unchanged { IfErr result (λ why. why ≢ Refusal.BufferTooSmall → answer.new ≡ answer.old) }
+    ensures origins_unchanged { OnErr result (origins.new ≡ origins.old) }
+    ensures rest_unchanged { OnOk result (LeavesRest answer.new origins.old origins.new) }
 {
     let index = opened.index();
     let Some(query) = read_query(alloc, index.schema(), fields)? else {
         return Err(Refusal::BadQuery);
     };
     match index.ask(&query) {
-        Ok(reply) => write(&reply, answer, places),
+        Ok(reply) => write(&reply, answer, origins),
         Err(AskError::NoMemory) => Err(Refusal::NoMemory),
         // By the proof this never is, since the columns of a query that was read are there.
         Err(AskError::BadColumn(_)) => Err(Refusal::BadQuery),
@@ -81,13 +81,13 @@ pub(crate) fn reply(
 pub(crate) fn write(
     reply: &Answer,
     answer: &mut FlatAnswer,
-    places: &mut [Place],
+    origins: &mut [Origin],
 ) -> Result<(), Refusal>
-    ensures written { OnOk result (IsWritten reply.now answer.new places.new) }
-    ensures short { IfErr result (λ why. (why ≡ Refusal.NoRoom)
-        × IsShort reply.now answer.new places.new) }
-    ensures unfilled { OnErr result (places.new ≡ places.old) }
-    ensures rest { OnOk result (LeavesRest answer.new places.old places.new) }
+    ensures written { OnOk result (IsWrittenAnswer reply.now answer.new origins.new) }
+    ensures short { IfErr result (λ why. (why ≡ Refusal.BufferTooSmall)
+        × ListsTooMany reply.now answer.new origins.new) }
+    ensures origins_unchanged { OnErr result (origins.new ≡ origins.old) }
+    ensures rest_unchanged { OnOk result (LeavesRest answer.new origins.old origins.new) }
 {
     match reply {
         Answer::Count(count) => {
@@ -112,27 +112,27 @@ pub(crate) fn write(
         Answer::Rows(rows) => {
             answer.kind = ROWS;
             answer.count = rows.len() as u64;
-            return list(rows, places);
+            return list(rows, origins);
         }
     }
     Ok(())
 }
 
-/// Writes rows, if there are places for all.
-fn list(rows: &[(u32, u64)], places: &mut [Place]) -> Result<(), Refusal>
-    ensures listed { OnOk result (as_pairs (take (length rows.now) places.new) ≡ rows.now) }
-    ensures short { IfErr result (λ why. (why ≡ Refusal.NoRoom)
-        × (length places.new < length rows.now)) }
-    ensures unfilled { OnErr result (places.new ≡ places.old) }
-    ensures rest { OnOk result
-        (drop (length rows.now) places.new ≡ drop (length rows.now) places.old) }
+/// Writes rows, if the buffer is large enough.
+fn list(rows: &[(u32, u64)], origins: &mut [Origin]) -> Result<(), Refusal>
+    ensures listed { OnOk result (as_pairs (take (length rows.now) origins.new) ≡ rows.now) }
+    ensures short { IfErr result (λ why. (why ≡ Refusal.BufferTooSmall)
+        × (length origins.new < length rows.now)) }
+    ensures origins_unchanged { OnErr result (origins.new ≡ origins.old) }
+    ensures rest_unchanged { OnOk result
+        (drop (length rows.now) origins.new ≡ drop (length rows.now) origins.old) }
 {
-    if rows.len() > places.len() {
-        return Err(Refusal::NoRoom);
+    if rows.len() > origins.len() {
+        return Err(Refusal::BufferTooSmall);
     }
     'rows: for (at, row) in rows.iter().enumerate() {
         let (feeder, row) = *row;
-        places[at] = Place { feeder, row };
+        origins[at] = Origin { feeder, row };
     }
     Ok(())
 }

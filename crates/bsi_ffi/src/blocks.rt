@@ -1,16 +1,16 @@
-//! Rows of columns that go into an index, block by block.
+//! Tests rows that C passes as arrays, one a column (`ColumnInput`), and appends them to an index, block by block.
 
 ghost use Rattle.std.specs.Prelude.{◌≡◌, ◌+◌, ◌%◌, ◌<◌, ◌≤◌, length, replicate, true, IfErr, OnErr, OnOk};
 ghost use Rattle.bsi_ffi.specs.Calls.{with_first, AreAppendable, AppendsColumns, IsRowsRefusal};
-ghost use Rattle.bsi_ffi.specs.Columns.{are_columns, given_rows, row_count, AreTaken};
+ghost use Rattle.bsi_ffi.specs.Columns.{are_columns, input_rows, row_count, AreAccepted};
 ghost use Rattle.bsi_rows.specs.RowBlocks.{max_block_rows};
 ghost use Rattle.bsi_rows.specs.Rows.{feeders_of};
 ghost use Rattle.bsi_rows.specs.Table.{with_rows, AreFitting};
 ghost use Rattle.bsi_table.specs.Index.{table_of};
 
-use crate::columns::{GivenColumn, are_columns, count_rows, first_unlike, not_null_word};
-use crate::fitting::first_misfit;
+use crate::columns::{ColumnInput, are_columns, count_rows, first_unlike, not_null_word};
 use crate::refusal::Refusal;
+use crate::validation::first_misfit;
 use bsi_table::{Block, Index, MAX_BLOCK_ROWS, NoMemory};
 
 /// Gives the block so many rows of a feeder, for their columns to be written. Those that it has stay, if they are as many.
@@ -31,17 +31,17 @@ fn size_block(feeder: u32, count: usize, block: &mut Block)
 }
 
 /// Fills the block with 1 to 64 rows of a feeder, from row `from` on, a multiple of 64, column by column. Each fits.
-fn fill_block(feeder: u32, columns: &[GivenColumn], from: usize, count: usize, block: &mut Block)
+fn fill_block(feeder: u32, columns: &[ColumnInput], from: usize, count: usize, block: &mut Block)
     requires fed { feeder < block.old.feeders }
     requires fed_before { feeders_of block.old.rows ≡ replicate (length block.old.rows) feeder }
     requires even { are_columns (length block.old.schema.columns) columns.now ≡ true }
-    requires taken { AreTaken block.old.schema.columns columns.now (row_count columns.now) }
+    requires accepted { AreAccepted block.old.schema.columns columns.now (row_count columns.now) }
     requires within { from + count ≤ row_count columns.now }
     requires first { from % max_block_rows ≡ 0 }
     requires few { (0 < count) × (count ≤ max_block_rows) }
     ensures schema { block.new.schema ≡ block.old.schema }
     ensures feeders { block.new.feeders ≡ block.old.feeders }
-    ensures rows { block.new.rows ≡ given_rows feeder columns.now from count }
+    ensures rows { block.new.rows ≡ input_rows feeder columns.now from count }
 {
     size_block(feeder, count, block);
     'columns: for (c, column) in columns.iter().enumerate() {
@@ -54,14 +54,14 @@ fn fill_block(feeder: u32, columns: &[GivenColumn], from: usize, count: usize, b
 fn append_block(
     index: &mut Index,
     feeder: u32,
-    columns: &[GivenColumn],
+    columns: &[ColumnInput],
     from: usize,
     count: usize,
     block: &mut Block,
 ) -> Result<(), NoMemory>
     requires fed { feeder < index.old.feeders }
     requires even { are_columns (length index.old.schema.columns) columns.now ≡ true }
-    requires taken { AreTaken index.old.schema.columns columns.now (row_count columns.now) }
+    requires accepted { AreAccepted index.old.schema.columns columns.now (row_count columns.now) }
     requires within { from + count ≤ row_count columns.now }
     requires first { from % max_block_rows ≡ 0 }
     requires few { (0 < count) × (count ≤ max_block_rows) }
@@ -73,8 +73,8 @@ fn append_block(
     ensures from { feeders_of block.new.rows ≡ replicate (length block.new.rows) feeder }
     ensures appended { OnOk result
         (table_of index.new
-        ≡ with_rows (table_of index.old) (given_rows feeder columns.now from count)) }
-    ensures kept { OnErr result (table_of index.new ≡ table_of index.old) }
+        ≡ with_rows (table_of index.old) (input_rows feeder columns.now from count)) }
+    ensures unchanged { OnErr result (table_of index.new ≡ table_of index.old) }
 {
     fill_block(feeder, columns, from, count, block);
     // All rows were tested, so only memory can be refused.
@@ -87,7 +87,7 @@ fn append_block(
 fn append_blocks(
     index: &mut Index,
     feeder: u32,
-    columns: &[GivenColumn],
+    columns: &[ColumnInput],
     appended: &mut u64,
 ) -> Result<(), NoMemory>
     requires { AreAppendable (table_of index.old) feeder columns.now }
@@ -118,12 +118,12 @@ fn append_blocks(
 fn check_rows(
     index: &Index,
     feeder: u32,
-    columns: &[GivenColumn],
+    columns: &[ColumnInput],
     row: &mut u64,
     column: &mut usize,
 ) -> Result<(), Refusal>
     requires { (row.old ≡ 0) × (column.old ≡ 0) }
-    ensures taken { OnOk result (AreAppendable (table_of index.now) feeder columns.now) }
+    ensures accepted { OnOk result (AreAppendable (table_of index.now) feeder columns.now) }
     ensures unmarked { OnOk result (column.new ≡ 0) }
     ensures refused { IfErr result (IsRowsRefusal (table_of index.now) feeder columns.now row.new
         column.new) }
@@ -155,7 +155,7 @@ fn check_rows(
 pub(crate) fn append_columns(
     index: &mut Index,
     feeder: u32,
-    columns: &[GivenColumn],
+    columns: &[ColumnInput],
     row: &mut u64,
     column: &mut usize,
 ) -> Result<(), Refusal>

@@ -1,56 +1,56 @@
-//! The calls on a handle.
+//! The calls of the C library, each on an open handle.
 
 ghost use Rattle.std.specs.Prelude.{◌≡◌, ◌≢◌, None, drop, is_some, length, map, IfErr, OnErr, OnOk};
-ghost use Rattle.bsi_ffi.specs.Calls.{IsAppending, IsAsking, IsClosing, IsCounting, IsDescribing, IsKeeping, IsOpening, IsReopening, IsReserving, IsSelecting, IsSharing, LeavesRest, LeavesWords};
+ghost use Rattle.bsi_ffi.specs.Calls.{IsAppending, IsAsking, IsClosing, IsCounting, IsDescribing, IsOpening, IsReopening, IsReserving, IsSaving, IsSelecting, IsSharing, LeavesRest, LeavesWords};
 ghost use Rattle.bsi_ffi.specs.Groups.{IsGrouping};
 ghost use Rattle.bsi_ffi.specs.Memory.{IsMeasuring};
-ghost use Rattle.bsi_ffi.specs.Numbers.{IsCountingDifferent, IsFindingQuantile, IsRanking};
+ghost use Rattle.bsi_ffi.specs.Numbers.{IsCountingDistinct, IsFindingQuantile, IsRanking};
 ghost use Rattle.bsi_ffi.specs.Pairs.{IsGroupingByTwo};
 ghost use Rattle.bsi_ffi.specs.States.{opened_in};
-ghost use Rattle.bsi_ffi.specs.Tops.{end_of, IsTopping};
+ghost use Rattle.bsi_ffi.specs.Tops.{extreme_of, IsListingTop};
 
-use crate::answers::{FlatAnswer, Place, reply};
-use crate::columns::GivenColumn;
+use crate::answers::{FlatAnswer, Origin, reply};
+use crate::columns::ColumnInput;
 use crate::groups::{FlatGroup, reply_groups};
-use crate::held::{Handle, put, take};
-use crate::keeping::{fill, keep, open_bytes};
-use crate::memory::kept_bytes;
-use crate::numbers::{count_different, reply_quantile, reply_ranks};
+use crate::handle::{Handle, attach_state, detach_state};
+use crate::memory::index_bytes;
+use crate::numbers::{reply_distinct, reply_quantile, reply_ranks};
 use crate::pairs::{FlatEntry, FlatPair, reply_pairs};
-use crate::reading::open_text;
 use crate::refusal::Refusal;
+use crate::schema_text::open_text;
 use crate::selection::write_mask;
-use crate::state::State;
-use crate::tops::{FlatRow, end_of, reply_top};
+use crate::serialization::{copy_out, open_bytes, serialize};
+use crate::state::HandleState;
+use crate::tops::{FlatRow, extreme_of, reply_top};
 use bsi_table::MAX_FEEDERS;
 use std::alloc::Global;
 
-/// Asks the index that a handle holds, or returns that it is closed. What holds the index is out of the handle meanwhile,
-/// since nothing lends what a handle of C owns.
-macro_rules! ask_held {
+/// Asks the index of a handle, or returns that it is closed. The state is out of the handle meanwhile, since nothing
+/// lends what a handle of C owns.
+macro_rules! ask_open {
     ($alloc:expr, $index:expr, $opened:ident => $ending:expr) => {{
-        let Some(state) = take($index, $alloc) else {
+        let Some(state) = detach_state($index, $alloc) else {
             return Err(Refusal::Closed);
         };
         let ending = match state.opened() {
             Some($opened) => $ending,
             None => Err(Refusal::Closed),
         };
-        put($index, state);
+        attach_state($index, state);
         ending
     }};
 }
 
-/// Returns whether a handle holds an index.
+/// Returns whether a handle has an index.
 fn is_open(alloc: Global, index: &mut Handle) -> bool
-    ensures kept { index.new.held.value ≡ index.old.held.value }
-    ensures told { result ≡ is_some (opened_in index.old.held.value) }
+    ensures unchanged { index.new.pointer.value ≡ index.old.pointer.value }
+    ensures is_open { result ≡ is_some (opened_in index.old.pointer.value) }
 {
-    let Some(state) = take(index, alloc) else {
+    let Some(state) = detach_state(index, alloc) else {
         return false;
     };
     let is_open = state.opened().is_some();
-    put(index, state);
+    attach_state(index, state);
     is_open
 }
 
@@ -63,9 +63,9 @@ pub fn open(
     feeders: u32,
     bad_record: &mut u64,
 ) -> Result<(), Refusal>
-    ensures ending { IsOpening index.old.held.value text.now feeders bad_record.new
-        index.new.held.value result }
-    ensures kept { OnErr result (index.new.held.value ≡ index.old.held.value) }
+    ensures ending { IsOpening index.old.pointer.value text.now feeders bad_record.new
+        index.new.pointer.value result }
+    ensures unchanged { OnErr result (index.new.pointer.value ≡ index.old.pointer.value) }
 {
     *bad_record = 0;
     if is_open(alloc, index) {
@@ -75,24 +75,24 @@ pub fn open(
         return Err(Refusal::BadFeeder);
     }
     let opened = open_text(alloc, text, feeders, bad_record)?;
-    let Ok(state) = Box::new(alloc, State::Alone(opened)) else {
+    let Ok(state) = Box::new(alloc, HandleState::Owned(opened)) else {
         return Err(Refusal::NoMemory);
     };
-    drop(take(index, alloc));
-    put(index, state);
+    drop(detach_state(index, alloc));
+    attach_state(index, state);
     Ok(())
 }
 
-/// Makes room for so many further rows. No row changes.
+/// Reserves memory for `rows` more rows. No row changes.
 pub fn reserve(alloc: Global, index: &mut Handle, rows: u64) -> Result<(), Refusal>
-    ensures ending { IsReserving index.old.held.value rows result }
-    ensures kept { index.new.held.value ≡ index.old.held.value }
+    ensures ending { IsReserving index.old.pointer.value rows result }
+    ensures unchanged { index.new.pointer.value ≡ index.old.pointer.value }
 {
-    let Some(mut state) = take(index, alloc) else {
+    let Some(mut state) = detach_state(index, alloc) else {
         return Err(Refusal::Closed);
     };
     let ending = state.reserve(rows);
-    put(index, state);
+    attach_state(index, state);
     ending
 }
 
@@ -103,22 +103,22 @@ pub fn append(
     alloc: Global,
     index: &mut Handle,
     feeder: u32,
-    columns: &[GivenColumn],
+    columns: &[ColumnInput],
     row: &mut u64,
     column: &mut usize,
 ) -> Result<(), Refusal>
-    ensures ending { IsAppending index.old.held.value feeder columns.now row.new column.new
-        index.new.held.value result }
-    ensures kept { IfErr result (λ why. why ≢ Refusal.NoMemory →
-        index.new.held.value ≡ index.old.held.value) }
+    ensures ending { IsAppending index.old.pointer.value feeder columns.now row.new column.new
+        index.new.pointer.value result }
+    ensures unchanged { IfErr result (λ why. why ≢ Refusal.NoMemory →
+        index.new.pointer.value ≡ index.old.pointer.value) }
 {
-    let Some(mut state) = take(index, alloc) else {
+    let Some(mut state) = detach_state(index, alloc) else {
         *row = 0;
         *column = 0;
         return Err(Refusal::Closed);
     };
     let ending = state.append(feeder, columns, row, column);
-    put(index, state);
+    attach_state(index, state);
     ending
 }
 
@@ -128,16 +128,16 @@ pub fn ask(
     index: &mut Handle,
     fields: &[&[u8]],
     answer: &mut FlatAnswer,
-    places: &mut [Place],
+    origins: &mut [Origin],
 ) -> Result<(), Refusal>
-    ensures ending { IsAsking (opened_in index.old.held.value) (map (λ f. f.now) fields.now)
-        answer.new places.new result }
-    ensures kept { index.new.held.value ≡ index.old.held.value }
-    ensures left { IfErr result (λ why. why ≢ Refusal.NoRoom → answer.new ≡ answer.old) }
-    ensures unfilled { OnErr result (places.new ≡ places.old) }
-    ensures rest { OnOk result (LeavesRest answer.new places.old places.new) }
+    ensures ending { IsAsking (opened_in index.old.pointer.value) (map (λ f. f.now) fields.now)
+        answer.new origins.new result }
+    ensures unchanged { index.new.pointer.value ≡ index.old.pointer.value }
+    ensures answer_unchanged { IfErr result (λ why. why ≢ Refusal.BufferTooSmall → answer.new ≡ answer.old) }
+    ensures origins_unchanged { OnErr result (origins.new ≡ origins.old) }
+    ensures rest_unchanged { OnOk result (LeavesRest answer.new origins.old origins.new) }
 {
-    ask_held!(alloc, index, opened => reply(alloc, opened, fields, answer, places))
+    ask_open!(alloc, index, opened => reply(alloc, opened, fields, answer, origins))
 }
 
 /// Puts the rows that the query of the fields selects in groups by their entry in the column of this name, and writes
@@ -150,14 +150,14 @@ pub fn group(
     groups: &mut [FlatGroup],
     count: &mut usize,
 ) -> Result<(), Refusal>
-    ensures ending { IsGrouping (opened_in index.old.held.value) (map (λ f. f.now) fields.now)
+    ensures ending { IsGrouping (opened_in index.old.pointer.value) (map (λ f. f.now) fields.now)
         name.now groups.new count.new result }
-    ensures kept { index.new.held.value ≡ index.old.held.value }
-    ensures left { OnErr result (count.new ≡ count.old) }
-    ensures unfilled { OnErr result (groups.new ≡ groups.old) }
-    ensures rest { OnOk result (drop count.new groups.new ≡ drop count.new groups.old) }
+    ensures unchanged { index.new.pointer.value ≡ index.old.pointer.value }
+    ensures count_unchanged { OnErr result (count.new ≡ count.old) }
+    ensures groups_unchanged { OnErr result (groups.new ≡ groups.old) }
+    ensures rest_unchanged { OnOk result (drop count.new groups.new ≡ drop count.new groups.old) }
 {
-    ask_held!(alloc, index, opened => reply_groups(alloc, opened, fields, name, groups, count))
+    ask_open!(alloc, index, opened => reply_groups(alloc, opened, fields, name, groups, count))
 }
 
 /// Puts the rows that the query of the fields selects in groups by their entries in the columns of these names, and
@@ -171,14 +171,14 @@ pub fn group_pairs(
     pairs: &mut [FlatPair],
     count: &mut usize,
 ) -> Result<(), Refusal>
-    ensures ending { IsGroupingByTwo (opened_in index.old.held.value)
+    ensures ending { IsGroupingByTwo (opened_in index.old.pointer.value)
         (map (λ f. f.now) fields.now) first.now second.now pairs.new count.new result }
-    ensures kept { index.new.held.value ≡ index.old.held.value }
-    ensures left { OnErr result (count.new ≡ count.old) }
-    ensures unfilled { OnErr result (pairs.new ≡ pairs.old) }
-    ensures rest { OnOk result (drop count.new pairs.new ≡ drop count.new pairs.old) }
+    ensures unchanged { index.new.pointer.value ≡ index.old.pointer.value }
+    ensures count_unchanged { OnErr result (count.new ≡ count.old) }
+    ensures pairs_unchanged { OnErr result (pairs.new ≡ pairs.old) }
+    ensures rest_unchanged { OnOk result (drop count.new pairs.new ≡ drop count.new pairs.old) }
 {
-    ask_held!(
+    ask_open!(
         alloc,
         index,
         opened => reply_pairs(alloc, opened, fields, first, second, pairs, count)
@@ -186,19 +186,19 @@ pub fn group_pairs(
 }
 
 /// Writes how many different numbers the column of this name has at the rows of the predicate that the fields spell.
-pub fn different(
+pub fn count_distinct(
     alloc: Global,
     index: &mut Handle,
     fields: &[&[u8]],
     name: &[u8],
     count: &mut u64,
 ) -> Result<(), Refusal>
-    ensures ending { IsCountingDifferent (opened_in index.old.held.value)
+    ensures ending { IsCountingDistinct (opened_in index.old.pointer.value)
         (map (λ f. f.now) fields.now) name.now count.new result }
-    ensures kept { index.new.held.value ≡ index.old.held.value }
-    ensures left { OnErr result (count.new ≡ count.old) }
+    ensures unchanged { index.new.pointer.value ≡ index.old.pointer.value }
+    ensures count_unchanged { OnErr result (count.new ≡ count.old) }
 {
-    ask_held!(alloc, index, opened => count_different(alloc, opened, fields, name, count))
+    ask_open!(alloc, index, opened => reply_distinct(alloc, opened, fields, name, count))
 }
 
 /// Writes the numbers of some ranks among those that the column of this name has at such rows.
@@ -207,43 +207,44 @@ pub fn ranked(
     index: &mut Handle,
     fields: &[&[u8]],
     name: &[u8],
-    wanted: &[u64],
+    targets: &[u64],
     numbers: &mut [FlatEntry],
 ) -> Result<(), Refusal>
-    ensures ending { IsRanking (opened_in index.old.held.value) (map (λ f. f.now) fields.now)
-        name.now wanted.now numbers.new result }
-    ensures kept { index.new.held.value ≡ index.old.held.value }
-    ensures left { OnErr result (numbers.new ≡ numbers.old) }
-    ensures rest { OnOk result (drop (length wanted.now) numbers.new
-        ≡ drop (length wanted.now) numbers.old) }
+    ensures ending { IsRanking (opened_in index.old.pointer.value) (map (λ f. f.now) fields.now)
+        name.now targets.now numbers.new result }
+    ensures unchanged { index.new.pointer.value ≡ index.old.pointer.value }
+    ensures numbers_unchanged { OnErr result (numbers.new ≡ numbers.old) }
+    ensures rest_unchanged { OnOk result (drop (length targets.now) numbers.new
+        ≡ drop (length targets.now) numbers.old) }
 {
-    ask_held!(alloc, index, opened => reply_ranks(alloc, opened, fields, name, wanted, numbers))
+    ask_open!(alloc, index, opened => reply_ranks(alloc, opened, fields, name, targets, numbers))
 }
 
-/// Writes the number at the end of `part` parts of `whole` of those that the column of this name has at such rows.
+/// Writes the number at the end of `numerator` parts of `denominator` of those that the column of this name has at
+/// such rows.
 pub fn quantile(
     alloc: Global,
     index: &mut Handle,
     fields: &[&[u8]],
     name: &[u8],
-    part: u64,
-    whole: u64,
+    numerator: u64,
+    denominator: u64,
     number: &mut FlatEntry,
 ) -> Result<(), Refusal>
-    ensures ending { IsFindingQuantile (opened_in index.old.held.value)
-        (map (λ f. f.now) fields.now) name.now part whole number.new result }
-    ensures kept { index.new.held.value ≡ index.old.held.value }
-    ensures left { OnErr result (number.new ≡ number.old) }
+    ensures ending { IsFindingQuantile (opened_in index.old.pointer.value)
+        (map (λ f. f.now) fields.now) name.now numerator denominator number.new result }
+    ensures unchanged { index.new.pointer.value ≡ index.old.pointer.value }
+    ensures number_unchanged { OnErr result (number.new ≡ number.old) }
 {
-    ask_held!(
+    ask_open!(
         alloc,
         index,
-        opened => reply_quantile(alloc, opened, fields, name, part, whole, number)
+        opened => reply_quantile(alloc, opened, fields, name, numerator, denominator, number)
     )
 }
 
-/// Writes the rows with the greatest numbers, or the least, that the column of this name has at such rows, the first ones
-/// first, as many as there is room for, and how many they are.
+/// Writes the rows with the greatest numbers, or the least, that the column of this name has at such rows, the first
+/// ones first, as many as the buffer has space for, and how many they are.
 pub fn first_rows(
     alloc: Global,
     index: &mut Handle,
@@ -253,17 +254,17 @@ pub fn first_rows(
     rows: &mut [FlatRow],
     count: &mut usize,
 ) -> Result<(), Refusal>
-    ensures ending { IsTopping (opened_in index.old.held.value) (map (λ f. f.now) fields.now)
-        name.now (end_of least) rows.new count.new result }
-    ensures kept { index.new.held.value ≡ index.old.held.value }
-    ensures left { OnErr result (count.new ≡ count.old) }
-    ensures unfilled { OnErr result (rows.new ≡ rows.old) }
-    ensures rest { OnOk result (drop count.new rows.new ≡ drop count.new rows.old) }
+    ensures ending { IsListingTop (opened_in index.old.pointer.value) (map (λ f. f.now) fields.now)
+        name.now (extreme_of least) rows.new count.new result }
+    ensures unchanged { index.new.pointer.value ≡ index.old.pointer.value }
+    ensures count_unchanged { OnErr result (count.new ≡ count.old) }
+    ensures rows_unchanged { OnErr result (rows.new ≡ rows.old) }
+    ensures rest_unchanged { OnOk result (drop count.new rows.new ≡ drop count.new rows.old) }
 {
-    ask_held!(
+    ask_open!(
         alloc,
         index,
-        opened => reply_top(alloc, opened, fields, name, end_of(least), rows, count)
+        opened => reply_top(alloc, opened, fields, name, extreme_of(least), rows, count)
     )
 }
 
@@ -274,56 +275,56 @@ pub fn select(
     fields: &[&[u8]],
     words: &mut [u64],
 ) -> Result<(), Refusal>
-    ensures ending { IsSelecting (opened_in index.old.held.value) (map (λ f. f.now) fields.now)
+    ensures ending { IsSelecting (opened_in index.old.pointer.value) (map (λ f. f.now) fields.now)
         words.new result }
-    ensures kept { index.new.held.value ≡ index.old.held.value }
-    ensures left { OnErr result (words.new ≡ words.old) }
-    ensures rest { OnOk result (LeavesWords (opened_in index.old.held.value) words.old words.new) }
+    ensures unchanged { index.new.pointer.value ≡ index.old.pointer.value }
+    ensures words_unchanged { OnErr result (words.new ≡ words.old) }
+    ensures rest_unchanged { OnOk result (LeavesWords (opened_in index.old.pointer.value) words.old words.new) }
 {
-    ask_held!(alloc, index, opened => write_mask(alloc, opened, fields, words))
+    ask_open!(alloc, index, opened => write_mask(alloc, opened, fields, words))
 }
 
 /// Writes the number of rows.
 pub fn count(alloc: Global, index: &mut Handle, rows: &mut u64) -> Result<(), Refusal>
-    ensures ending { IsCounting (opened_in index.old.held.value) rows.new result }
-    ensures kept { index.new.held.value ≡ index.old.held.value }
-    ensures left { OnErr result (rows.new ≡ rows.old) }
+    ensures ending { IsCounting (opened_in index.old.pointer.value) rows.new result }
+    ensures unchanged { index.new.pointer.value ≡ index.old.pointer.value }
+    ensures rows_unchanged { OnErr result (rows.new ≡ rows.old) }
 {
-    ask_held!(alloc, index, opened => {
+    ask_open!(alloc, index, opened => {
         *rows = opened.index().len();
         Ok(())
     })
 }
 
-/// Writes how many bytes the index keeps of its rows.
-pub fn measure(alloc: Global, index: &mut Handle, bytes: &mut u64) -> Result<(), Refusal>
-    ensures ending { IsMeasuring (opened_in index.old.held.value) bytes.new result }
-    ensures kept { index.new.held.value ≡ index.old.held.value }
-    ensures left { OnErr result (bytes.new ≡ bytes.old) }
+/// Writes how many bytes the rows of the index take.
+pub fn memory_bytes(alloc: Global, index: &mut Handle, bytes: &mut u64) -> Result<(), Refusal>
+    ensures ending { IsMeasuring (opened_in index.old.pointer.value) bytes.new result }
+    ensures unchanged { index.new.pointer.value ≡ index.old.pointer.value }
+    ensures bytes_unchanged { OnErr result (bytes.new ≡ bytes.old) }
 {
-    ask_held!(alloc, index, opened => {
-        *bytes = kept_bytes(opened.index());
+    ask_open!(alloc, index, opened => {
+        *bytes = index_bytes(opened.index());
         Ok(())
     })
 }
 
-/// Writes the schema text, if there is room, and its length.
+/// Writes the schema text, if the buffer is large enough, and its length.
 pub fn describe(
     alloc: Global,
     index: &mut Handle,
     text: &mut [u8],
     size: &mut usize,
 ) -> Result<(), Refusal>
-    ensures ending { IsDescribing (opened_in index.old.held.value) text.new size.new result }
-    ensures kept { index.new.held.value ≡ index.old.held.value }
-    ensures left { IfErr result (λ why. why ≢ Refusal.NoRoom → size.new ≡ size.old) }
-    ensures unfilled { OnErr result (text.new ≡ text.old) }
-    ensures rest { OnOk result (drop size.new text.new ≡ drop size.new text.old) }
+    ensures ending { IsDescribing (opened_in index.old.pointer.value) text.new size.new result }
+    ensures unchanged { index.new.pointer.value ≡ index.old.pointer.value }
+    ensures size_unchanged { IfErr result (λ why. why ≢ Refusal.BufferTooSmall → size.new ≡ size.old) }
+    ensures text_unchanged { OnErr result (text.new ≡ text.old) }
+    ensures rest_unchanged { OnOk result (drop size.new text.new ≡ drop size.new text.old) }
 {
-    ask_held!(alloc, index, opened => opened.describe(text, size))
+    ask_open!(alloc, index, opened => opened.describe(text, size))
 }
 
-/// Writes the bytes that keep the index and these notes, if there is room, and how many they are.
+/// Writes the file of the index with these notes, if the buffer is large enough, and how many they are.
 pub fn save(
     alloc: Global,
     index: &mut Handle,
@@ -331,19 +332,19 @@ pub fn save(
     bytes: &mut [u8],
     size: &mut usize,
 ) -> Result<(), Refusal>
-    ensures ending { IsKeeping (opened_in index.old.held.value) notes.now bytes.new size.new
+    ensures ending { IsSaving (opened_in index.old.pointer.value) notes.now bytes.new size.new
         result }
-    ensures kept { index.new.held.value ≡ index.old.held.value }
-    ensures left { IfErr result (λ why. why ≢ Refusal.NoRoom → size.new ≡ size.old) }
-    ensures unfilled { OnErr result (bytes.new ≡ bytes.old) }
-    ensures rest { OnOk result (drop size.new bytes.new ≡ drop size.new bytes.old) }
+    ensures unchanged { index.new.pointer.value ≡ index.old.pointer.value }
+    ensures size_unchanged { IfErr result (λ why. why ≢ Refusal.BufferTooSmall → size.new ≡ size.old) }
+    ensures bytes_unchanged { OnErr result (bytes.new ≡ bytes.old) }
+    ensures rest_unchanged { OnOk result (drop size.new bytes.new ≡ drop size.new bytes.old) }
 {
-    ask_held!(alloc, index, opened => keep(alloc, opened, notes, bytes, size))
+    ask_open!(alloc, index, opened => serialize(alloc, opened, notes, bytes, size))
 }
 
-/// Opens a closed handle, with the index that all bytes keep, and writes the notes and their length. It writes how many
-/// of the first bytes keep an index, also where it is refused.
-pub fn open_kept(
+/// Opens a closed handle, with the index of a file, and writes the notes and their length. It writes how many of the
+/// first bytes are a file, also where it is refused.
+pub fn open_saved(
     alloc: Global,
     index: &mut Handle,
     bytes: &[u8],
@@ -351,58 +352,58 @@ pub fn open_kept(
     size: &mut usize,
     whole: &mut u64,
 ) -> Result<(), Refusal>
-    ensures ending { IsReopening index.old.held.value bytes.now notes.new size.new whole.new
-        index.new.held.value result }
-    ensures kept { OnErr result (index.new.held.value ≡ index.old.held.value) }
-    ensures left { IfErr result (λ why. why ≢ Refusal.NoRoom → size.new ≡ size.old) }
-    ensures unfilled { OnErr result (notes.new ≡ notes.old) }
-    ensures rest { OnOk result (drop size.new notes.new ≡ drop size.new notes.old) }
+    ensures ending { IsReopening index.old.pointer.value bytes.now notes.new size.new whole.new
+        index.new.pointer.value result }
+    ensures unchanged { OnErr result (index.new.pointer.value ≡ index.old.pointer.value) }
+    ensures size_unchanged { IfErr result (λ why. why ≢ Refusal.BufferTooSmall → size.new ≡ size.old) }
+    ensures notes_unchanged { OnErr result (notes.new ≡ notes.old) }
+    ensures rest_unchanged { OnOk result (drop size.new notes.new ≡ drop size.new notes.old) }
 {
     *whole = 0;
     if is_open(alloc, index) {
         return Err(Refusal::Open);
     }
-    let found = open_bytes(alloc, bytes, whole)?;
-    let Ok(state) = Box::new(alloc, State::Alone(found.opened)) else {
+    let loaded = open_bytes(alloc, bytes, whole)?;
+    let Ok(state) = Box::new(alloc, HandleState::Owned(loaded.opened)) else {
         return Err(Refusal::NoMemory);
     };
-    fill(&found.notes, notes, size)?;
-    drop(take(index, alloc));
-    put(index, state);
+    copy_out(&loaded.notes, notes, size)?;
+    drop(detach_state(index, alloc));
+    attach_state(index, state);
     Ok(())
 }
 
-/// Opens a closed handle of the same index, which then takes no more rows. If memory is refused, the index stays, but
-/// may take no more rows.
+/// Opens a closed handle of the same index, which then accepts no more rows. If memory is refused, the index stays,
+/// but may accept no more rows.
 pub fn share(alloc: Global, index: &mut Handle, other: &mut Handle) -> Result<(), Refusal>
-    ensures ending { IsSharing index.old.held.value other.old.held.value index.new.held.value
-        other.new.held.value result }
-    ensures kept { IfErr result (λ why. why ≢ Refusal.NoMemory →
-        index.new.held.value ≡ index.old.held.value) }
-    ensures held { OnErr result
-        (opened_in index.new.held.value ≡ opened_in index.old.held.value) }
-    ensures left { OnErr result (other.new.held.value ≡ other.old.held.value) }
+    ensures ending { IsSharing index.old.pointer.value other.old.pointer.value index.new.pointer.value
+        other.new.pointer.value result }
+    ensures unchanged { IfErr result (λ why. why ≢ Refusal.NoMemory →
+        index.new.pointer.value ≡ index.old.pointer.value) }
+    ensures index_unchanged { OnErr result
+        (opened_in index.new.pointer.value ≡ opened_in index.old.pointer.value) }
+    ensures other_unchanged { OnErr result (other.new.pointer.value ≡ other.old.pointer.value) }
 {
     if is_open(alloc, other) {
         return Err(Refusal::Open);
     }
-    let Some(mut state) = take(index, alloc) else {
+    let Some(mut state) = detach_state(index, alloc) else {
         return Err(Refusal::Closed);
     };
     let made = state.share(alloc);
-    put(index, state);
+    attach_state(index, state);
     let second = made?;
-    drop(take(other, alloc));
-    put(other, second);
+    drop(detach_state(other, alloc));
+    attach_state(other, second);
     Ok(())
 }
 
-/// Closes a handle. If no other handle holds the index, it frees the index.
+/// Closes a handle. If no other handle has the index, it frees the index.
 pub fn close(alloc: Global, index: &mut Handle) -> Result<(), Refusal>
-    ensures ending { IsClosing (opened_in index.old.held.value) result }
-    ensures closed { index.new.held.value ≡ None }
+    ensures ending { IsClosing (opened_in index.old.pointer.value) result }
+    ensures closed { index.new.pointer.value ≡ None }
 {
-    let Some(state) = take(index, alloc) else {
+    let Some(state) = detach_state(index, alloc) else {
         return Err(Refusal::Closed);
     };
     if state.opened().is_none() {

@@ -1,14 +1,14 @@
-//! Groups of rows as C has them.
+//! Answers a query over groups by one column, and writes each group as a C struct (`FlatGroup`).
 
 ghost use Rattle.std.specs.Prelude.{◌≡◌, ◌≤◌, drop, length, map, take, OnErr, OnOk};
 ghost use Rattle.std.specs.List.{AllZip};
-ghost use Rattle.bsi_ffi.specs.Groups.{IsFlat, IsFlatEntry, IsFlatGroup, IsGrouped};
+ghost use Rattle.bsi_ffi.specs.Groups.{IsFlat, IsFlatGroup, IsGroupEntry, IsGrouped};
 
-use crate::answers::{FlatAnswer, Place, write};
-use crate::opened::Opened;
+use crate::answers::{FlatAnswer, Origin, write};
+use crate::open_index::OpenIndex;
 use crate::refusal::Refusal;
 use crate::selection::read_query;
-use bsi_groups::{GroupError, Groups, group_by};
+use bsi_aggregates::{GroupError, Groups, group_by};
 use bsi_table::Answer;
 use std::alloc::Global;
 
@@ -38,7 +38,7 @@ pub struct FlatGroup {
 /// the query's answer over each.
 pub(crate) fn reply_groups(
     alloc: Global,
-    opened: &Opened,
+    opened: &OpenIndex,
     fields: &[&[u8]],
     name: &[u8],
     groups: &mut [FlatGroup],
@@ -46,9 +46,9 @@ pub(crate) fn reply_groups(
 ) -> Result<(), Refusal>
     ensures grouped { IsGrouped opened.now (map (λ f. f.now) fields.now) name.now groups.new count.new
         result }
-    ensures left { OnErr result (count.new ≡ count.old) }
-    ensures unfilled { OnErr result (groups.new ≡ groups.old) }
-    ensures rest { OnOk result (drop count.new groups.new ≡ drop count.new groups.old) }
+    ensures count_unchanged { OnErr result (count.new ≡ count.old) }
+    ensures groups_unchanged { OnErr result (groups.new ≡ groups.old) }
+    ensures rest_unchanged { OnOk result (drop count.new groups.new ≡ drop count.new groups.old) }
 {
     let index = opened.index();
     let Some(query) = read_query(alloc, index.schema(), fields)? else {
@@ -63,31 +63,31 @@ pub(crate) fn reply_groups(
             *count = made.len();
             Ok(())
         }
-        Err(GroupError::TooMany) => Err(Refusal::NoRoom),
+        Err(GroupError::TooMany) => Err(Refusal::BufferTooSmall),
         Err(GroupError::NoMemory) => Err(Refusal::NoMemory),
         // By the proof this never is, since the columns of a query that was read are there, and so is that of a name.
         Err(GroupError::BadColumn(_)) => Err(Refusal::BadQuery),
     }
 }
 
-/// Writes groups by one column, for which there is room.
+/// Writes groups by one column, for which the buffer is large enough.
 fn write_groups(made: &Groups, groups: &mut [FlatGroup])
     requires column { made.now.columns ≡ 1 }
-    requires room { length made.now.groups ≤ length groups.old }
+    requires fits { length made.now.groups ≤ length groups.old }
     ensures made { AllZip IsFlatGroup made.now.groups (take (length made.now.groups) groups.new) }
     ensures long { length groups.new ≡ length groups.old }
-    ensures rest { drop (length made.now.groups) groups.new
+    ensures rest_unchanged { drop (length made.now.groups) groups.new
         ≡ drop (length made.now.groups) groups.old }
 {
     'groups: for at in 0..made.len() {
         let group = made.get(at);
-        groups[at] = flat_of(group.entries[0], group.answer);
+        groups[at] = flat_group(group.entries[0], group.answer);
     }
 }
 
 /// Returns a group of this entry as C has it.
-fn flat_of(entry: Option<i64>, answer: &Answer) -> FlatGroup
-    ensures entry { IsFlatEntry entry result }
+fn flat_group(entry: Option<i64>, answer: &Answer) -> FlatGroup
+    ensures entry { IsGroupEntry entry result }
     ensures answer { IsFlat answer.now result.answer }
 {
     let answer = flat_answer(answer);
@@ -110,8 +110,8 @@ pub(crate) fn flat_answer(reply: &Answer) -> FlatAnswer
     ensures { IsFlat reply.now result }
 {
     let mut answer = UNWRITTEN;
-    let mut no_places: [Place; 0] = [];
-    // Where rows have no place, their count is written.
-    let _ = write(reply, &mut answer, &mut no_places);
+    let mut no_origins: [Origin; 0] = [];
+    // Where rows have no origin, their count is written.
+    let _ = write(reply, &mut answer, &mut no_origins);
     answer
 }

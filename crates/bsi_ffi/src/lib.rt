@@ -1,4 +1,4 @@
-//! The index behind a handle that C keeps: what each call of the C library does. The crate `bsi_c` exports the calls.
+//! The index behind a handle of C: what each call of the C library does. The crate `bsi_c` exports the calls.
 //!
 //! C passes a schema and a query as scripts spell them, so that one reader, with its proofs, serves both.
 #![tactic(auto)]
@@ -7,30 +7,30 @@ mod answers;
 mod blocks;
 mod calls;
 mod columns;
-mod fitting;
 mod groups;
-mod held;
-mod keeping;
+mod handle;
 mod memory;
 mod numbers;
-mod opened;
+mod open_index;
 mod pairs;
-mod reading;
 mod refusal;
+mod schema_text;
 mod selection;
+mod serialization;
 mod state;
 mod tops;
+mod validation;
 
-pub use answers::{COUNT, FlatAnswer, Place, ROWS, SUM, VALUE};
+pub use answers::{COUNT, FlatAnswer, Origin, ROWS, SUM, VALUE};
 pub use calls::{
-    append, ask, close, count, describe, different, first_rows, group, group_pairs, measure, open,
-    open_kept, quantile, ranked, reserve, save, select, share,
+    append, ask, close, count, count_distinct, describe, first_rows, group, group_pairs,
+    memory_bytes, open, open_saved, quantile, ranked, reserve, save, select, share,
 };
-pub use columns::GivenColumn;
+pub use columns::ColumnInput;
 pub use groups::FlatGroup;
-pub use held::{Handle, Opaque, OwnedPointer};
-pub use opened::Opened;
+pub use handle::{Handle, Opaque, OwnedPointer};
+pub use open_index::OpenIndex;
 pub use pairs::{FlatEntry, FlatPair};
 pub use refusal::{Refusal, status_of};
-pub use state::State;
+pub use state::HandleState;
 pub use tops::FlatRow;

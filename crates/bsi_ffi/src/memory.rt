@@ -1,25 +1,25 @@
-//! How many bytes an index keeps of its rows.
+//! How many bytes the rows of an index take.
 
 ghost use Rattle.std.specs.Prelude.{◌≡◌, ◌≤◌, ◌*◌, length, sum_by};
 ghost use Rattle.bsi_digits.specs.Digits.{IsBase};
 ghost use Rattle.bsi_origins.specs.Origins.{tally_count, tally_len};
 ghost use Rattle.bsi_schema.specs.Columns.{IsForm};
 ghost use Rattle.bsi_table.specs.Index.{table_of};
-ghost use Rattle.bsi_ffi.specs.Memory.{digit_bitmaps, kept_bytes, stored_bitmaps};
+ghost use Rattle.bsi_ffi.specs.Memory.{index_bytes, stored_bitmaps, stored_digit_bitmaps};
 
 use bsi_components::place_count;
 use bsi_digits::Bases;
 use bsi_table::{Form, Index, Schema};
 
-/// The least base of which a component keeps the binary places of its digits.
+/// The least base of which a component stores the binary places of its digits.
 const MIN_BASE_WITH_PLACES: u32 = 4;
 
 /// The number of rows from one count by feeder to the next.
-const STRETCH_ROWS: u64 = 512;
+const CHUNK_ROWS: u64 = 512;
 
-/// Returns how many bytes the index keeps of its rows. The room for more rows comes on top.
-pub(crate) fn kept_bytes(index: &Index) -> u64
-    ensures { result ≡ kept_bytes (table_of index.now) }
+/// Returns how many bytes the rows of the index take. Reserved memory comes on top.
+pub(crate) fn index_bytes(index: &Index) -> u64
+    ensures { result ≡ index_bytes (table_of index.now) }
 {
     let rows = index.len();
     // The proof takes from this that there are at most 2^32 rows.
@@ -37,7 +37,7 @@ fn tally_bytes(feeders: u32, rows: u64) -> u64
     if feeders <= 1 {
         return 0;
     }
-    4 * u64::from(feeders) * rows.div_ceil(STRETCH_ROWS)
+    4 * u64::from(feeders) * rows.div_ceil(CHUNK_ROWS)
 }
 
 /// Returns how many bitmaps the columns of a schema have.
@@ -65,22 +65,22 @@ fn stored_bitmaps(form: &Form) -> u64
     }
 }
 
-/// Returns how many bitmaps keep the digits below these bases.
+/// Returns how many bitmaps store the digits below these bases.
 fn count_digits(bases: &Bases, is_range: bool) -> u64
-    ensures count { result ≡ sum_by (digit_bitmaps is_range) bases.now }
+    ensures count { result ≡ sum_by (stored_digit_bitmaps is_range) bases.now }
     ensures few { result ≤ 65535 }
 {
     let mut count = 0;
     'bases: for i in 0..bases.len() {
-        count += digit_bitmaps(bases.base(i), is_range);
+        count += stored_digit_bitmaps(bases.base(i), is_range);
     }
     count
 }
 
-/// Returns how many bitmaps keep the digits below a base.
-fn digit_bitmaps(base: u32, is_range: bool) -> u64
+/// Returns how many bitmaps store the digits below a base.
+fn stored_digit_bitmaps(base: u32, is_range: bool) -> u64
     requires { IsBase base }
-    ensures count { result ≡ digit_bitmaps is_range base }
+    ensures count { result ≡ stored_digit_bitmaps is_range base }
     ensures few { result ≤ 1040 }
 {
     let own = if is_range || base == 2 {

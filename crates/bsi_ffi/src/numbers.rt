@@ -3,32 +3,32 @@
 
 ghost use Rattle.std.specs.Prelude.{◌≡◌, ◌≤◌, ◌<◌, drop, length, map, take, IfErr, IfOk, OnErr, OnOk};
 ghost use Rattle.std.specs.List.{AllZip};
-ghost use Rattle.bsi_ffi.specs.Numbers.{AreRankedBy, HasDifferent, HasQuantile, IsAskedOn, IsUnasked};
-ghost use Rattle.bsi_ffi.specs.Pairs.{IsWrittenEntry};
+ghost use Rattle.bsi_ffi.specs.Numbers.{AreRankedBy, HasDistinct, HasQuantile, IsAskedOn, IsUnasked};
+ghost use Rattle.bsi_ffi.specs.Pairs.{IsFlatEntry};
 
-use crate::opened::Opened;
+use crate::open_index::OpenIndex;
 use crate::pairs::{FlatEntry, flat_entry};
 use crate::refusal::Refusal;
 use crate::selection::read_predicate;
-use bsi_groups::{Share, distinct, quantile, ranks};
+use bsi_aggregates::{Share, distinct, quantile, ranks};
 use bsi_table::{AskError, Pred};
 use std::alloc::Global;
 
 /// Writes how many different numbers the column of a name has at the rows of the predicate that the fields spell.
-pub(crate) fn count_different(
+pub(crate) fn reply_distinct(
     alloc: Global,
-    opened: &Opened,
+    opened: &OpenIndex,
     fields: &[&[u8]],
     name: &[u8],
     count: &mut u64,
 ) -> Result<(), Refusal>
-    ensures counted { HasDifferent opened.now (map (λ f. f.now) fields.now) name.now count.new result }
-    ensures left { OnErr result (count.new ≡ count.old) }
+    ensures counted { HasDistinct opened.now (map (λ f. f.now) fields.now) name.now count.new result }
+    ensures count_unchanged { OnErr result (count.new ≡ count.old) }
 {
     let (pred, c) = read_asked(alloc, opened, fields, name)?;
     match distinct(alloc, opened.index(), c, &pred) {
-        Ok(different) => {
-            *count = different;
+        Ok(distinct_count) => {
+            *count = distinct_count;
             Ok(())
         }
         Err(refused) => Err(refusal_of(refused)),
@@ -38,23 +38,23 @@ pub(crate) fn count_different(
 /// Writes the numbers of some ranks among those that the column of a name has at such rows.
 pub(crate) fn reply_ranks(
     alloc: Global,
-    opened: &Opened,
+    opened: &OpenIndex,
     fields: &[&[u8]],
     name: &[u8],
-    wanted: &[u64],
+    targets: &[u64],
     numbers: &mut [FlatEntry],
 ) -> Result<(), Refusal>
-    ensures ranked { AreRankedBy opened.now (map (λ f. f.now) fields.now) name.now wanted.now
+    ensures ranked { AreRankedBy opened.now (map (λ f. f.now) fields.now) name.now targets.now
         numbers.new result }
-    ensures left { OnErr result (numbers.new ≡ numbers.old) }
-    ensures rest { OnOk result (drop (length wanted.now) numbers.new
-        ≡ drop (length wanted.now) numbers.old) }
+    ensures numbers_unchanged { OnErr result (numbers.new ≡ numbers.old) }
+    ensures rest_unchanged { OnOk result (drop (length targets.now) numbers.new
+        ≡ drop (length targets.now) numbers.old) }
 {
     let (pred, c) = read_asked(alloc, opened, fields, name)?;
-    if numbers.len() < wanted.len() {
-        return Err(Refusal::NoRoom);
+    if numbers.len() < targets.len() {
+        return Err(Refusal::BufferTooSmall);
     }
-    match ranks(alloc, opened.index(), c, wanted, &pred) {
+    match ranks(alloc, opened.index(), c, targets, &pred) {
         Ok(made) => {
             write_numbers(&made, numbers);
             Ok(())
@@ -63,27 +63,28 @@ pub(crate) fn reply_ranks(
     }
 }
 
-/// Writes the number at the end of `part` parts of `whole` of the numbers that the column of a name has at such rows.
+/// Writes the number at the end of `numerator` parts of `denominator` of the numbers that the column of a name has at
+/// such rows.
 pub(crate) fn reply_quantile(
     alloc: Global,
-    opened: &Opened,
+    opened: &OpenIndex,
     fields: &[&[u8]],
     name: &[u8],
-    part: u64,
-    whole: u64,
+    numerator: u64,
+    denominator: u64,
     number: &mut FlatEntry,
 ) -> Result<(), Refusal>
-    ensures found { HasQuantile opened.now (map (λ f. f.now) fields.now) name.now part whole
+    ensures quantile { HasQuantile opened.now (map (λ f. f.now) fields.now) name.now numerator denominator
         number.new result }
-    ensures left { OnErr result (number.new ≡ number.old) }
+    ensures number_unchanged { OnErr result (number.new ≡ number.old) }
 {
-    let Some(share) = Share::new(part, whole) else {
+    let Some(share) = Share::new(numerator, denominator) else {
         return Err(Refusal::BadQuery);
     };
     let (pred, c) = read_asked(alloc, opened, fields, name)?;
     match quantile(opened.index(), c, share, &pred) {
-        Ok(found) => {
-            *number = flat_entry(found);
+        Ok(answer) => {
+            *number = flat_entry(answer);
             Ok(())
         }
         Err(refused) => Err(refusal_of(refused)),
@@ -93,7 +94,7 @@ pub(crate) fn reply_quantile(
 /// Reads the predicate that the fields spell, and finds the column of a name.
 pub(crate) fn read_asked(
     alloc: Global,
-    opened: &Opened,
+    opened: &OpenIndex,
     fields: &[&[u8]],
     name: &[u8],
 ) -> Result<(Pred, u32), Refusal>
@@ -122,12 +123,12 @@ pub(crate) fn refusal_of(refused: AskError) -> Refusal
     }
 }
 
-/// Writes numbers, for which there is room.
+/// Writes numbers, for which the buffer is large enough.
 fn write_numbers(made: &[Option<i64>], numbers: &mut [FlatEntry])
     requires { length made.now ≤ length numbers.old }
-    ensures made { AllZip IsWrittenEntry made.now (take (length made.now) numbers.new) }
+    ensures made { AllZip IsFlatEntry made.now (take (length made.now) numbers.new) }
     ensures long { length numbers.new ≡ length numbers.old }
-    ensures rest { drop (length made.now) numbers.new ≡ drop (length made.now) numbers.old }
+    ensures rest_unchanged { drop (length made.now) numbers.new ≡ drop (length made.now) numbers.old }
 {
     'numbers: for (at, number) in made.iter().enumerate() {
         numbers[at] = flat_entry(*number);

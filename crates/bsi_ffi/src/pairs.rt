@@ -1,16 +1,16 @@
-//! Groups of rows by two columns, as C has them.
+//! Answers a query over groups by two columns, and writes each group as a C struct (`FlatPair`).
 
 ghost use Rattle.std.specs.Prelude.{◌≡◌, ◌≤◌, drop, length, map, take, OnErr, OnOk};
 ghost use Rattle.std.specs.List.{AllZip};
 ghost use Rattle.bsi_ffi.specs.Groups.{IsFlat};
-ghost use Rattle.bsi_ffi.specs.Pairs.{IsFlatPair, IsGroupedByTwo, IsWrittenEntry};
+ghost use Rattle.bsi_ffi.specs.Pairs.{IsFlatPair, IsGroupedByTwo, IsFlatEntry};
 
 use crate::answers::FlatAnswer;
 use crate::groups::flat_answer;
-use crate::opened::Opened;
+use crate::open_index::OpenIndex;
 use crate::refusal::Refusal;
 use crate::selection::read_query;
-use bsi_groups::{GroupError, Groups, group_by};
+use bsi_aggregates::{GroupError, Groups, group_by};
 use bsi_table::Answer;
 use std::alloc::Global;
 
@@ -38,7 +38,7 @@ pub struct FlatPair {
 /// writes the query's answer over each.
 pub(crate) fn reply_pairs(
     alloc: Global,
-    opened: &Opened,
+    opened: &OpenIndex,
     fields: &[&[u8]],
     first: &[u8],
     second: &[u8],
@@ -47,9 +47,9 @@ pub(crate) fn reply_pairs(
 ) -> Result<(), Refusal>
     ensures grouped { IsGroupedByTwo opened.now (map (λ f. f.now) fields.now) first.now second.now
         pairs.new count.new result }
-    ensures left { OnErr result (count.new ≡ count.old) }
-    ensures unfilled { OnErr result (pairs.new ≡ pairs.old) }
-    ensures rest { OnOk result (drop count.new pairs.new ≡ drop count.new pairs.old) }
+    ensures count_unchanged { OnErr result (count.new ≡ count.old) }
+    ensures pairs_unchanged { OnErr result (pairs.new ≡ pairs.old) }
+    ensures rest_unchanged { OnOk result (drop count.new pairs.new ≡ drop count.new pairs.old) }
 {
     let index = opened.index();
     let Some(query) = read_query(alloc, index.schema(), fields)? else {
@@ -67,20 +67,20 @@ pub(crate) fn reply_pairs(
             *count = made.len();
             Ok(())
         }
-        Err(GroupError::TooMany) => Err(Refusal::NoRoom),
+        Err(GroupError::TooMany) => Err(Refusal::BufferTooSmall),
         Err(GroupError::NoMemory) => Err(Refusal::NoMemory),
         // By the proof this never is, since the columns of a query that was read are there, and so are those of names.
         Err(GroupError::BadColumn(_)) => Err(Refusal::BadQuery),
     }
 }
 
-/// Writes groups by two columns, for which there is room.
+/// Writes groups by two columns, for which the buffer is large enough.
 fn write_pairs(made: &Groups, pairs: &mut [FlatPair])
     requires columns { made.now.columns ≡ 2 }
-    requires room { length made.now.groups ≤ length pairs.old }
+    requires fits { length made.now.groups ≤ length pairs.old }
     ensures made { AllZip IsFlatPair made.now.groups (take (length made.now.groups) pairs.new) }
     ensures long { length pairs.new ≡ length pairs.old }
-    ensures rest { drop (length made.now.groups) pairs.new
+    ensures rest_unchanged { drop (length made.now.groups) pairs.new
         ≡ drop (length made.now.groups) pairs.old }
 {
     'pairs: for at in 0..made.len() {
@@ -91,7 +91,7 @@ fn write_pairs(made: &Groups, pairs: &mut [FlatPair])
 
 /// Returns a group of these entries as C has it.
 fn flat_pair(entries: [Option<i64>; 2], answer: &Answer) -> FlatPair
-    ensures entries { AllZip IsWrittenEntry entries result.entries }
+    ensures entries { AllZip IsFlatEntry entries result.entries }
     ensures answer { IsFlat answer.now result.answer }
 {
     FlatPair {
@@ -102,7 +102,7 @@ fn flat_pair(entries: [Option<i64>; 2], answer: &Answer) -> FlatPair
 
 /// Returns two entries as C has them.
 fn flat_entries(entries: [Option<i64>; 2]) -> [FlatEntry; 2]
-    ensures { AllZip IsWrittenEntry entries result }
+    ensures { AllZip IsFlatEntry entries result }
 {
     let [first, second] = entries;
     [flat_entry(first), flat_entry(second)]
@@ -110,7 +110,7 @@ fn flat_entries(entries: [Option<i64>; 2]) -> [FlatEntry; 2]
 
 /// Returns an entry as C has it.
 pub(crate) fn flat_entry(entry: Option<i64>) -> FlatEntry
-    ensures { IsWrittenEntry entry result }
+    ensures { IsFlatEntry entry result }
 {
     match entry {
         Some(number) => FlatEntry {

@@ -1,4 +1,4 @@
-//! Why a call is refused.
+//! Why a call of the C library is refused (`Refusal`), and the status that it returns.
 
 ghost use Rattle.std.specs.Prelude.{◌≡◌};
 ghost use Rattle.bsi_ffi.specs.Statuses.{status_of};
@@ -26,18 +26,18 @@ pub enum Refusal {
     BadRow,
     /// There would be more rows than the limit.
     IndexFull,
-    /// Several handles hold the index, so it takes no rows.
+    /// Several handles share the index, so it accepts no rows.
     Shared,
     /// The fields ask no query, or spell no predicate.
     BadQuery,
-    /// The caller's room is too small.
-    NoRoom,
+    /// The caller's buffer is too small.
+    BufferTooSmall,
     /// The schema text has more than 1,000,000 records.
     BadText,
     /// There are more than 65,536 bytes of notes.
     LongNotes,
-    /// The bytes are not those of a kept index.
-    NotKept,
+    /// The bytes are not those of a saved index.
+    NotAnIndex,
     /// They are of another version of the format.
     OtherVersion,
     /// They end within a segment.
@@ -73,10 +73,10 @@ pub fn status_of(ending: Result<(), Refusal>) -> u32
         Err(Refusal::IndexFull) => 9,
         Err(Refusal::Shared) => 10,
         Err(Refusal::BadQuery) => 11,
-        Err(Refusal::NoRoom) => 12,
+        Err(Refusal::BufferTooSmall) => 12,
         Err(Refusal::BadText) => 13,
         Err(Refusal::LongNotes) => 14,
-        Err(Refusal::NotKept) => 15,
+        Err(Refusal::NotAnIndex) => 15,
         Err(Refusal::OtherVersion) => 16,
         Err(Refusal::CutShort) => 17,
         Err(Refusal::Damaged) => 18,

@@ -1,57 +1,57 @@
-//! What an open handle holds.
+//! What an open handle points to: an index of its own, or one that several handles share and that accepts no rows.
 
 ghost use Rattle.std.specs.Prelude.{◌≡◌, ◌≢◌, Some, option_map, IfErr, IfOk};
 ghost use Rattle.bsi_ffi.specs.Calls.{HoldsShared, IsAppending, IsReserving, IsShareRefusal};
 ghost use Rattle.bsi_ffi.specs.States.{opened_in};
 
-use crate::columns::GivenColumn;
-use crate::opened::Opened;
+use crate::columns::ColumnInput;
+use crate::open_index::OpenIndex;
 use crate::refusal::Refusal;
 use bsi_table::NoMemory;
 use std::alloc::Global;
 use std::mem;
 use std::sync::Arc;
 
-/// An index that one handle holds, or that several do.
+/// An index that one handle owns, or that several share.
 #[derive(Drop)]
-pub enum State {
-    /// One handle holds the index, which takes rows.
-    Alone(Opened),
-    /// Several handles hold the index, which takes no more rows.
-    Shared(Arc<Opened>),
-    /// The index is being moved to where several handles hold it. A handle that is left so counts as closed.
+pub enum HandleState {
+    /// One handle owns the index, which accepts rows.
+    Owned(OpenIndex),
+    /// Several handles share the index, which accepts no more rows.
+    Shared(Arc<OpenIndex>),
+    /// The index is being moved to where several handles share it. A handle that is left so counts as closed.
     Moved,
 }
 
-impl State {
+impl HandleState {
     /// Lends the index, if there is one.
-    pub(crate) fn opened(&self) -> Option<&Opened>
+    pub(crate) fn opened(&self) -> Option<&OpenIndex>
         ensures { option_map (λ opened. opened.now) result ≡ opened_in (Some self.now) }
     {
         match self {
-            State::Alone(opened) => Some(opened),
-            State::Shared(opened) => Some(opened),
-            State::Moved => None,
+            HandleState::Owned(opened) => Some(opened),
+            HandleState::Shared(opened) => Some(opened),
+            HandleState::Moved => None,
         }
     }
 
-    /// Makes room for so many further rows, if one handle alone holds the index.
+    /// Reserves memory for `rows` more rows, if one handle alone owns the index.
     pub(crate) fn reserve(&mut self, rows: u64) -> Result<(), Refusal>
-        ensures kept { self.new ≡ self.old }
-        ensures told { IsReserving (Some self.old) rows result }
+        ensures unchanged { self.new ≡ self.old }
+        ensures ending { IsReserving (Some self.old) rows result }
     {
         match self {
-            State::Alone(opened) => opened.reserve(rows),
-            State::Shared(_) => Err(Refusal::Shared),
-            State::Moved => Err(Refusal::Closed),
+            HandleState::Owned(opened) => opened.reserve(rows),
+            HandleState::Shared(_) => Err(Refusal::Shared),
+            HandleState::Moved => Err(Refusal::Closed),
         }
     }
 
-    /// Appends the rows of the columns, if one handle alone holds the index.
+    /// Appends the rows of the columns, if one handle alone owns the index.
     pub(crate) fn append(
         &mut self,
         feeder: u32,
-        columns: &[GivenColumn],
+        columns: &[ColumnInput],
         row: &mut u64,
         column: &mut usize,
     ) -> Result<(), Refusal>
@@ -61,17 +61,17 @@ impl State {
         *row = 0;
         *column = 0;
         match self {
-            State::Alone(opened) => opened.append(feeder, columns, row, column),
-            State::Shared(_) => Err(Refusal::Shared),
-            State::Moved => Err(Refusal::Closed),
+            HandleState::Owned(opened) => opened.append(feeder, columns, row, column),
+            HandleState::Shared(_) => Err(Refusal::Shared),
+            HandleState::Moved => Err(Refusal::Closed),
         }
     }
 
-    /// Makes a second state of the same index, which takes no more rows. If memory is refused, the index stays, but it
-    /// may take no more rows.
-    pub(crate) fn share(&mut self, alloc: Global) -> Result<Box<State>, Refusal>
-        ensures held { opened_in (Some self.new) ≡ opened_in (Some self.old) }
-        ensures kept { IfErr result (λ why. why ≢ Refusal.NoMemory → self.new ≡ self.old) }
+    /// Makes a second state of the same index, which accepts no more rows. If memory is refused, the index stays, but
+    /// it may accept no more rows.
+    pub(crate) fn share(&mut self, alloc: Global) -> Result<Box<HandleState>, Refusal>
+        ensures index_unchanged { opened_in (Some self.new) ≡ opened_in (Some self.old) }
+        ensures unchanged { IfErr result (λ why. why ≢ Refusal.NoMemory → self.new ≡ self.old) }
         ensures shared { IfOk result (λ other.
             HoldsShared (Some self.new) (opened_in (Some self.old))
             × HoldsShared (Some other.value) (opened_in (Some self.old))) }
@@ -80,25 +80,25 @@ impl State {
         if self.opened().is_none() {
             return Err(Refusal::Closed);
         }
-        let Ok(mut other) = Box::new(alloc, State::Moved) else {
+        let Ok(mut other) = Box::new(alloc, HandleState::Moved) else {
             return Err(Refusal::NoMemory);
         };
-        let opened = match mem::replace(self, State::Moved) {
-            State::Alone(opened) => match Arc::new(alloc, opened) {
+        let opened = match mem::replace(self, HandleState::Moved) {
+            HandleState::Owned(opened) => match Arc::new(alloc, opened) {
                 Ok(opened) => opened,
                 Err(refused) => {
-                    *self = State::Alone(refused.value);
+                    *self = HandleState::Owned(refused.value);
                     return Err(Refusal::NoMemory);
                 }
             },
-            State::Shared(opened) => opened,
+            HandleState::Shared(opened) => opened,
             // Not met: an index was found above.
-            State::Moved => return Err(Refusal::Closed),
+            HandleState::Moved => return Err(Refusal::Closed),
         };
-        let second: Result<Arc<Opened>, NoMemory> = opened.clone();
-        *self = State::Shared(opened);
+        let second: Result<Arc<OpenIndex>, NoMemory> = opened.clone();
+        *self = HandleState::Shared(opened);
         // Only now, when the index is back in its place.
-        *other = State::Shared(second?);
+        *other = HandleState::Shared(second?);
         Ok(other)
     }
 }

@@ -8,44 +8,45 @@ use Rattle.csv.specs.Machine.{Read, next_record}
 use Rattle.csv.specs.Reading.{Reached, default_config, reader_state, source_of, strip_bom}
 use Rattle.csv.specs.declared.parser.State.TheVariants as st
 use Rattle.bsi_rows.specs.Table.{max_feeders}
-use Rattle.bsi_rings.specs.Rings.{Sending}
-use Rattle.bsi_system.specs.Running.{Taking}
-use Rattle.bsi_records.specs.Numbers.{Field}
+use Rattle.bsi_system.specs.Rings.{FeederState}
+use Rattle.bsi_system.specs.Running.{FeederProgress}
+use Rattle.bsi_syntax.specs.Bytes.{KnownBytes}
+use Rattle.bsi_syntax.specs.Numbers.{Field}
 use Rattle.bsi_schema.specs.Columns.{Declared}
 use Rattle.bsi_rows.specs.Rows.{Entries}
-use Rattle.bsi_reading.specs.RowFiles.{good_rows}
-use Rattle.bsi_reading.specs.SchemaTexts.{IsSchemaText}
-use Rattle.bsi_reading.specs.Sources.{max_records, Counts, End, Source, StandsAfter}
-use Rattle.bsi_reading.specs.declared.rows.SourceFault.{SourceFault}
-use Rattle.bsi_reading.specs.declared.rows.SourceFault.TheVariants as source
-use Rattle.bsi_reading.proofs.FirstRecords.{first_join, HasReadFirst}
+use Rattle.bsi_input.specs.RowFiles.{good_rows}
+use Rattle.bsi_input.specs.SchemaTexts.{IsSchemaText}
+use Rattle.bsi_input.specs.Sources.{max_records, Counts, IsAfterHeader, Source, SourceEnd}
+use Rattle.bsi_input.specs.declared.rows.SourceFault.{SourceFault}
+use Rattle.bsi_input.specs.declared.rows.SourceFault.TheVariants as source
+use Rattle.bsi_input.proofs.FirstRecords.{first_join, HasReadFirst}
 use Rattle.bsi_files.specs.Begun.{Begins}
 use Rattle.bsi_files.specs.Ends.{tasks, AreEndsOf}
-use Rattle.bsi_asks.specs.Faults.{is_early, is_late, is_of_headers}
-use Rattle.bsi_feeding.specs.Feeding.{HasFailed, StopsAfter}
-use Rattle.bsi_files.specs.Headers.{HasHeader, IsBehindHeaders, IsHeadersFault}
-use Rattle.bsi_asks.specs.RowFiles.{RowFile}
-use Rattle.bsi_files.specs.RunFaults.{is_of_loading, AreGood, AreGoodBefore, AreOverLimit, AreRowFiles, FailsAt, GaveRows, HasFirstRows, IsFaultOf, IsKeptFault, IsLoadFault, IsTooLongFile, WasReadOut}
-use Rattle.bsi_files.specs.Takings.{AreGoing, AreTold}
-use Rattle.bsi_asks.specs.Writing.{Leaves}
-use Rattle.bsi_asks.specs.declared.faults.FilesFault.{FilesFault}
-use Rattle.bsi_asks.specs.declared.faults.FilesFault.TheVariants as run
-use Rattle.bsi_asks.specs.declared.faults.Which.TheVariants as which
-use Rattle.bsi_feeding.specs.declared.feeding.FeedEnd.{FeedEnd}
-use Rattle.bsi_asks.specs.declared.fed.Fed.{Fed}
+use Rattle.bsi_answers.specs.Faults.{may_follow_output, raised_at_headers, raised_while_loading}
+use Rattle.bsi_files.specs.Feeding.{HasFailed, StopsAfter}
+use Rattle.bsi_files.specs.Headers.{HasHeader, EarlierFilesHaveHeaders, IsHeadersFault}
+use Rattle.bsi_answers.specs.RowFiles.{RowFile}
+use Rattle.bsi_files.specs.RunFaults.{is_of_loading, AreOverLimit, AreRowFiles, FailsAt, GaveRows, HasFirstRows, IsEndFault, IsFaultOf, IsLoadFault, IsTooLongFile, RowTextsAreValid, RowTextsAreValidBefore, WasReadOut}
+use Rattle.bsi_files.specs.Progress.{AreClosingsSettled, NoneStopped}
+use Rattle.bsi_answers.specs.Writing.{Leaves}
+use Rattle.bsi_answers.specs.declared.faults.FilesFault.{FilesFault}
+use Rattle.bsi_answers.specs.declared.faults.FilesFault.TheVariants as run
+use Rattle.bsi_answers.specs.declared.faults.Which.TheVariants as which
+use Rattle.bsi_files.specs.declared.feeding.FeedEnd.{FeedEnd}
+use Rattle.bsi_answers.specs.declared.fed.Fed.{Fed}
 use Rattle.bsi_files.proofs.Files.{matched_long, row_file, IsWholeLaw}
 use Rattle.bsi_files.proofs.Heading.{all_known, headers_of, map_long}
-use Rattle.bsi_files.proofs.Takings.{get_lt}
+use Rattle.bsi_files.proofs.Progress.{get_lt}
 
 -- ---- which faults are met when
 
-module _ {R : Type 0} (rem : R → Option (List ℕ)) (stops : Bool) (limit : ℕ) (sources : List (Source R)) where
-  pub load_early : (fault : FilesFault) → is_early fault ≡ true → (fault ≡ run.IndexFull → AreOverLimit rem limit sources) → IsLoadFault rem stops limit sources fault
+module _ {R : Type 0} (rem : R → KnownBytes) (stops : Bool) (limit : ℕ) (sources : List (Source R)) where
+  pub load_early : (fault : FilesFault) → raised_while_loading fault ≡ true → (fault ≡ run.IndexFull → AreOverLimit rem limit sources) → IsLoadFault rem stops limit sources fault
   load_early run.IndexFull early over = over refl
   load_early run.NoMemory early over = tt
   load_early fault early over = absurd (cc (early))
 
-  pub load_late : (fault : FilesFault) → IsLoadFault rem stops limit sources fault → is_late fault ≡ true → fault ≡ run.NoMemory
+  pub load_late : (fault : FilesFault) → IsLoadFault rem stops limit sources fault → may_follow_output fault ≡ true → fault ≡ run.NoMemory
   load_late run.NoMemory met late = refl
   load_late (run.Source n e) met late = absurd (cc (late))
   load_late (run.NotClosed n) met late = absurd (cc (late))
@@ -63,29 +64,29 @@ module _ {R : Type 0} (rem : R → Option (List ℕ)) (stops : Bool) (limit : �
   load_loading fault met = absurd met
 
 -- a fault before any line leaves none
-pub leaves_none : (Is : List (List Field) → List (List ℕ) → Type 0) (asked : List ℕ) (fault : FilesFault) (before after : Option (List ℕ))
-    → (is_late fault ≡ true → fault ≡ run.NoMemory) → after ≡ before → Leaves Is asked fault before after
+pub leaves_none : (Is : List (List Field) → List (List ℕ) → Type 0) (asked : List ℕ) (fault : FilesFault) (before after : KnownBytes)
+    → (may_follow_output fault ≡ true → fault ≡ run.NoMemory) → after ≡ before → Leaves Is asked fault before after
 leaves_none Is asked (run.Read which.AsksFile) before after early same = absurd (cc (early refl))
 leaves_none Is asked (run.TooLong which.AsksFile) before after early same = absurd (cc (early refl))
 leaves_none Is asked run.Write before after early same = absurd (cc (early refl))
 leaves_none Is asked run.NoMemory before after early same = inl same
 leaves_none Is asked fault before after early same = same
 
-pub headers_late : (fault : FilesFault) → is_of_headers fault ≡ true → is_late fault ≡ true → fault ≡ run.NoMemory
+pub headers_late : (fault : FilesFault) → raised_at_headers fault ≡ true → may_follow_output fault ≡ true → fault ≡ run.NoMemory
 headers_late run.NoMemory of late = refl
 headers_late (run.Source n e) of late = absurd (cc (late))
 headers_late fault of late = absurd (cc (of))
 
-pub headers_counted : (fault : FilesFault) → is_of_headers fault ≡ true → fault ≢ run.TooManyFiles
-headers_counted fault of = λ is. absurd (let wrong : false ≡ true = sym (ap is_of_headers is) ∙ of in cc (wrong))
+pub headers_counted : (fault : FilesFault) → raised_at_headers fault ≡ true → fault ≢ run.TooManyFiles
+headers_counted fault of = λ is. absurd (let wrong : false ≡ true = sym (ap raised_at_headers is) ∙ of in cc (wrong))
 
-pub headers_loading : (fault : FilesFault) → is_of_headers fault ≡ true → is_of_loading fault ≡ true
+pub headers_loading : (fault : FilesFault) → raised_at_headers fault ≡ true → is_of_loading fault ≡ true
 headers_loading (run.Source n e) of = refl
 headers_loading run.NoMemory of = refl
 headers_loading fault of = absurd (cc (of))
 
 -- one that is met while lines are written tells that all headers are good
-pub late_fault_of : (stops : Bool) (declared : List ℕ) (texts : List (List ℕ)) (fault : FilesFault) → is_late fault ≡ true → AreGood declared texts
+pub late_fault_of : (stops : Bool) (declared : List ℕ) (texts : List (List ℕ)) (fault : FilesFault) → may_follow_output fault ≡ true → RowTextsAreValid declared texts
     → IsFaultOf stops declared texts fault
 late_fault_of stops declared texts (run.Read which.AsksFile) late good = good
 late_fault_of stops declared texts (run.TooLong which.AsksFile) late good = good
@@ -93,51 +94,51 @@ late_fault_of stops declared texts run.Write late good = good
 late_fault_of stops declared texts run.NoMemory late good = tt
 late_fault_of stops declared texts fault late good = absurd (cc (late))
 
--- ---- from what was kept of an end to its source
+-- ---- from what was end_fault of an end to its source
 
-module _ {R : Type 0} (rem : R → Option (List ℕ)) where
-  kept_at : (takings : List Taking) (k : ℕ) (feeders : List Sending) (sources : List (Source R)) (ends : List FeedEnd) (feds : List Fed) (n : ℕ) (e : SourceFault)
-      → AreEndsOf rem (tasks feeders sources) ends → AreTold takings k ends feds → MatchOption (slice_get feds n) ⊥ (λ fed. fed.fault ≡ Some e)
+module _ {R : Type 0} (rem : R → KnownBytes) where
+  end_fault_at : (progress : List FeederProgress) (k : ℕ) (feeders : List FeederState) (sources : List (Source R)) (ends : List FeedEnd) (feds : List Fed) (n : ℕ) (e : SourceFault)
+      → AreEndsOf rem (tasks feeders sources) ends → AreClosingsSettled progress k ends feds → MatchOption (slice_get feds n) ⊥ (λ fed. fed.fault ≡ Some e)
       → FailsAt rem sources n e
-  kept_at takings k feeders sources ends [] n e are loaded is = absurd is
-  kept_at takings k feeders sources [] (fed ∷ feds) n e are loaded is = absurd loaded
-  kept_at takings k [] sources (end ∷ ends) (fed ∷ feds) n e are loaded is = absurd are
-  kept_at takings k (feeder ∷ feeders) [] (end ∷ ends) (fed ∷ feds) n e are loaded is = absurd are
-  kept_at takings k (feeder ∷ feeders) (source ∷ sources) (end ∷ ends) (fed ∷ feds) zero e are loaded is = record {
+  end_fault_at progress k feeders sources ends [] n e are loaded is = absurd is
+  end_fault_at progress k feeders sources [] (fed ∷ feds) n e are loaded is = absurd loaded
+  end_fault_at progress k [] sources (end ∷ ends) (fed ∷ feds) n e are loaded is = absurd are
+  end_fault_at progress k (feeder ∷ feeders) [] (end ∷ ends) (fed ∷ feds) n e are loaded is = absurd are
+  end_fault_at progress k (feeder ∷ feeders) (source ∷ sources) (end ∷ ends) (fed ∷ feds) zero e are loaded is = record {
     source = source;
     many = end.accepted;
     at = refl;
-    failed = subst (λ o. IfSome o (HasFailed rem source end.accepted)) (sym loaded.0.kept.fault ∙ is) are.0.fault;
+    failed = subst (λ o. IfSome o (HasFailed rem source end.accepted)) (sym loaded.0.fed_is.fault ∙ is) are.0.fault;
   }
-  kept_at takings k (feeder ∷ feeders) (source ∷ sources) (end ∷ ends) (fed ∷ feds) (suc n) e are loaded is =
-      let rest = kept_at takings (suc k) feeders sources ends feds n e are.1 loaded.1 is in
+  end_fault_at progress k (feeder ∷ feeders) (source ∷ sources) (end ∷ ends) (fed ∷ feds) (suc n) e are loaded is =
+      let rest = end_fault_at progress (suc k) feeders sources ends feds n e are.1 loaded.1 is in
       record { source = rest.source; many = rest.many; at = rest.at; failed = rest.failed }
 
   -- the sources before the first one that answered a fault were read out, where no feeder was stopped
-  read_before : (takings : List Taking) (k : ℕ) (feeders : List Sending) (sources : List (Source R)) (ends : List FeedEnd) (feds : List Fed) (n : ℕ)
-      → length sources ≡ length feeders → AreEndsOf rem (tasks feeders sources) ends → AreTold takings k ends feds
-      → AllWithin (λ fed. fed.fault ≡ None) feds 0 n → AreGoing feds → All (WasReadOut rem) (take n sources)
-  read_before takings k feeders sources ends feds zero many are told none going = All-nil (WasReadOut rem)
-  read_before takings k feeders [] ends feds (suc n) many are told none going = All-nil (WasReadOut rem)
-  read_before takings k [] (source ∷ sources) ends feds (suc n) many are told none going = absurd (omega arith)
-  read_before takings k (feeder ∷ feeders) (source ∷ sources) [] feds (suc n) many are told none going = absurd are
-  read_before takings k (feeder ∷ feeders) (source ∷ sources) (end ∷ ends) [] (suc n) many are told none going = absurd told
-  read_before takings k (feeder ∷ feeders) (source ∷ sources) (end ∷ ends) (fed ∷ feds) (suc n) many are told none going =
-      let runs : end.stopped ≡ false = sym told.0.kept.stopped ∙ All-head (λ (x : Fed). x.stopped ≡ false) fed feds going in
-      let fine : end.fault ≡ None = sym told.0.kept.fault ∙ none 0 fed (omega arith) (omega arith) in
+  read_before : (progress : List FeederProgress) (k : ℕ) (feeders : List FeederState) (sources : List (Source R)) (ends : List FeedEnd) (feds : List Fed) (n : ℕ)
+      → length sources ≡ length feeders → AreEndsOf rem (tasks feeders sources) ends → AreClosingsSettled progress k ends feds
+      → AllWithin (λ fed. fed.fault ≡ None) feds 0 n → NoneStopped feds → All (WasReadOut rem) (take n sources)
+  read_before progress k feeders sources ends feds zero many are settled none going = All-nil (WasReadOut rem)
+  read_before progress k feeders [] ends feds (suc n) many are settled none going = All-nil (WasReadOut rem)
+  read_before progress k [] (source ∷ sources) ends feds (suc n) many are settled none going = absurd (omega arith)
+  read_before progress k (feeder ∷ feeders) (source ∷ sources) [] feds (suc n) many are settled none going = absurd are
+  read_before progress k (feeder ∷ feeders) (source ∷ sources) (end ∷ ends) [] (suc n) many are settled none going = absurd settled
+  read_before progress k (feeder ∷ feeders) (source ∷ sources) (end ∷ ends) (fed ∷ feds) (suc n) many are settled none going =
+      let runs : end.stopped ≡ false = sym settled.0.fed_is.stopped ∙ All-head (λ (x : Fed). x.stopped ≡ false) fed feds going in
+      let fine : end.fault ≡ None = sym settled.0.fed_is.fault ∙ none 0 fed (omega arith) (omega arith) in
       All-cons (WasReadOut rem) source (take n sources) (λ more. (are.0.fed.rows, end.bad, are.0.fed.out runs fine more))
-      (read_before takings (suc k) feeders sources ends feds n (omega arith) are.1 told.1 (λ i d low lt. none (suc i) d (omega arith) (omega arith))
+      (read_before progress (suc k) feeders sources ends feds n (omega arith) are.1 settled.1 (λ i d low lt. none (suc i) d (omega arith) (omega arith))
       (All-tail (λ (x : Fed). x.stopped ≡ false) fed feds going))
 
-  kept_many : (takings : List Taking) (k : ℕ) (feeders : List Sending) (sources : List (Source R)) (ends : List FeedEnd) (feds : List Fed)
-      → AreEndsOf rem (tasks feeders sources) ends → AreTold takings k ends feds → length feds ≤ length sources
-  kept_many takings k feeders sources [] [] are told = omega arith
-  kept_many takings k feeders sources [] (x ∷ feds) are told = absurd told
-  kept_many takings k [] sources (e ∷ ends) feds are told = absurd are
-  kept_many takings k (f ∷ feeders) [] (e ∷ ends) feds are told = absurd are
-  kept_many takings k (f ∷ feeders) (s ∷ sources) (e ∷ ends) [] are told = absurd told
-  kept_many takings k (f ∷ feeders) (s ∷ sources) (e ∷ ends) (x ∷ feds) are told =
-      (let le = kept_many takings (suc k) feeders sources ends feds are.1 told.1 in omega arith)
+  ends_many : (progress : List FeederProgress) (k : ℕ) (feeders : List FeederState) (sources : List (Source R)) (ends : List FeedEnd) (feds : List Fed)
+      → AreEndsOf rem (tasks feeders sources) ends → AreClosingsSettled progress k ends feds → length feds ≤ length sources
+  ends_many progress k feeders sources [] [] are settled = omega arith
+  ends_many progress k feeders sources [] (x ∷ feds) are settled = absurd settled
+  ends_many progress k [] sources (e ∷ ends) feds are settled = absurd are
+  ends_many progress k (f ∷ feeders) [] (e ∷ ends) feds are settled = absurd are
+  ends_many progress k (f ∷ feeders) (s ∷ sources) (e ∷ ends) [] are settled = absurd settled
+  ends_many progress k (f ∷ feeders) (s ∷ sources) (e ∷ ends) (x ∷ feds) are settled =
+      (let le = ends_many progress (suc k) feeders sources ends feds are.1 settled.1 in omega arith)
 
   -- what there is stands within the list
   at_within : (P : Fed → Type 0) (feds : List Fed) (n : ℕ) → MatchOption (slice_get feds n) ⊥ P → n < length feds
@@ -145,22 +146,22 @@ module _ {R : Type 0} (rem : R → Option (List ℕ)) where
   at_within P (fed ∷ feds) zero is = omega arith
   at_within P (fed ∷ feds) (suc n) is = (let lt = at_within P feds n is in omega arith)
 
-  pub few_kept : (takings : List Taking) (feeders : List Sending) (sources : List (Source R)) (ends : List FeedEnd) (feds : List Fed)
-      → AreEndsOf rem (tasks feeders sources) ends → AreTold takings 0 ends feds → length sources ≤ max_feeders → length feds ≤ max_feeders
-  few_kept takings feeders sources ends feds are told few = (let le = kept_many takings 0 feeders sources ends feds are told in omega arith)
+  pub few_ends : (progress : List FeederProgress) (feeders : List FeederState) (sources : List (Source R)) (ends : List FeedEnd) (feds : List Fed)
+      → AreEndsOf rem (tasks feeders sources) ends → AreClosingsSettled progress 0 ends feds → length sources ≤ max_feeders → length feds ≤ max_feeders
+  few_ends progress feeders sources ends feds are settled few = (let le = ends_many progress 0 feeders sources ends feds are settled in omega arith)
 
-  pub kept_load : (stops : Bool) (limit : ℕ) (takings : List Taking) (feeders : List Sending) (sources : List (Source R)) (ends : List FeedEnd) (feds : List Fed)
-      → length sources ≡ length feeders → AreEndsOf rem (tasks feeders sources) ends → AreTold takings 0 ends feds
-      → (fault : FilesFault) → IsKeptFault stops feds fault → IsLoadFault rem stops limit sources fault
-  kept_load stops limit takings feeders sources ends feds many are told (run.Source n e) kept = (
-    kept_at takings 0 feeders sources ends feds n e are told kept.0.0,
-    λ never. read_before takings 0 feeders sources ends feds n many are told kept.0.1 (kept.1 never),
+  pub end_fault_load : (stops : Bool) (limit : ℕ) (progress : List FeederProgress) (feeders : List FeederState) (sources : List (Source R)) (ends : List FeedEnd) (feds : List Fed)
+      → length sources ≡ length feeders → AreEndsOf rem (tasks feeders sources) ends → AreClosingsSettled progress 0 ends feds
+      → (fault : FilesFault) → IsEndFault stops feds fault → IsLoadFault rem stops limit sources fault
+  end_fault_load stops limit progress feeders sources ends feds many are settled (run.Source n e) end_fault = (
+    end_fault_at progress 0 feeders sources ends feds n e are settled end_fault.0.0,
+    λ never. read_before progress 0 feeders sources ends feds n many are settled end_fault.0.1 (end_fault.1 never),
   )
-  kept_load stops limit takings feeders sources ends feds many are told (run.NotClosed n) (inl left) =
-      (let le = kept_many takings 0 feeders sources ends feds are told in omega (arith, at_within (λ fed. fed.closed ≡ false) feds n left.0, le))
-  kept_load stops limit takings feeders sources ends feds many are told (run.NotClosed n) (inr stopped) =
-      (let le = kept_many takings 0 feeders sources ends feds are told in omega (arith, at_within (λ fed. fed.stopped ≡ true) feds n stopped.1.1, le))
-  kept_load stops limit takings feeders sources ends feds many are told fault kept = absurd kept.0
+  end_fault_load stops limit progress feeders sources ends feds many are settled (run.NotClosed n) (inl left) =
+      (let le = ends_many progress 0 feeders sources ends feds are settled in omega (arith, at_within (λ fed. fed.closed ≡ false) feds n left.0, le))
+  end_fault_load stops limit progress feeders sources ends feds many are settled (run.NotClosed n) (inr stopped) =
+      (let le = ends_many progress 0 feeders sources ends feds are settled in omega (arith, at_within (λ fed. fed.stopped ≡ true) feds n stopped.1.1, le))
+  end_fault_load stops limit progress feeders sources ends feds many are settled fault end_fault = absurd end_fault.0
 
   -- ---- from the source to the bytes
 
@@ -189,10 +190,10 @@ module _ {R : Type 0} (rem : R → Option (List ℕ)) where
   stops_after : (schema : Declared) (reader : R) (source : Source R) (many : ℕ) (fault : SourceFault) → Begins rem schema reader source → HasFailed rem source many fault
       → StopsAfter rem source many fault
   stops_after schema reader source many fault begins failed =
-      subst (λ (end : End). MatchOption end (StopsAfter rem source many fault) (λ e. e ≡ Err fault)) begins.end_is failed
+      subst (λ (end : SourceEnd). MatchOption end (StopsAfter rem source many fault) (λ e. e ≡ Err fault)) begins.end_is failed
 
   -- the header was read
-  pub begun_header : (source : Source R) (text : List ℕ) → StandsAfter rem source.layout source.input (strip_bom text)
+  pub begun_header : (source : Source R) (text : List ℕ) → IsAfterHeader rem source.layout source.input (strip_bom text)
       → HasReadFirst text (reader_state source.input) (source_of rem source.input) (source.layout.header ∷ [])
   unfolding Reached
   begun_header source text stands = by (next_record default_config st.StartRecord [] [] (strip_bom text)) refl stands
@@ -206,14 +207,14 @@ module _ {R : Type 0} (rem : R → Option (List ℕ)) where
   too_long : (schema : Declared) (reader : R) (s : Source R) (text : List ℕ) (many : ℕ) → Begins rem schema reader s → rem reader ≡ Some text
       → StopsAfter rem s many source.TooLong → IsTooLongFile text
   too_long schema reader s text many begins known stops =
-      let stands : StandsAfter rem s.layout s.input (strip_bom text) =
-      subst (λ o. IfSome o (λ bytes. StandsAfter rem s.layout s.input (strip_bom bytes))) known begins.behind in
-      let first = stops.taken.records in
-      let last = stops.stopped.taken.records in
+      let stands : IsAfterHeader rem s.layout s.input (strip_bom text) =
+      subst (λ o. IfSome o (λ bytes. IsAfterHeader rem s.layout s.input (strip_bom bytes))) known begins.behind in
+      let first = stops.read_so_far.records in
+      let last = stops.stopped.read_so_far.records in
       let at = stops.stopped.at in
-      let begun = first_join rem text s.input stops.at (s.layout.header ∷ []) first (begun_header s text stands) stops.taken.read in
-      let all = first_join rem text stops.at at (s.layout.header ∷ first) last begun stops.stopped.taken.read in
-      let none : s.counts.taken ≡ 0 = ap (λ (t : Counts). t.taken) begins.counts_are in
+      let begun = first_join rem text s.input stops.at (s.layout.header ∷ []) first (begun_header s text stands) stops.read_so_far.read in
+      let all = first_join rem text stops.at at (s.layout.header ∷ first) last begun stops.stopped.read_so_far.read in
+      let none : s.counts.read_so_far ≡ 0 = ap (λ (t : Counts). t.read_so_far) begins.counts_are in
       let long = stops.stopped.too_long refl in
       record {
         header = s.layout.header;
@@ -222,7 +223,7 @@ module _ {R : Type 0} (rem : R → Option (List ℕ)) where
         rest = all.rest;
         first = all.first;
         too_long = (
-          omega (arith, length-append {A = List Field} first last, none, stops.taken.taken, stops.stopped.taken.taken, long.0),
+          omega (arith, length-append {A = List Field} first last, none, stops.read_so_far.read_so_far, stops.stopped.read_so_far.read_so_far, long.0),
           subst (λ o. IfSome o (λ rest. IsSome (next_record default_config (reader_state at) [] [] rest))) all.left long.1,
         );
       }
@@ -234,7 +235,7 @@ module _ {R : Type 0} (rem : R → Option (List ℕ)) where
       all_known (HasHeader schema) texts (subst (λ os. All (λ other. IfSome other (HasHeader schema)) os) is (headers_of rem schema readers sources begun))
 
   good : (declared : List ℕ) (schema : Declared) (limit : ℕ) (readers : List R) (sources : List (Source R)) (texts : List (List ℕ)) → IsSchemaText declared schema limit
-      → AllZip (Begins rem schema) readers sources → map rem readers ≡ map (λ text. Some text) texts → AreGood declared texts
+      → AllZip (Begins rem schema) readers sources → map rem readers ≡ map (λ text. Some text) texts → RowTextsAreValid declared texts
   good declared schema limit readers sources texts schema_is begun is = record {
     schema = schema;
     limit = limit;
@@ -247,20 +248,20 @@ module _ {R : Type 0} (rem : R → Option (List ℕ)) where
       → GaveRows rem s rows → HasFirstRows schema text rows
   first_rows schema reader s text rows begins known given =
       let gives = given begins.end_is in
-      let stands : StandsAfter rem s.layout s.input (strip_bom text) =
-      subst (λ o. IfSome o (λ bytes. StandsAfter rem s.layout s.input (strip_bom bytes))) known begins.behind in
-      let all = first_join rem text s.input gives.at (s.layout.header ∷ []) gives.taken.records (begun_header s text stands) gives.taken.read in
-      let none : s.counts.taken ≡ 0 = ap (λ (t : Counts). t.taken) begins.counts_are in
-      let few : gives.end.taken ≤ max_records = gives.few (omega (arith, none)) in
+      let stands : IsAfterHeader rem s.layout s.input (strip_bom text) =
+      subst (λ o. IfSome o (λ bytes. IsAfterHeader rem s.layout s.input (strip_bom bytes))) known begins.behind in
+      let all = first_join rem text s.input gives.at (s.layout.header ∷ []) gives.read_so_far.records (begun_header s text stands) gives.read_so_far.read in
+      let none : s.counts.read_so_far ≡ 0 = ap (λ (t : Counts). t.read_so_far) begins.counts_are in
+      let few : gives.end.read_so_far ≤ max_records = gives.few (omega (arith, none)) in
       record {
         header = s.layout.header;
-        records = gives.taken.records;
+        records = gives.read_so_far.records;
         state = reader_state gives.at;
         rest = all.rest;
         first = all.first;
-        few = omega (arith, few, gives.taken.taken, none);
+        few = omega (arith, few, gives.read_so_far.read_so_far, none);
         header_is = begins.header_is;
-        rows_are = sym gives.taken.good ∙ ap (λ d. good_rows d s.layout.header gives.taken.records) begins.schema_is;
+        rows_are = sym gives.read_so_far.good ∙ ap (λ d. good_rows d s.layout.header gives.read_so_far.records) begins.schema_is;
       }
 
   all_first : (schema : Declared) (readers : List R) (sources : List (Source R)) (texts : List (List ℕ)) (lists : List (List Entries))
@@ -295,13 +296,13 @@ module _ {R : Type 0} (rem : R → Option (List ℕ)) where
   pub texts_many : (schema : Declared) (readers : List R) (sources : List (Source R)) (texts : List (List ℕ)) → AllZip (Begins rem schema) readers sources
       → map rem readers ≡ map (λ text. Some text) texts → length texts ≡ length sources
   texts_many schema readers sources texts begun is =
-      sym (map_long (λ text. Some text) texts) ∙ (sym (ap (λ (os : List (Option (List ℕ))). length os) is)
+      sym (map_long (λ text. Some text) texts) ∙ (sym (ap (λ (os : List KnownBytes). length os) is)
       ∙ (map_long rem readers ∙ matched_long (Begins rem schema) readers sources begun))
 
   module _ (law : IsWholeLaw rem) (stops : Bool) (declared : List ℕ) (schema : Declared) (limit : ℕ) (readers : List R) (sources : List (Source R))
       (texts : List (List ℕ)) (schema_is : IsSchemaText declared schema limit) (begun : AllZip (Begins rem schema) readers sources)
       (is : map rem readers ≡ map (λ text. Some text) texts) where
-    all_good : AreGood declared texts
+    all_good : RowTextsAreValid declared texts
     all_good = good declared schema limit readers sources texts schema_is begun is
 
     pub run_fault_of : (fault : FilesFault) → IsLoadFault rem stops limit sources fault → IsFaultOf stops declared texts fault
@@ -347,7 +348,7 @@ module _ {R : Type 0} (rem : R → Option (List ℕ)) where
 
 -- at the headers
 good_before : (declared : List ℕ) (texts : List (List ℕ)) (schema : Declared) (limit : ℕ) (n : ℕ) → IsSchemaText declared schema limit
-    → IsBehindHeaders schema (map (λ text. Some text) texts) n → AreGoodBefore declared texts n
+    → EarlierFilesHaveHeaders schema (map (λ text. Some text) texts) n → RowTextsAreValidBefore declared texts n
 good_before declared texts schema limit n is met = record {
   schema = schema;
   limit = limit;

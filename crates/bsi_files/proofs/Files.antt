@@ -1,37 +1,38 @@
 -- From what a run has of its sources to what it has of the bytes of its files.
-use Rattle.std.proofs.Common.{◌≡◌, ℕ, suc, zero, ◌+◌, ◌≤◌, Bool, true, false, List, [], ◌∷◌, length, map, Option, Some, IfSome, refl, ap, ap₂, sym, ◌∙◌, subst, arith, add-zero, Result, Ok, Err}
+use Rattle.std.proofs.Common.{◌≡◌, ℕ, suc, zero, ◌+◌, ◌≤◌, Bool, true, false, List, [], ◌∷◌, length, map, Some, IfSome, refl, ap, ap₂, sym, ◌∙◌, subst, arith, add-zero, Result, Ok, Err}
 use Rattle.std.specs.Prelude.{IfErr, ◌≢◌}
-use Rattle.bsi_asks.specs.Faults.{is_late}
-use Rattle.bsi_asks.specs.declared.faults.FilesFault.{FilesFault}
-use Rattle.bsi_asks.specs.declared.faults.FilesFault.TheVariants.{TooManyFiles}
+use Rattle.bsi_answers.specs.Faults.{may_follow_output}
+use Rattle.bsi_answers.specs.declared.faults.FilesFault.{FilesFault}
+use Rattle.bsi_answers.specs.declared.faults.FilesFault.TheVariants.{TooManyFiles}
 use Rattle.csv.specs.Reading.{strip_bom}
 use Rattle.csv.specs.declared.reader.Reader.{Reader}
 use Rattle.bsi_rows.specs.Runs.{rows_from}
 use Rattle.bsi_rows.specs.Table.{max_feeders}
-use Rattle.bsi_records.specs.Numbers.{Field}
+use Rattle.bsi_syntax.specs.Bytes.{KnownBytes}
+use Rattle.bsi_syntax.specs.Numbers.{Field}
 use Rattle.bsi_schema.specs.Columns.{Declared}
-use Rattle.bsi_rows.specs.Rows.{Entries, FedRow}
-use Rattle.bsi_reading.specs.RowFiles.{bad_count, good_rows}
-use Rattle.bsi_reading.specs.SchemaTexts.{IsSchemaText}
-use Rattle.bsi_reading.specs.Sources.{Counts, HasTaken, IsOver, IsWholeFile, Layout, Source, StandsAfter}
+use Rattle.bsi_rows.specs.Rows.{Entries, SourcedRow}
+use Rattle.bsi_input.specs.RowFiles.{bad_count, good_rows}
+use Rattle.bsi_input.specs.SchemaTexts.{IsSchemaText}
+use Rattle.bsi_input.specs.Sources.{Counts, HasReadRows, IsAfterHeader, IsOver, IsWholeFile, Layout, Source}
 use Rattle.bsi_files.specs.Begun.{Begins}
-use Rattle.bsi_feeding.specs.Feeding.{IsReadOut}
-use Rattle.bsi_asks.specs.RowFiles.{fed_counts, file_at, file_counts, file_rows, FedCounts, IsRowFile, RowFile}
+use Rattle.bsi_files.specs.Feeding.{IsReadOut}
+use Rattle.bsi_answers.specs.RowFiles.{fed_counts, file_at, file_counts, file_rows, FedCounts, IsRowFile, RowFile}
 use Rattle.bsi_files.specs.Feds.{AreFedFrom, IsAllFed, IsFedFrom}
-use Rattle.bsi_asks.proofs.Mixing.{same_length}
-use Rattle.bsi_asks.proofs.Showing.{file_by_file_too, lines_too}
+use Rattle.bsi_answers.proofs.Mixing.{same_length}
+use Rattle.bsi_answers.proofs.Showing.{file_by_file_too, lines_too}
 use Rattle.std.specs.List.{AllZip}
-use Rattle.bsi_asks.specs.Mixes.{file_by_file}
-use Rattle.bsi_asks.specs.Runs.{AreLines, HasLoaded, IsRun}
-use Rattle.bsi_asks.specs.declared.fed.Fed.{Fed}
+use Rattle.bsi_answers.specs.Mixes.{file_by_file}
+use Rattle.bsi_answers.specs.Runs.{AreLines, HasLoaded, IsRun}
+use Rattle.bsi_answers.specs.declared.fed.Fed.{Fed}
 
 -- the files that give the rows of a list
-files_from : List FedRow → ℕ → List Fed → List RowFile
+files_from : List SourcedRow → ℕ → List Fed → List RowFile
 files_from rows n [] = []
 files_from rows n (fed ∷ feds) = record { rows = rows_from n rows; bad = fed.bad } ∷ files_from rows (suc n) feds
 
 -- they are mixed in the list
-mixed_at : (rows : List FedRow) (n : ℕ) (feds : List Fed) (k : ℕ) → ((f : ℕ) → n + length feds ≤ f → rows_from f rows ≡ [])
+mixed_at : (rows : List SourcedRow) (n : ℕ) (feds : List Fed) (k : ℕ) → ((f : ℕ) → n + length feds ≤ f → rows_from f rows ≡ [])
     → rows_from (n + k) rows ≡ (file_at (files_from rows n feds) k).rows
 unfolding files_from
 mixed_at rows n [] k none = none (n + k) (omega arith)
@@ -43,8 +44,8 @@ mixed_at rows n (fed ∷ feds) (suc k) none =
 abbrev fed_of : ℕ → ℕ → FedCounts
 fed_of accepted bad = record { accepted = accepted; bad = bad }
 
-module _ {R : Type 0} (rem : R → Option (List ℕ)) where
-  counts_from : (stops : Bool) (rows : List FedRow) (n : ℕ) (sources : List (Source R)) (feds : List Fed) → AreFedFrom rem stops rows n sources feds
+module _ {R : Type 0} (rem : R → KnownBytes) where
+  counts_from : (stops : Bool) (rows : List SourcedRow) (n : ℕ) (sources : List (Source R)) (feds : List Fed) → AreFedFrom rem stops rows n sources feds
       → map file_counts (files_from rows n feds) ≡ map fed_counts feds
   unfolding files_from
   counts_from stops rows n [] [] fed = refl
@@ -53,7 +54,7 @@ module _ {R : Type 0} (rem : R → Option (List ℕ)) where
   counts_from stops rows n (source ∷ sources) (x ∷ feds) fed =
       ap₂ (λ c cs. c ∷ cs) (ap (λ k. fed_of k x.bad) fed.0.many) (counts_from stops rows (suc n) sources feds fed.1)
 
-  pub as_many : (stops : Bool) (rows : List FedRow) (n : ℕ) (sources : List (Source R)) (feds : List Fed) → AreFedFrom rem stops rows n sources feds
+  pub as_many : (stops : Bool) (rows : List SourcedRow) (n : ℕ) (sources : List (Source R)) (feds : List Fed) → AreFedFrom rem stops rows n sources feds
       → length sources ≡ length feds
   as_many stops rows n [] [] fed = refl
   as_many stops rows n [] (x ∷ feds) fed = absurd fed
@@ -63,35 +64,35 @@ module _ {R : Type 0} (rem : R → Option (List ℕ)) where
   -- what is read from after the header to the end of a text is the whole of it
   abbrev pub IsWholeLaw : Type 0
   IsWholeLaw = (layout : Layout) → (a b : Reader R) → (text : List ℕ) → (start end : Counts) → (rows : List Entries)
-      → StandsAfter rem layout a text → HasTaken rem layout a b start end rows → IsOver rem b → IsWholeFile layout text start end rows
+      → IsAfterHeader rem layout a text → HasReadRows rem layout a b start end rows → IsOver rem b → IsWholeFile layout text start end rows
 
   -- the file of a source that was read out
   pub row_file : IsWholeLaw → (schema : Declared) (reader : R) (source : Source R) (text : List ℕ) (rows : List Entries) (bad : ℕ)
       → Begins rem schema reader source → rem reader ≡ Some text → IsReadOut rem source rows bad → IsRowFile schema text (record { rows = rows; bad = bad })
   row_file law schema reader source text rows bad begins is out =
-      let stands : StandsAfter rem source.layout source.input (strip_bom text) =
-      subst (λ o. IfSome o (λ bytes. StandsAfter rem source.layout source.input (strip_bom bytes))) is begins.behind in
-      let whole = law source.layout source.input out.at (strip_bom text) source.counts out.end rows stands out.taken out.over in
+      let stands : IsAfterHeader rem source.layout source.input (strip_bom text) =
+      subst (λ o. IfSome o (λ bytes. IsAfterHeader rem source.layout source.input (strip_bom bytes))) is begins.behind in
+      let whole = law source.layout source.input out.at (strip_bom text) source.counts out.end rows stands out.read_so_far out.over in
       let schema_is : source.layout.schema ≡ schema = begins.schema_is in
-      let none : source.counts.taken ≡ 0 = ap (λ (t : Counts). t.taken) begins.counts_are in
+      let none : source.counts.read_so_far ≡ 0 = ap (λ (t : Counts). t.read_so_far) begins.counts_are in
       let no_bad : source.counts.bad ≡ 0 = ap (λ (t : Counts). t.bad) begins.counts_are in
       record {
         header = source.layout.header;
         records = whole.records;
         all = whole.all;
-        few = omega (arith, whole.taken, none, out.few);
+        few = omega (arith, whole.read_so_far, none, out.few);
         header_is = begins.header_is;
         rows_are = whole.good ∙ ap (λ s. good_rows s source.layout.header whole.records) schema_is;
         bad_is = omega (arith, out.bad_is, no_bad, whole.bad, ap (λ s. bad_count s source.layout.header whole.records) schema_is);
       }
 
-  one_file : IsWholeLaw → (schema : Declared) (reader : R) (source : Source R) (text : List ℕ) (rows : List FedRow) (n : ℕ) (fed : Fed)
+  one_file : IsWholeLaw → (schema : Declared) (reader : R) (source : Source R) (text : List ℕ) (rows : List SourcedRow) (n : ℕ) (fed : Fed)
       → Begins rem schema reader source → rem reader ≡ Some text → IsFedFrom rem false rows n source fed
       → IsRowFile schema text (record { rows = rows_from n rows; bad = fed.bad })
   one_file law schema reader source text rows n fed begins is has =
       row_file law schema reader source text (rows_from n rows) fed.bad begins is (has.out refl begins.end_is)
 
-  all_files : IsWholeLaw → (schema : Declared) (readers : List R) (sources : List (Source R)) (texts : List (List ℕ)) (rows : List FedRow) (n : ℕ) (feds : List Fed)
+  all_files : IsWholeLaw → (schema : Declared) (readers : List R) (sources : List (Source R)) (texts : List (List ℕ)) (rows : List SourcedRow) (n : ℕ) (feds : List Fed)
       → AllZip (Begins rem schema) readers sources → map rem readers ≡ map (λ text. Some text) texts → AreFedFrom rem false rows n sources feds
       → AllZip (IsRowFile schema) texts (files_from rows n feds)
   unfolding files_from
@@ -109,7 +110,7 @@ module _ {R : Type 0} (rem : R → Option (List ℕ)) where
 
   -- the rows of sources that were read out are those of the files
   pub loaded_of : IsWholeLaw → (stops : Bool) → stops ≡ false → (schema : Declared) (limit : ℕ) (readers : List R) (sources : List (Source R))
-      (texts : List (List ℕ)) (rows : List FedRow) (feds : List Fed) → AllZip (Begins rem schema) readers sources
+      (texts : List (List ℕ)) (rows : List SourcedRow) (feds : List Fed) → AllZip (Begins rem schema) readers sources
       → map rem readers ≡ map (λ text. Some text) texts → IsAllFed rem stops limit rows sources feds
       → HasLoaded schema limit texts rows (map fed_counts feds)
   loaded_of law stops never schema limit readers sources texts rows feds begin is all =
@@ -125,12 +126,12 @@ module _ {R : Type 0} (rem : R → Option (List ℕ)) where
         counts_are = sym (counts_from false rows 0 sources feds fed.each);
       }
 
-  pub few_fed : (stops : Bool) (limit : ℕ) (rows : List FedRow) (sources : List (Source R)) (feds : List Fed) → IsAllFed rem stops limit rows sources feds
+  pub few_fed : (stops : Bool) (limit : ℕ) (rows : List SourcedRow) (sources : List (Source R)) (feds : List Fed) → IsAllFed rem stops limit rows sources feds
       → length sources ≤ max_feeders → length feds ≤ max_feeders
   few_fed stops limit rows sources feds fed few = (let many = as_many stops rows 0 sources feds fed.each in omega arith)
 
 -- the lines over the rows of files are those of a run over them
-pub run_of_loaded : (schema : Declared) (limit : ℕ) (declared : List ℕ) (texts : List (List ℕ)) (rows : List FedRow) (counts : List FedCounts)
+pub run_of_loaded : (schema : Declared) (limit : ℕ) (declared : List ℕ) (texts : List (List ℕ)) (rows : List SourcedRow) (counts : List FedCounts)
     → IsSchemaText declared schema limit → HasLoaded schema limit texts rows counts
     → (records : List (List Field)) (lines : List (List ℕ)) → AreLines schema rows counts records lines → IsRun declared texts records lines
 run_of_loaded schema limit declared texts rows counts schema_is loaded records lines are =
@@ -149,11 +150,11 @@ run_of_loaded schema limit declared texts rows counts schema_is loaded records l
 
 -- ---- faults and lengths
 
-pub late_counted : {T : Type 0} (r : Result T FilesFault) → IfErr r (λ fault. is_late fault ≡ true) → IfErr r (λ fault. fault ≢ TooManyFiles)
+pub late_counted : {T : Type 0} (r : Result T FilesFault) → IfErr r (λ fault. may_follow_output fault ≡ true) → IfErr r (λ fault. fault ≢ TooManyFiles)
 late_counted (Ok x) late = tt
-late_counted (Err e) late = λ same. (let wrong : false ≡ true = sym (ap is_late same) ∙ late in absurd (cc (wrong)))
+late_counted (Err e) late = λ same. (let wrong : false ≡ true = sym (ap may_follow_output same) ∙ late in absurd (cc (wrong)))
 
-pub late_quiet : {T : Type 0} (P : FilesFault → Type 0) (r : Result T FilesFault) → IfErr r (λ fault. is_late fault ≡ true) → IfErr r (λ fault. is_late fault ≡ false → P fault)
+pub late_quiet : {T : Type 0} (P : FilesFault → Type 0) (r : Result T FilesFault) → IfErr r (λ fault. may_follow_output fault ≡ true) → IfErr r (λ fault. may_follow_output fault ≡ false → P fault)
 late_quiet P (Ok x) late = tt
 late_quiet P (Err e) late = λ early. (let wrong : false ≡ true = sym early ∙ late in absurd (cc (wrong)))
 

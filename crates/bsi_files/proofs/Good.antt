@@ -5,14 +5,14 @@ use Rattle.csv.specs.Machine.{Read}
 use Rattle.csv.specs.Reading.{Reached, default_config, strip_bom}
 use Rattle.csv.specs.declared.parser.State.{State}
 use Rattle.csv.specs.declared.parser.State.TheVariants as st
-use Rattle.bsi_records.specs.Numbers.{Field}
+use Rattle.bsi_syntax.specs.Numbers.{Field}
 use Rattle.bsi_schema.specs.Columns.{Declared}
-use Rattle.bsi_reading.specs.RowFiles.{is_header}
+use Rattle.bsi_input.specs.RowFiles.{is_header}
 use Rattle.bsi_files.specs.Headers.{HasHeader}
 use Rattle.std.specs.List.{AllZip}
-use Rattle.bsi_asks.specs.RowFiles.{IsRowFile, RowFile}
-use Rattle.bsi_files.specs.RunFaults.{AreGood}
-use Rattle.bsi_asks.specs.Runs.{IsRun}
+use Rattle.bsi_answers.specs.RowFiles.{IsRowFile, RowFile}
+use Rattle.bsi_files.specs.RunFaults.{RowTextsAreValid}
+use Rattle.bsi_answers.specs.Runs.{IsRun}
 
 header_read : (schema : Declared) (bytes : List ℕ) (header : List Field) (records : List (List Field)) (state : State) (rest : List ℕ)
     → Reached default_config st.StartRecord (strip_bom bytes) (header ∷ records) state rest → is_header schema header ≡ true → HasHeader schema bytes
@@ -28,7 +28,7 @@ headers_read schema (text ∷ texts) (file ∷ files) are =
     let one = are.0 in
     All-cons (HasHeader schema) text texts (header_read schema text one.header one.records one.all.0 one.all.1 one.all.2 one.header_is) (headers_read schema texts files are.1)
 
-pub run_good : (declared : List ℕ) (texts : List (List ℕ)) (records : List (List Field)) (lines : List (List ℕ)) → IsRun declared texts records lines → AreGood declared texts
+pub run_good : (declared : List ℕ) (texts : List (List ℕ)) (records : List (List Field)) (lines : List (List ℕ)) → IsRun declared texts records lines → RowTextsAreValid declared texts
 run_good declared texts records lines run = record {
   schema = run.schema;
   limit = run.limit;

@@ -6,16 +6,17 @@ use Rattle.csv.specs.Machine.{Read, next_record}
 use Rattle.csv.specs.Reading.{default_config, reader_state, source_of, strip_bom}
 use Rattle.csv.specs.declared.parser.State.TheVariants as st
 use Rattle.bsi_rows.specs.Table.{max_feeders}
-use Rattle.bsi_records.specs.Numbers.{Field}
+use Rattle.bsi_syntax.specs.Bytes.{KnownBytes}
+use Rattle.bsi_syntax.specs.Numbers.{Field}
 use Rattle.bsi_schema.specs.Columns.{Declared}
-use Rattle.bsi_reading.specs.RowFiles.{is_header}
-use Rattle.bsi_reading.specs.Sources.{Source, StandsAfter}
-use Rattle.bsi_reading.specs.declared.rows.SourceFault.TheVariants as source
+use Rattle.bsi_input.specs.RowFiles.{is_header}
+use Rattle.bsi_input.specs.Sources.{IsAfterHeader, Source}
+use Rattle.bsi_input.specs.declared.rows.SourceFault.TheVariants as source
 use Rattle.bsi_files.specs.Begun.{Begins}
-use Rattle.bsi_files.specs.Headers.{HasHeader, IsBehindHeaders, IsFirstWithout, IsHeaderFault, IsHeadersFault, LacksHeader}
+use Rattle.bsi_files.specs.Headers.{HasHeader, EarlierFilesHaveHeaders, IsFirstWithoutHeader, IsHeaderFault, IsHeadersFault, LacksHeader}
 use Rattle.std.specs.List.{AllZip}
-use Rattle.bsi_asks.specs.declared.faults.FilesFault.{FilesFault}
-use Rattle.bsi_asks.specs.declared.faults.FilesFault.TheVariants as files
+use Rattle.bsi_answers.specs.declared.faults.FilesFault.{FilesFault}
+use Rattle.bsi_answers.specs.declared.faults.FilesFault.TheVariants as files
 use Rattle.bsi_files.proofs.Files.{matched_long}
 use Rattle.bsi_files.proofs.Joining.{HasMatched}
 
@@ -27,7 +28,7 @@ pub map_long : {X Y : Type 0} (f : X → Y) (xs : List X) → length (map f xs) 
 map_long f [] = refl
 map_long f (x ∷ xs) = ap (λ n. suc n) (map_long f xs)
 
-module _ {R : Type 0} (rem : R → Option (List ℕ)) (schema : Declared) where
+module _ {R : Type 0} (rem : R → KnownBytes) (schema : Declared) where
   -- a source that stands after a header
   header_of : (reader : R) (source : Source R) → Begins rem schema reader source → IfSome (rem reader) (HasHeader schema)
   header_of reader source begins = by (rem reader) begins.behind
@@ -37,7 +38,7 @@ module _ {R : Type 0} (rem : R → Option (List ℕ)) (schema : Declared) where
       at None stands = stands
       at (Some read) stands = subst (λ (h : List Field). is_header schema h ≡ true) stands.0 begins.header_is
 
-      by : (o : Option (List ℕ)) → IfSome o (λ bytes. StandsAfter rem source.layout source.input (strip_bom bytes)) → IfSome o (HasHeader schema)
+      by : (o : KnownBytes) → IfSome o (λ bytes. IsAfterHeader rem source.layout source.input (strip_bom bytes)) → IfSome o (HasHeader schema)
       by None behind = tt
       by (Some bytes) behind = at (next_record default_config st.StartRecord [] [] (strip_bom bytes)) behind
 
@@ -50,7 +51,7 @@ module _ {R : Type 0} (rem : R → Option (List ℕ)) (schema : Declared) where
 
   -- the file whose header is read next
   first_without : (all left rest : List R) (reader : R) (sources : List (Source R)) (number : ℕ) → HasMatched (Begins rem schema) all left sources
-      → left ≡ reader ∷ rest → number ≡ length sources → IfSome (rem reader) (LacksHeader schema) → IsFirstWithout schema (map rem all) number
+      → left ≡ reader ∷ rest → number ≡ length sources → IfSome (rem reader) (LacksHeader schema) → IsFirstWithoutHeader schema (map rem all) number
   first_without all left rest reader sources number has is at lacks = record {
     before = map rem has.done;
     file = rem reader;
@@ -63,13 +64,13 @@ module _ {R : Type 0} (rem : R → Option (List ℕ)) (schema : Declared) where
 
   -- each file before it has a header
   behind : (all left rest : List R) (reader : R) (sources : List (Source R)) (number : ℕ) → HasMatched (Begins rem schema) all left sources
-      → left ≡ reader ∷ rest → number ≡ length sources → IsBehindHeaders schema (map rem all) number
+      → left ≡ reader ∷ rest → number ≡ length sources → EarlierFilesHaveHeaders schema (map rem all) number
   behind all left rest reader sources number has is at =
       let files : map rem all ≡ map rem has.done ++ map rem left = ap (λ rs. map rem rs) has.parts ∙ map_append rem has.done left in
       let place : number ≡ length (map rem has.done) = at ∙ sym (map_long rem has.done ∙ matched_long (Begins rem schema) has.done sources has.matched) in
       let one : length left ≡ suc (length rest) = ap (λ (rs : List R). length rs) is in
       record {
-        names = omega (arith, place, ap (λ (os : List (Option (List ℕ))). length os) files, length-append (map rem has.done) (map rem left), map_long rem left, one);
+        names = omega (arith, place, ap (λ (os : List KnownBytes). length os) files, length-append (map rem has.done) (map rem left), map_long rem left, one);
         headers = subst (λ os. All (λ other. IfSome other (HasHeader schema)) os)
             (sym (take-append_seam (map rem has.done) (map rem left))
             ∙ (ap (λ k. take k (map rem has.done ++ map rem left)) (sym place) ∙ ap (λ os. take number os) (sym files)))

@@ -1,15 +1,16 @@
 -- The fault of a run for a schema file that declares no schema.
-use Rattle.std.proofs.Common.{ℕ, Bool, List, Option, inl, refl}
+use Rattle.std.proofs.Common.{ℕ, Bool, List, inl, refl}
 use Rattle.std.specs.Prelude.{◌≢◌}
-use Rattle.bsi_records.specs.Numbers.{Field}
-use Rattle.bsi_reading.specs.SchemaTexts.{IsSchemaFault}
-use Rattle.bsi_reading.specs.declared.rows.SourceFault.TheVariants as source
-use Rattle.bsi_reading.specs.declared.schema_text.SchemaFault.{SchemaFault}
-use Rattle.bsi_reading.specs.declared.schema_text.SchemaFault.TheVariants as schema
-use Rattle.bsi_asks.specs.Faults.{schema_fault}
+use Rattle.bsi_syntax.specs.Bytes.{KnownBytes}
+use Rattle.bsi_syntax.specs.Numbers.{Field}
+use Rattle.bsi_input.specs.SchemaTexts.{IsSchemaFault}
+use Rattle.bsi_input.specs.declared.rows.SourceFault.TheVariants as source
+use Rattle.bsi_input.specs.declared.schema_text.SchemaFault.{SchemaFault}
+use Rattle.bsi_input.specs.declared.schema_text.SchemaFault.TheVariants as schema
+use Rattle.bsi_answers.specs.Faults.{schema_fault}
 use Rattle.bsi_files.specs.RunFaults.{IsFaultOf}
-use Rattle.bsi_asks.specs.Writing.{Leaves}
-use Rattle.bsi_asks.specs.declared.faults.FilesFault.TheVariants as run
+use Rattle.bsi_answers.specs.Writing.{Leaves}
+use Rattle.bsi_answers.specs.declared.faults.FilesFault.TheVariants as run
 
 -- it is not that there are too many files
 pub schema_counted : (fault : SchemaFault) → schema_fault fault ≢ run.TooManyFiles
@@ -31,11 +32,11 @@ schema_tells stops declared texts (schema.Source source.Read) met = tt
 schema_tells stops declared texts (schema.Source source.BadHeader) met = tt
 
 -- nothing was written
-pub schema_leaves : (Is : List (List Field) → List (List ℕ) → Type 0) (asked : List ℕ) (fault : SchemaFault) (held : Option (List ℕ))
-    → Leaves Is asked (schema_fault fault) held held
-schema_leaves Is asked (schema.BadRecord number) held = refl
-schema_leaves Is asked schema.NoColumns held = refl
-schema_leaves Is asked (schema.Source source.TooLong) held = refl
-schema_leaves Is asked (schema.Source source.NoMemory) held = inl refl
-schema_leaves Is asked (schema.Source source.Read) held = refl
-schema_leaves Is asked (schema.Source source.BadHeader) held = refl
+pub schema_leaves : (Is : List (List Field) → List (List ℕ) → Type 0) (asked : List ℕ) (fault : SchemaFault) (contents : KnownBytes)
+    → Leaves Is asked (schema_fault fault) contents contents
+schema_leaves Is asked (schema.BadRecord number) contents = refl
+schema_leaves Is asked schema.NoColumns contents = refl
+schema_leaves Is asked (schema.Source source.TooLong) contents = refl
+schema_leaves Is asked (schema.Source source.NoMemory) contents = inl refl
+schema_leaves Is asked (schema.Source source.Read) contents = refl
+schema_leaves Is asked (schema.Source source.BadHeader) contents = refl

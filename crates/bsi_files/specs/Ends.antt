@@ -1,50 +1,59 @@
--- What the ends of the feeders' threads tell.
-use Rattle.std.specs.Prelude.{◌≡◌, ◌≤◌, ⊤, ℕ, suc, List, [], ◌∷◌, Option, length, IfSome}
-use Rattle.bsi_rings.specs.Rings.{Sending}
+-- How feeders end (`IsFeedEnd`): closing, rows, bad records, fault; and what a run starts with (`AreReady`).
+use Rattle.std.specs.Prelude.{◌≡◌, ◌≤◌, ⊤, ℕ, suc, List, [], ◌∷◌, length, IfSome}
+use Rattle.bsi_system.specs.Rings.{FeederState}
 use Rattle.bsi_system.specs.Running.{IsClosingOf, IsFeederOf, SystemName}
-use Rattle.bsi_reading.specs.Sources.{Source}
-use Rattle.bsi_feeding.specs.Feeding.{HasFailed, HasFed}
-use Rattle.bsi_feeding.specs.declared.feeding.FeedEnd.{FeedEnd}
+use Rattle.bsi_input.specs.Sources.{Source}
+use Rattle.bsi_files.specs.Feeding.{HasFailed, HasFed}
+use Rattle.bsi_files.specs.declared.feeding.FeedEnd.{FeedEnd}
 use Rattle.std.specs.List.{AllZip}
 use Rattle.bsi_rows.specs.Table.{max_feeders}
+use Rattle.bsi_syntax.specs.Bytes.{KnownBytes}
 
--- what the end of a feeder tells of the feeder and of its source: the rows that were read, which its closing carries,
--- and the fault that the source answered
-pub record IsFeedEnd {R : Type 0} (rem : R → Option (List ℕ)) (feeder : Sending) (source : Source R) (end : FeedEnd) : Type 0 where
+-- How a feeder ended that read this source.
+pub record IsFeedEnd {R : Type 0} (rem : R → KnownBytes) (feeder : FeederState) (source : Source R) (end : FeedEnd) : Type 0 where
+  -- If there is a closing, its number is that of the feeder.
   pub number : IfSome end.closing (λ closing. closing.number ≡ feeder.number)
+  -- If there is a closing, its channel is that of the feeder.
   pub channel : IfSome end.closing (λ closing. closing.channel ≡ feeder.channel)
+  -- The rows that were sent, and the records that were bad.
   pub fed : HasFed rem source feeder.sent end
+  -- If there is a fault, the source had ended by it, or stopped at it after the accepted rows.
   pub fault : IfSome end.fault (HasFailed rem source end.accepted)
 
--- a feeder and the source that it reads
+-- A feeder, and the source that it reads.
 abbrev pub Task : Type 0 → Type 0
-Task R = Sending × Source R
+Task R = FeederState × Source R
 
--- each feeder with the source at its place
-abbrev pub tasks : {R : Type 0} → List Sending → List (Source R) → List (Task R)
+-- Each feeder with the source of the same number.
+abbrev pub tasks : {R : Type 0} → List FeederState → List (Source R) → List (Task R)
 tasks [] sources = []
 tasks (feeder ∷ feeders) [] = []
 tasks (feeder ∷ feeders) (source ∷ sources) = (feeder, source) ∷ tasks feeders sources
 
--- ends of tasks, one for each
-abbrev pub AreEndsOf : {R : Type 0} → (R → Option (List ℕ)) → List (Task R) → List FeedEnd → Type 0
+-- How each task ended.
+abbrev pub AreEndsOf : {R : Type 0} → (R → KnownBytes) → List (Task R) → List FeedEnd → Type 0
 AreEndsOf rem given ends = AllZip (λ (feeder, source) end. IsFeedEnd rem feeder source end) given ends
 
--- the feeders of a system, numbered from n, of which nothing was sent
-abbrev pub AreFeeders : SystemName → ℕ → List Sending → Type 0
+-- The feeders of a system, numbered from n, which have sent nothing.
+abbrev pub AreFeeders : SystemName → ℕ → List FeederState → Type 0
 AreFeeders system n [] = ⊤
 AreFeeders system n (feeder ∷ feeders) =
     ((feeder.number ≡ n) × IsFeederOf feeder system × (feeder.sent ≡ [])) × AreFeeders system (suc n) feeders
 
--- the feeders of a system of this limit, as they are opened, and a source for each of its rings, at most 64
-pub record AreReady {R : Type 0} (system : SystemName) (limit : ℕ) (feeders : List Sending) (sources : List (Source R)) : Type 0 where
+-- What is ready for a run: the feeders of a system, and their sources.
+pub record AreReady {R : Type 0} (system : SystemName) (limit : ℕ) (feeders : List FeederState) (sources : List (Source R)) : Type 0 where
+  -- The feeders are those of the system, numbered from 0, and have sent nothing.
   pub own : AreFeeders system 0 feeders
+  -- The system has a channel for each feeder.
   pub channels : length system.channels ≡ length feeders
+  -- There is a source for each feeder.
   pub many : length sources ≡ length feeders
+  -- There are at most 64 sources.
   pub few : length sources ≤ max_feeders
+  -- `limit` is the most rows of the system's table.
   pub most : system.limit ≡ limit
 
--- ends whose closings are of a system, numbered from n
+-- The closings are of feeders of the system, numbered from n.
 abbrev pub AreClosings : SystemName → ℕ → List FeedEnd → Type 0
 AreClosings system n [] = ⊤
 AreClosings system n (end ∷ ends) =

@@ -1,28 +1,31 @@
--- What a whole run has of its sources.
-use Rattle.std.specs.Prelude.{◌≡◌, ⊤, ℕ, suc, List, [], ◌∷◌, Option, None, length, Bool, false, ◌≤◌}
+-- After a run: the loaded rows are those that each source gave, and no others (`IsAllFed`).
+use Rattle.std.specs.Prelude.{◌≡◌, ⊤, ℕ, suc, List, [], ◌∷◌, None, length, Bool, false, ◌≤◌}
 use Rattle.bsi_rows.specs.Runs.{rows_from}
-use Rattle.bsi_rows.specs.Rows.{FedRow}
-use Rattle.bsi_reading.specs.Sources.{Source}
-use Rattle.bsi_feeding.specs.Feeding.{CountsBad, IsReadOut}
-use Rattle.bsi_asks.specs.declared.fed.Fed.{Fed}
+use Rattle.bsi_rows.specs.Rows.{SourcedRow}
+use Rattle.bsi_input.specs.Sources.{Source}
+use Rattle.bsi_files.specs.Feeding.{CountsBad, IsReadOut}
+use Rattle.bsi_answers.specs.declared.fed.Fed.{Fed}
+use Rattle.bsi_syntax.specs.Bytes.{KnownBytes}
 
--- the rows of a feeder in a list are as many as were accepted, the bad records are those of some first records of its
--- source that have these rows and, where no gate stops it, the rows are those of its source, which was read out
-pub record IsFedFrom {R : Type 0} (rem : R → Option (List ℕ)) (stops : Bool) (rows : List FedRow) (n : ℕ)
+-- What the table and the counts have of one feeder and its source.
+pub record IsFedFrom {R : Type 0} (rem : R → KnownBytes) (stops : Bool) (rows : List SourcedRow) (n : ℕ)
     (source : Source R) (fed : Fed) : Type 0 where
+  -- The table has as many rows of the feeder as it accepted.
   pub many : length (rows_from n rows) ≡ fed.accepted
+  -- The bad records are those among the records read, whose good rows begin with the rows of the table.
   pub counted : source.end ≡ None → CountsBad rem source (rows_from n rows) fed.bad
+  -- If no gate stops feeders, the whole source was read.
   pub out : stops ≡ false → source.end ≡ None → IsReadOut rem source (rows_from n rows) fed.bad
 
-abbrev pub AreFedFrom : {R : Type 0} → (R → Option (List ℕ)) → Bool → List FedRow → ℕ → List (Source R) → List Fed
+abbrev pub AreFedFrom : {R : Type 0} → (R → KnownBytes) → Bool → List SourcedRow → ℕ → List (Source R) → List Fed
     → Type 0
 AreFedFrom rem stops rows n [] [] = ⊤
 AreFedFrom rem stops rows n (source ∷ sources) (fed ∷ feds) =
     IsFedFrom rem stops rows n source fed × AreFedFrom rem stops rows (suc n) sources feds
 AreFedFrom rem stops rows n sources feds = ⊥
 
--- a list has the rows of all sources, and no others, and is within the limit
-pub record IsAllFed {R : Type 0} (rem : R → Option (List ℕ)) (stops : Bool) (limit : ℕ) (rows : List FedRow)
+-- The rows are those of all sources and no others, within the limit.
+pub record IsAllFed {R : Type 0} (rem : R → KnownBytes) (stops : Bool) (limit : ℕ) (rows : List SourcedRow)
     (sources : List (Source R)) (feds : List Fed) : Type 0 where
   pub each : AreFedFrom rem stops rows 0 sources feds
   pub none : (f : ℕ) → length sources ≤ f → rows_from f rows ≡ []

@@ -1,51 +1,59 @@
--- Which row file has no header.
-use Rattle.std.specs.Prelude.{◌≡◌, ⊤, ℕ, ◌<◌, true, List, [], ◌∷◌, ◌++◌, Option, All, IfSome, MatchOption, length, take}
+-- Which row file has a header of the schema (`HasHeader`), and what a fault at the headers says of the files.
+use Rattle.std.specs.Prelude.{◌≡◌, ⊤, ℕ, ◌<◌, true, List, [], ◌∷◌, ◌++◌, All, IfSome, MatchOption, length, take}
 use Rattle.csv.specs.Machine.{next_record}
 use Rattle.csv.specs.Reading.{default_config, strip_bom}
 use Rattle.csv.specs.declared.parser.State.TheVariants as st
 use Rattle.bsi_schema.specs.Columns.{Declared}
-use Rattle.bsi_reading.specs.RowFiles.{is_header}
-use Rattle.bsi_reading.specs.Sources.{HasNoHeader}
-use Rattle.bsi_reading.specs.declared.rows.SourceFault.TheVariants as source
-use Rattle.bsi_asks.specs.declared.faults.FilesFault.{FilesFault}
-use Rattle.bsi_asks.specs.declared.faults.FilesFault.TheVariants.{NoMemory, Source}
+use Rattle.bsi_input.specs.RowFiles.{is_header}
+use Rattle.bsi_input.specs.Sources.{HasNoHeader}
+use Rattle.bsi_input.specs.declared.rows.SourceFault.TheVariants as source
+use Rattle.bsi_answers.specs.declared.faults.FilesFault.{FilesFault}
+use Rattle.bsi_answers.specs.declared.faults.FilesFault.TheVariants.{NoMemory, Source}
+use Rattle.bsi_syntax.specs.Bytes.{KnownBytes}
 
--- the first record of these bytes is a header of the schema
+-- The first record of the bytes is a header of the schema.
 abbrev pub HasHeader : Declared → List ℕ → Type 0
 HasHeader schema bytes =
     MatchOption (next_record default_config st.StartRecord [] [] (strip_bom bytes)) ⊥
     (λ (header, _, _). is_header schema header ≡ true)
 
--- it is none, or there is none
+-- The first record is none, or there is no record.
 abbrev pub LacksHeader : Declared → List ℕ → Type 0
 LacksHeader schema bytes = HasNoHeader schema (strip_bom bytes)
 
--- the first file that has no header, where its bytes are known, has this number
-pub record IsFirstWithout (schema : Declared) (files : List (Option (List ℕ))) (number : ℕ) : Type 0 where
-  pub before : List (Option (List ℕ))
-  pub file : Option (List ℕ)
-  pub after : List (Option (List ℕ))
+-- The file of this number is the first without a header, as far as the bytes of the files are known.
+pub record IsFirstWithoutHeader (schema : Declared) (files : List KnownBytes) (number : ℕ) : Type 0 where
+  -- The files of lower numbers.
+  pub before : List KnownBytes
+  -- The file of this number.
+  pub file : KnownBytes
+  -- The files of higher numbers.
+  pub after : List KnownBytes
+  -- The file is between those of lower and those of higher numbers.
   pub files_are : files ≡ before ++ file ∷ after
+  -- The number of the file is how many files are before it.
   pub number_is : number ≡ length before
+  -- Each earlier file whose bytes are known has a header of the schema.
   pub others : All (λ other. IfSome other (HasHeader schema)) before
+  -- If the bytes of the file are known, the first record is no header of the schema, or is missing.
   pub none : IfSome file (LacksHeader schema)
 
--- this number is that of a file, and each file before it has a header, where its bytes are known
-pub record IsBehindHeaders (schema : Declared) (files : List (Option (List ℕ))) (number : ℕ) : Type 0 where
+-- There is a file of this number, and each file before it whose bytes are known has a header.
+pub record EarlierFilesHaveHeaders (schema : Declared) (files : List KnownBytes) (number : ℕ) : Type 0 where
   pub names : number < length files
   pub headers : All (λ other. IfSome other (HasHeader schema)) (take number files)
 
--- a fault that is met at the header of the file of this number
-abbrev pub IsHeaderFault : Declared → Option (List ℕ) → ℕ → FilesFault → Type 0
+-- A fault at the header of the file of this number.
+abbrev pub IsHeaderFault : Declared → KnownBytes → ℕ → FilesFault → Type 0
 IsHeaderFault schema file number (Source f source.BadHeader) = (f ≡ number) × IfSome file (LacksHeader schema)
 IsHeaderFault schema file number (Source f source.Read) = f ≡ number
 IsHeaderFault schema file number (Source f source.NoMemory) = f ≡ number
 IsHeaderFault schema file number fault = ⊥
 
--- a fault that is met at the headers of the files
-abbrev pub IsHeadersFault : Declared → List (Option (List ℕ)) → FilesFault → Type 0
-IsHeadersFault schema files (Source f source.BadHeader) = IsFirstWithout schema files f
-IsHeadersFault schema files (Source f source.Read) = IsBehindHeaders schema files f
-IsHeadersFault schema files (Source f source.NoMemory) = IsBehindHeaders schema files f
+-- A fault that reading the headers may end with. Each earlier file has its header.
+abbrev pub IsHeadersFault : Declared → List KnownBytes → FilesFault → Type 0
+IsHeadersFault schema files (Source f source.BadHeader) = IsFirstWithoutHeader schema files f
+IsHeadersFault schema files (Source f source.Read) = EarlierFilesHaveHeaders schema files f
+IsHeadersFault schema files (Source f source.NoMemory) = EarlierFilesHaveHeaders schema files f
 IsHeadersFault schema files NoMemory = ⊤
 IsHeadersFault schema files fault = ⊥

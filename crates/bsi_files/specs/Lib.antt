@@ -1,8 +1,8 @@
-pub mod Batches
 pub mod Begun
 pub mod Ends
 pub mod Feds
+pub mod Feeding
 pub mod Headers
-pub mod Parts
+pub mod Prefixes
+pub mod Progress
 pub mod RunFaults
-pub mod Takings

@@ -1,17 +1,16 @@
 //! The headers of the row files, which are read before any row is.
 
 ghost use Rattle.std.specs.Prelude.{◌≡◌, ◌≤◌, IfErr, IfOk, length, map, replicate, true};
-ghost use Rattle.bsi_feeding.specs.Feeding.{max_batch_rows};
+ghost use Rattle.bsi_files.specs.Feeding.{max_batch_rows};
 ghost use Rattle.bsi_files.specs.Begun.{Begins};
 ghost use Rattle.std.specs.List.{AllZip};
-ghost use Rattle.bsi_asks.specs.Faults.{is_of_headers};
+ghost use Rattle.bsi_answers.specs.Faults.{raised_at_headers};
 ghost use Rattle.bsi_files.specs.Headers.{IsHeaderFault, IsHeadersFault};
 ghost use Rattle.bsi_rows.specs.Table.{max_feeders};
 
-use crate::{FilesFault, NoMemory};
-use bsi_asks::file_number;
-use bsi_feeding::MAX_BATCH_ROWS;
-use bsi_reading::RowSource;
+use crate::{FilesFault, MAX_BATCH_ROWS, NoMemory};
+use bsi_answers::file_number;
+use bsi_input::RowSource;
 use bsi_table::Schema;
 use std::alloc::Global;
 use std::io::Read;
@@ -23,15 +22,15 @@ pub(crate) fn begin_all<I: Read + Drop>(
     readers: Vec<I>,
 ) -> Result<Vec<RowSource<I>>, FilesFault>
     requires few { length readers.items ≤ max_feeders }
-    ensures first { IfErr result (λ fault. is_of_headers fault ≡ true) }
+    ensures first { IfErr result (λ fault. raised_at_headers fault ≡ true) }
     ensures fault { IfErr result (IsHeadersFault schema.now (map I.remaining readers.items)) }
     ensures begun { IfOk result (λ sources.
         AllZip (Begins I.remaining schema.now) readers.items sources.items) }
 {
     let mut sources = Vec::with_capacity(alloc, readers.len())?;
     'files: for reader in readers {
-        let place = sources.len();
-        let source = begin(alloc, schema, reader, file_number(place))?;
+        let number = sources.len();
+        let source = begin(alloc, schema, reader, file_number(number))?;
         if sources.push(source).is_err() {
             return Err(FilesFault::NoMemory);
         }
@@ -46,7 +45,7 @@ fn begin<I: Read + Drop>(
     reader: I,
     number: u32,
 ) -> Result<RowSource<I>, FilesFault>
-    ensures first { IfErr result (λ fault. is_of_headers fault ≡ true) }
+    ensures first { IfErr result (λ fault. raised_at_headers fault ≡ true) }
     ensures fault { IfErr result (IsHeaderFault schema.now (I.remaining reader) number) }
     ensures begun { IfOk result (Begins I.remaining schema.now reader) }
 {
@@ -56,7 +55,7 @@ fn begin<I: Read + Drop>(
 /// Returns the capacity of each file's ring: as many of its rows may wait for the loader as a batch has.
 pub(crate) fn capacities(alloc: Global, files: usize) -> Result<Vec<u32>, NoMemory>
     ensures many { IfOk result (λ made. length made.items ≡ files) }
-    ensures places { IfOk result (λ made. made.items ≡ replicate files max_batch_rows) }
+    ensures each { IfOk result (λ made. made.items ≡ replicate files max_batch_rows) }
 {
     vec![in alloc; MAX_BATCH_ROWS as u32; files]
 }

@@ -1,51 +1,50 @@
-//! The loader's part of a run: beside the feeders, and for what is left when they have ended.
+//! What the loader does in a run: it loads while feeders run, settles closings, loads the rest, and looks for faults.
 //!
-//! It takes batches of a feeder until these have 256 rows before it goes on to the next one, so that no ring stays full
-//! because another is long. It publishes nothing: nobody asks before all rows are held, and then the loader hands over
-//! its table.
+//! It loads batches of a feeder until these have 256 rows before it goes on to the next one, so that no ring stays
+//! full because another is long. It publishes nothing: nobody asks before all rows are staged, and then the loader
+//! hands over its table.
 
 ghost use Rattle.std.specs.Prelude.{◌≡◌, ◌≢◌, ◌<◌, ◌≤◌, ℕ, [], All, Err, IfErr, IfSome, None, OnErr, OnOk, Ok, Some, false, length, true};
-ghost use Rattle.bsi_system.specs.Running.{taking_at, IsClosingOf};
+ghost use Rattle.bsi_system.specs.Running.{progress_at, IsClosingOf};
 ghost use Rattle.bsi_files.specs.Ends.{AreClosings};
-ghost use Rattle.bsi_files.specs.Takings.{all_closed, AreGoing, AreTold, IsDrained, IsFine, IsFullAt, IsFullBefore, IsFedOf, KeepsOthers, KeepsTold, TakesOnlyOf};
-ghost use Rattle.bsi_asks.specs.Faults.{is_early};
-ghost use Rattle.bsi_files.specs.RunFaults.{IsKeptFault, IsNotClosed, IsSourceFault, IsStopped};
+ghost use Rattle.bsi_files.specs.Progress.{all_closed, AreClosingsSettled, EndedWell, IsDrained, IsFedOf, IsFullAt, IsFullWithRowsLeft, NoneStopped, OthersUnchanged, PopsOnlyOf, SettledUnchanged};
+ghost use Rattle.bsi_answers.specs.Faults.{raised_while_loading};
+ghost use Rattle.bsi_files.specs.RunFaults.{IsEndFault, IsFirstStopFault, IsNotClosed, IsSourceFault};
 ghost use Rattle.bsi_rows.specs.Table.{max_feeders};
 
 use crate::threads::RunFlags;
-use crate::{FeedEnd, FilesFault, Gate, NoMemory};
-use bsi_asks::{Fed, file_number};
-use bsi_feeding::Pause;
-use bsi_reading::SourceFault;
-use bsi_system::{Closing, LoadRefused, Loader, Naming};
+use crate::{FeedEnd, FilesFault, Gate, NoMemory, Pause};
+use bsi_answers::{Fed, file_number};
+use bsi_input::SourceFault;
+use bsi_system::{Closing, LoadRefused, Loader, SystemTag};
 use std::sync::Wait;
 
-/// Once so many rows of one feeder were taken, the next feeder comes.
+/// Once so many rows of one feeder were loaded, the next feeder comes.
 const ROWS_AT_ONCE: usize = 256;
 
 /// How often a loader that sees no row yields before it sleeps.
-const MAX_YIELDS: u32 = 256;
+const MAX_LOADER_YIELDS: u32 = 256;
 
-/// Goes from feeder to feeder, round after round, and takes rows until each feeder has ended. It stops at a row that is
-/// refused, unless the cause is that no row is seen. From then on, feeders whose rings are full stop. A full index is
-/// no fault yet: once the feeders have ended, their closings tell whether they sent more rows than the limit.
-pub(crate) fn load_beside<B: Naming, R: Wait, G: Gate>(
+/// Goes from feeder to feeder, round after round, and loads rows until each feeder has ended. It stops at a row that
+/// is refused, unless the cause is that no row is seen. From then on, feeders whose rings are full stop. A full index
+/// is no fault yet: once the feeders have ended, their closings tell whether they sent more rows than the limit.
+pub(crate) fn load_until_ended<B: SystemTag, R: Wait, G: Gate>(
     rt: &R,
     loader: &mut Loader<B>,
     feeders: u32,
     flags: &RunFlags<'_, G>,
 ) -> Result<(), FilesFault>
     ensures system { loader.new.system ≡ loader.old.system }
-    ensures early { IfErr result (λ fault. is_early fault ≡ true) }
-    ensures room { IfErr result (λ fault. fault ≢ FilesFault.IndexFull) }
+    ensures while_loading { IfErr result (λ fault. raised_while_loading fault ≡ true) }
+    ensures not_full { IfErr result (λ fault. fault ≢ FilesFault.IndexFull) }
 {
-    let mut pause = Pause::new(MAX_YIELDS);
+    let mut pause = Pause::new(MAX_LOADER_YIELDS);
     'rounds: for _ in rt.forever() {
         if flags.ended() >= u64::from(feeders) {
             return Ok(());
         }
         match load_round(loader, feeders) {
-            Ok(true) => pause = Pause::new(MAX_YIELDS),
+            Ok(true) => pause = Pause::new(MAX_LOADER_YIELDS),
             Ok(false) => pause.wait(rt),
             Err(fault) => {
                 flags.refuse();
@@ -59,9 +58,9 @@ pub(crate) fn load_beside<B: Naming, R: Wait, G: Gate>(
 
 /// Returns the fault that a row was refused for, unless the index is full.
 fn unless_full(fault: FilesFault) -> Result<(), FilesFault>
-    requires { is_early fault ≡ true }
-    ensures early { IfErr result (λ fault. is_early fault ≡ true) }
-    ensures room { IfErr result (λ fault. fault ≢ FilesFault.IndexFull) }
+    requires { raised_while_loading fault ≡ true }
+    ensures while_loading { IfErr result (λ fault. raised_while_loading fault ≡ true) }
+    ensures not_full { IfErr result (λ fault. fault ≢ FilesFault.IndexFull) }
 {
     match fault {
         FilesFault::IndexFull => Ok(()),
@@ -69,40 +68,40 @@ fn unless_full(fault: FilesFault) -> Result<(), FilesFault>
     }
 }
 
-/// Takes some rows of each feeder, and returns whether there was one.
-fn load_round<B: Naming>(loader: &mut Loader<B>, feeders: u32) -> Result<bool, FilesFault>
+/// Loads some rows of each feeder, and returns whether there was one.
+fn load_round<B: SystemTag>(loader: &mut Loader<B>, feeders: u32) -> Result<bool, FilesFault>
     ensures system { loader.new.system ≡ loader.old.system }
-    ensures early { IfErr result (λ fault. is_early fault ≡ true) }
+    ensures while_loading { IfErr result (λ fault. raised_while_loading fault ≡ true) }
 {
-    let mut found = false;
+    let mut any = false;
     'feeders: for feeder in 0..feeders {
-        found |= load_some(loader, feeder)?;
+        any |= load_some(loader, feeder)?;
     }
-    Ok(found)
+    Ok(any)
 }
 
-/// Takes some rows of a feeder, and returns whether there was one.
-fn load_some<B: Naming>(loader: &mut Loader<B>, feeder: u32) -> Result<bool, FilesFault>
+/// Loads some rows of a feeder, and returns whether there was one.
+fn load_some<B: SystemTag>(loader: &mut Loader<B>, feeder: u32) -> Result<bool, FilesFault>
     ensures system { loader.new.system ≡ loader.old.system }
-    ensures early { IfErr result (λ fault. is_early fault ≡ true) }
+    ensures while_loading { IfErr result (λ fault. raised_while_loading fault ≡ true) }
 {
-    let mut taken = 0usize;
-    'rows: while taken < ROWS_AT_ONCE {
+    let mut popped = 0usize;
+    'rows: while popped < ROWS_AT_ONCE {
         let rows = load_next(loader, feeder)?;
         if rows == 0 {
             break;
         }
-        taken = taken.saturating_add(rows);
+        popped = popped.saturating_add(rows);
     }
-    Ok(taken > 0)
+    Ok(popped > 0)
 }
 
-/// Takes a batch of a feeder or one row, and returns how many rows there were.
-fn load_next<B: Naming>(loader: &mut Loader<B>, feeder: u32) -> Result<usize, FilesFault>
+/// Loads a batch of a feeder or one row, and returns how many rows there were.
+fn load_next<B: SystemTag>(loader: &mut Loader<B>, feeder: u32) -> Result<usize, FilesFault>
     ensures system { loader.new.system ≡ loader.old.system }
-    ensures takes { TakesOnlyOf feeder loader.old.takings loader.new.takings }
-    ensures drained { result ≡ Ok 0 → IsDrained feeder loader.new.takings }
-    ensures early { IfErr result (λ fault. is_early fault ≡ true) }
+    ensures pops { PopsOnlyOf feeder loader.old.progress loader.new.progress }
+    ensures drained { result ≡ Ok 0 → IsDrained feeder loader.new.progress }
+    ensures while_loading { IfErr result (λ fault. raised_while_loading fault ≡ true) }
     ensures full { result ≡ Err FilesFault.IndexFull → IsFullAt feeder loader.new }
 {
     match loader.load_batch(feeder) {
@@ -114,7 +113,7 @@ fn load_next<B: Naming>(loader: &mut Loader<B>, feeder: u32) -> Result<usize, Fi
 }
 
 /// Tells the loader of each closing, in the order of the feeders.
-pub(crate) fn settle_all<B: Naming>(
+pub(crate) fn settle_all<B: SystemTag>(
     loader: &mut Loader<B>,
     ends: Vec<FeedEnd>,
     fed: &mut Vec<Fed>,
@@ -122,7 +121,7 @@ pub(crate) fn settle_all<B: Naming>(
     requires closings { AreClosings loader.old.system 0 ends.items }
     requires none { fed.old.items ≡ [] }
     ensures system { loader.new.system ≡ loader.old.system }
-    ensures told { OnOk result (AreTold loader.new.takings 0 ends.items fed.new.items) }
+    ensures settled { OnOk result (AreClosingsSettled loader.new.progress 0 ends.items fed.new.items) }
 {
     'ends: for end in ends {
         let left = settle_end(loader, end);
@@ -132,15 +131,15 @@ pub(crate) fn settle_all<B: Naming>(
 }
 
 /// Tells the loader of the closing that a feeder left, and returns what else it left.
-fn settle_end<B: Naming>(loader: &mut Loader<B>, end: FeedEnd) -> Fed
+fn settle_end<B: SystemTag>(loader: &mut Loader<B>, end: FeedEnd) -> Fed
     requires { IfSome end.closing (λ closing. IsClosingOf closing loader.old.system) }
     ensures system { loader.new.system ≡ loader.old.system }
-    ensures kept { IsFedOf end result }
-    ensures told { IfSome end.closing
-        (λ closing. (taking_at loader.new.takings closing.number).carried ≡ Some closing.rows) }
+    ensures fed { IsFedOf end result }
+    ensures settled { IfSome end.closing
+        (λ closing. (progress_at loader.new.progress closing.number).carried ≡ Some closing.rows) }
     ensures others { IfSome end.closing
-        (λ closing. KeepsOthers closing.number loader.old.takings loader.new.takings) }
-    ensures same { end.closing ≡ None → loader.new.takings ≡ loader.old.takings }
+        (λ closing. OthersUnchanged closing.number loader.old.progress loader.new.progress) }
+    ensures same { end.closing ≡ None → loader.new.progress ≡ loader.old.progress }
 {
     let FeedEnd {
         accepted,
@@ -163,11 +162,11 @@ fn settle_end<B: Naming>(loader: &mut Loader<B>, end: FeedEnd) -> Fed
 }
 
 /// Tells the loader of a closing.
-fn settle<B: Naming>(loader: &mut Loader<B>, closing: Closing)
+fn settle<B: SystemTag>(loader: &mut Loader<B>, closing: Closing)
     requires { IsClosingOf closing loader.old.system }
     ensures system { loader.new.system ≡ loader.old.system }
-    ensures told { (taking_at loader.new.takings closing.number).carried ≡ Some closing.rows }
-    ensures others { KeepsOthers closing.number loader.old.takings loader.new.takings }
+    ensures settled { (progress_at loader.new.progress closing.number).carried ≡ Some closing.rows }
+    ensures others { OthersUnchanged closing.number loader.old.progress loader.new.progress }
 {
     let feeder = closing.feeder();
     // A closing is refused only for another feeder's number, and this number is its own.
@@ -181,20 +180,20 @@ fn are_closed(fed: &[Fed]) -> bool
     fed.iter().all(|end| end.closed)
 }
 
-/// Takes all rows that are left, feeder after feeder, if each of them left a closing.
-pub(crate) fn load_rest<B: Naming, R: Wait>(
+/// Loads all rows that are left, feeder after feeder, if each of them left a closing.
+pub(crate) fn load_rest<B: SystemTag, R: Wait>(
     rt: &R,
     loader: &mut Loader<B>,
     fed: &[Fed],
 ) -> Result<(), FilesFault>
     requires { length fed.now ≤ max_feeders }
     ensures system { loader.new.system ≡ loader.old.system }
-    ensures told { KeepsTold loader.old.takings loader.new.takings }
-    ensures early { IfErr result (λ fault. is_early fault ≡ true) }
+    ensures settled_unchanged { SettledUnchanged loader.old.progress loader.new.progress }
+    ensures while_loading { IfErr result (λ fault. raised_while_loading fault ≡ true) }
     ensures drained { OnOk result (all_closed fed.now ≡ true →
-        (f : ℕ) → f < length fed.now → IsDrained f loader.new.takings) }
+        (f : ℕ) → f < length fed.now → IsDrained f loader.new.progress) }
     ensures full { IfErr result (λ fault. fault ≡ FilesFault.IndexFull →
-        (all_closed fed.now ≡ true) × IsFullBefore (length fed.now) loader.new) }
+        (all_closed fed.now ≡ true) × IsFullWithRowsLeft (length fed.now) loader.new) }
 {
     if !are_closed(fed) {
         return Ok(());
@@ -202,17 +201,17 @@ pub(crate) fn load_rest<B: Naming, R: Wait>(
     drain_all(rt, loader, fed.len() as u32)
 }
 
-/// Takes the rows that are left of the first feeders, whose closings were told.
-fn drain_all<B: Naming, R: Wait>(
+/// Loads the rows that are left of the first feeders, whose closings were settled.
+fn drain_all<B: SystemTag, R: Wait>(
     rt: &R,
     loader: &mut Loader<B>,
     feeders: u32,
 ) -> Result<(), FilesFault>
     ensures system { loader.new.system ≡ loader.old.system }
-    ensures told { KeepsTold loader.old.takings loader.new.takings }
-    ensures early { IfErr result (λ fault. is_early fault ≡ true) }
-    ensures drained { OnOk result ((f : ℕ) → f < feeders → IsDrained f loader.new.takings) }
-    ensures full { result ≡ Err FilesFault.IndexFull → IsFullBefore feeders loader.new }
+    ensures settled_unchanged { SettledUnchanged loader.old.progress loader.new.progress }
+    ensures while_loading { IfErr result (λ fault. raised_while_loading fault ≡ true) }
+    ensures drained { OnOk result ((f : ℕ) → f < feeders → IsDrained f loader.new.progress) }
+    ensures full { result ≡ Err FilesFault.IndexFull → IsFullWithRowsLeft feeders loader.new }
 {
     'feeders: for feeder in 0..feeders {
         drain(rt, loader, feeder)?;
@@ -220,12 +219,16 @@ fn drain_all<B: Naming, R: Wait>(
     Ok(())
 }
 
-/// Takes the rows that are left of a feeder whose closing was told.
-fn drain<B: Naming, R: Wait>(rt: &R, loader: &mut Loader<B>, feeder: u32) -> Result<(), FilesFault>
+/// Loads the rows that are left of a feeder whose closing was settled.
+fn drain<B: SystemTag, R: Wait>(
+    rt: &R,
+    loader: &mut Loader<B>,
+    feeder: u32,
+) -> Result<(), FilesFault>
     ensures system { loader.new.system ≡ loader.old.system }
-    ensures early { IfErr result (λ fault. is_early fault ≡ true) }
-    ensures takes { TakesOnlyOf feeder loader.old.takings loader.new.takings }
-    ensures drained { OnOk result (IsDrained feeder loader.new.takings) }
+    ensures while_loading { IfErr result (λ fault. raised_while_loading fault ≡ true) }
+    ensures pops { PopsOnlyOf feeder loader.old.progress loader.new.progress }
+    ensures drained { OnOk result (IsDrained feeder loader.new.progress) }
     ensures full { result ≡ Err FilesFault.IndexFull → IsFullAt feeder loader.new }
 {
     'rows: for _ in rt.forever() {
@@ -241,26 +244,26 @@ fn drain<B: Naming, R: Wait>(rt: &R, loader: &mut Loader<B>, feeder: u32) -> Res
 /// that left no closing.
 pub(crate) fn check_all(fed: &[Fed], stops: bool) -> Result<(), FilesFault>
     requires { length fed.now ≤ max_feeders }
-    ensures fault { IfErr result (IsKeptFault stops fed.now) }
-    ensures fine { OnOk result (All (IsFine stops) fed.now) }
+    ensures fault { IfErr result (IsEndFault stops fed.now) }
+    ensures fine { OnOk result (All (EndedWell stops) fed.now) }
 
     // A fault of a source comes before a feeder that was not closed, unless one was stopped though no gate stops any.
     ensures order { (file : ℕ) → result ≡ Err (FilesFault.NotClosed file) →
-        (stops ≡ false → AreGoing fed.now) → All (λ end. end.fault ≡ None) fed.now }
+        (stops ≡ false → NoneStopped fed.now) → All (λ end. end.fault ≡ None) fed.now }
 {
-    check_going(fed, stops)?;
+    check_stopped(fed, stops)?;
     check_sources(fed)?;
     check_closed(fed)
 }
 
-/// Looks for a feeder that was stopped though no gate stops one, and answers the fault of the first feeder that left no
-/// closing. Where each left one, the full index that stops a feeder was told before.
-fn check_going(fed: &[Fed], stops: bool) -> Result<(), FilesFault>
+/// Looks for a feeder that was stopped though no gate stops one, and answers the fault of the first feeder that left
+/// no closing. Where each left one, the full index that stops a feeder was reported before.
+fn check_stopped(fed: &[Fed], stops: bool) -> Result<(), FilesFault>
     requires { length fed.now ≤ max_feeders }
-    ensures fault { IfErr result (IsStopped fed.now) }
+    ensures fault { IfErr result (IsFirstStopFault fed.now) }
     ensures gate { OnErr result (stops ≡ false) }
-    ensures going { OnOk result (stops ≡ false → AreGoing fed.now) }
-    ensures stopped { OnErr result (¬ (stops ≡ false → AreGoing fed.now)) }
+    ensures none_stopped { OnOk result (stops ≡ false → NoneStopped fed.now) }
+    ensures stopped { OnErr result (¬ (stops ≡ false → NoneStopped fed.now)) }
 {
     if stops {
         return Ok(());

@@ -1,32 +1,32 @@
 //! A run over row files, from their headers to the answers.
 //!
-//! Its lines are stated over the rows of the files, one file after the other. The loader mixes them as the threads run;
-//! by `laws::any_mix` a line is the same for each mix. Only closings tie rows to files, so a full index is told once
-//! they are settled. Where a ring gave no closing, `NotClosed` or a source's fault is told in its place. Nobody asks
-//! while the threads run, so nothing is published: the loader hands over its table, and the questions are put to it.
+//! Its lines are stated over the rows of the files, one file after the other. The loader mixes them as the threads
+//! run; by `laws::any_mix` a line is the same for each mix. Only closings tie rows to files, so a full index is
+//! reported once they are settled. Where a ring gave no closing, `NotClosed` or a source's fault is reported in its
+//! place. Nobody asks while the threads run, so nothing is published: the loader hands over its table, and the
+//! questions are put to it.
 
 ghost use Rattle.std.specs.Prelude.{◌≡◌, ◌≢◌, ◌<◌, ◌≤◌, ◌↔◌, ◌++◌, ℕ, [], All, Err, IfErr, IfOk, List, OnOk, Some, false, length, map, true};
 ghost use Rattle.bsi_rows.specs.Table.{no_rows, max_feeders};
 ghost use Rattle.bsi_files.specs.Ends.{AreReady};
-ghost use Rattle.bsi_asks.specs.RowFiles.{fed_counts};
+ghost use Rattle.bsi_answers.specs.RowFiles.{fed_counts};
 ghost use Rattle.bsi_files.specs.Feds.{IsAllFed};
-ghost use Rattle.bsi_asks.specs.Faults.{is_early, is_late};
+ghost use Rattle.bsi_answers.specs.Faults.{may_follow_output, raised_while_loading};
 ghost use Rattle.bsi_files.specs.Headers.{HasHeader};
-ghost use Rattle.bsi_files.specs.Parts.{HasLoadedParts, IsPartRun};
+ghost use Rattle.bsi_files.specs.Prefixes.{HasLoadedPrefixes, IsPrefixRun};
 ghost use Rattle.bsi_files.specs.RunFaults.{is_of_loading, IsFaultOf, IsFaultOver, IsLoadFault};
-ghost use Rattle.bsi_asks.specs.Runs.{HasLoaded, IsRun};
-ghost use Rattle.bsi_asks.specs.Writing.{Leaves, WhereFilesKnown, WhereKnown, WritesAll};
+ghost use Rattle.bsi_answers.specs.Runs.{HasLoaded, IsRun};
+ghost use Rattle.bsi_answers.specs.Writing.{Leaves, WhereFilesKnown, WhereKnown, WritesAll};
 ghost use Rattle.bsi_system.specs.Running.{AlwaysHolds};
 
-use crate::answering::answer_all;
 use crate::headers::{begin_all, capacities};
-use crate::loading::{check_all, load_beside, load_rest, settle_all};
+use crate::loading::{check_all, load_rest, load_until_ended, settle_all};
 use crate::threads::{RunFlags, join_all, start_all};
 use crate::{FilesFault, Gate, NoMemory, Stopping};
-use bsi_asks::{Fed, file_number};
-use bsi_reading::{RowSource, read_schema};
-use bsi_records::DeclaredTable;
-use bsi_system::{Feeder, History, Loader, Naming, OpenRefused, System, open};
+use bsi_answers::{Fed, answer_all, file_number};
+use bsi_input::{RowSource, read_schema};
+use bsi_syntax::DeclaredTable;
+use bsi_system::{Feeder, History, Loader, OpenRefused, System, SystemTag, open};
 use bsi_table::{Index, MAX_FEEDERS, Schema};
 use std::alloc::Global;
 use std::io::{Read, Write};
@@ -51,8 +51,7 @@ pub struct Loaded {
 /// threads ran. A feeder that the gate stops is no fault, and the rows that it sent count.
 ///
 /// It looks for faults in this order: the number of files; the schema file; those of `load_files`; the questions and
-/// the writer. Refused memory is answered where it is met. Lines that stand before a fault are whole, unless the writer
-/// fails.
+/// the writer. Refused memory is answered where it is met. Lines before a fault are whole, unless the writer fails.
 pub fn run_files<
     R: Threads + Wait + AllocGlobal + Sync,
     S: Read + Drop,
@@ -63,10 +62,10 @@ pub fn run_files<
 >(rt: &R, schema: S, asks: A, sources: Vec<I>, writer: &mut W, gate: &G) -> Result<(), FilesFault>
     requires { 0 < length sources.items }
     ensures files { (result ≡ Err FilesFault.TooManyFiles) ↔ (max_feeders < length sources.items) }
-    ensures quiet { IfErr result (λ fault. is_late fault ≡ false →
+    ensures output_unchanged { IfErr result (λ fault. may_follow_output fault ≡ false →
         W.contents writer.new ≡ W.contents writer.old) }
 
-    // What a fault tells of the bytes of the schema file and of the row files.
+    // What a fault says about the bytes of the schema file and of the row files.
     ensures fault { IfErr result (λ fault.
         WhereFilesKnown (S.remaining schema) (map I.remaining sources.items)
         (λ declared texts. IsFaultOf G.STOPS declared texts fault)) }
@@ -76,15 +75,15 @@ pub fn run_files<
         WhereKnown (S.remaining schema) (map I.remaining sources.items) (A.remaining asks)
         (λ declared texts asked. WritesAll (IsRun declared texts) asked
         (W.contents writer.old) (W.contents writer.new))) }
-    ensures part { IfErr result (λ fault. G.STOPS ≡ false →
+    ensures prefix { IfErr result (λ fault. G.STOPS ≡ false →
         WhereKnown (S.remaining schema) (map I.remaining sources.items) (A.remaining asks)
         (λ declared texts asked. Leaves (IsRun declared texts) asked fault
         (W.contents writer.old) (W.contents writer.new))) }
 
     // And whatever a gate stops.
-    ensures parts { OnOk result
+    ensures prefixes { OnOk result
         (WhereKnown (S.remaining schema) (map I.remaining sources.items) (A.remaining asks)
-        (λ declared texts asked. WritesAll (IsPartRun declared texts) asked
+        (λ declared texts asked. WritesAll (IsPrefixRun declared texts) asked
         (W.contents writer.old) (W.contents writer.new))) }
 {
     if sources.len() > MAX_FEEDERS as usize {
@@ -97,13 +96,13 @@ pub fn run_files<
 
 /// Loads the good rows of 1 to 64 files into one index of this schema and limit.
 ///
-/// A feeder on a thread of its own reads each file, and sends its rows through a ring of 1,024 rows; the calling thread
-/// takes the rows out. How the rows of several files mix depends on how the threads ran.
+/// A feeder on a thread of its own reads each file, and sends its rows through a ring of 1,024 rows; the calling
+/// thread pops the rows. How the rows of several files mix depends on how the threads ran.
 ///
-/// It looks for faults in this order: the header of each row file; a thread for each feeder; the limit; a row file that
-/// gives no more rows; a feeder without a closing. Where a feeder was stopped though its gate stops none, it looks for a
-/// feeder without a closing before it looks at the row files. Of several row files or feeders it tells the first.
-/// Refused memory is answered where it is met. It keeps each row once, in the index.
+/// It looks for faults in this order: the header of each row file; a thread for each feeder; the limit; a row file
+/// that gives no more rows; a feeder without a closing. Where a feeder was stopped though its gate stops none, it
+/// looks for a feeder without a closing before it looks at the row files. Of several row files or feeders it reports
+/// the first. Refused memory is answered where it is met. It keeps each row once, in the index.
 pub fn load_files<
     R: Threads + Wait + AllocGlobal + Sync,
     I: Read + Drop + Send,
@@ -120,7 +119,7 @@ pub fn load_files<
     ensures counted { IfErr result (λ fault. fault ≢ FilesFault.TooManyFiles) }
     ensures loading { IfErr result (λ fault. is_of_loading fault ≡ true) }
     ensures fault { IfErr result (IsFaultOver G.STOPS schema limit (map I.remaining sources.items)) }
-    ensures late { IfErr result (λ fault. is_late fault ≡ true → fault ≡ FilesFault.NoMemory) }
+    ensures follows_output { IfErr result (λ fault. may_follow_output fault ≡ true → fault ≡ FilesFault.NoMemory) }
 
     // By the bytes of the files, where no gate stops a feeder.
     ensures rows { IfOk result (λ loaded. G.STOPS ≡ false → (texts : List (List ℕ)) →
@@ -128,22 +127,24 @@ pub fn load_files<
         HasLoaded schema limit texts loaded.table.rows (map fed_counts loaded.fed.items)) }
 
     // Whatever a gate stops.
-    ensures parts { IfOk result (λ loaded. (texts : List (List ℕ)) →
+    ensures prefixes { IfOk result (λ loaded. (texts : List (List ℕ)) →
         map I.remaining sources.items ≡ map Some texts →
-        HasLoadedParts schema limit texts loaded.table.rows (map fed_counts loaded.fed.items)) }
+        HasLoadedPrefixes schema limit texts loaded.table.rows (map fed_counts loaded.fed.items)) }
 {
     let alloc = rt.alloc();
     let sources = begin_all(alloc, &schema, sources)?;
     let capacities = capacities(alloc, sources.len())?;
     let history = History::new();
-    let loaded = load_in::<Brand, R, I, G>(rt, history, schema, capacities, limit, sources, gate);
+    let loaded = load_with_system::<Brand, R, I, G>(
+        rt, history, schema, capacities, limit, sources, gate,
+    );
     gate.done();
     loaded
 }
 
 /// Opens a system, and loads the files by it.
-fn load_in<
-    B: Naming,
+fn load_with_system<
+    B: SystemTag,
     R: Threads + Wait + AllocGlobal + Sync,
     I: Read + Drop + Send,
     G: Gate + Stopping + Sync,
@@ -185,22 +186,22 @@ fn load_in<
 }
 
 /// A loader that ends where it is dropped, so that the closure of a scope may own it.
-struct OwnedLoader<'r, B: Naming, R: Wait> {
+struct OwnedLoader<'r, B: SystemTag, R: Wait> {
     loader: Loader<B>,
     rt: &'r R,
 }
 
-impl<B: Naming, R: Wait> Drop for OwnedLoader<'_, B, R> {
+impl<B: SystemTag, R: Wait> Drop for OwnedLoader<'_, B, R> {
     fn drop(self) {
         let OwnedLoader { loader, rt } = self;
         loader.end(rt);
     }
 }
 
-impl<B: Naming, R: Wait> OwnedLoader<'_, B, R> {
-    /// Hands over the table of all rows that were taken.
+impl<B: SystemTag, R: Wait> OwnedLoader<'_, B, R> {
+    /// Hands over the table of all rows that were popped.
     fn into_table(self) -> Result<Index, NoMemory>
-        ensures rows { IfOk result (λ table. table.rows ≡ self.entry.loader.published ++ self.entry.loader.held) }
+        ensures rows { IfOk result (λ table. table.rows ≡ self.entry.loader.published ++ self.entry.loader.staged) }
         ensures schema { IfOk result (λ table. table.schema ≡ self.entry.loader.system.schema) }
         ensures limit { IfOk result (λ table. table.limit ≡ self.entry.loader.system.limit) }
         ensures feeders { IfOk result (λ table. table.feeders ≡ length self.entry.loader.system.channels) }
@@ -220,7 +221,7 @@ impl<B: Naming, R: Wait> OwnedLoader<'_, B, R> {
 
 /// Feeds the files, and loads their rows. When it returns, all threads have ended.
 fn feed_files<
-    B: Naming,
+    B: SystemTag,
     R: Threads + Wait + AllocGlobal + Sync,
     I: Read + Drop + Send,
     G: Gate + Stopping + Sync,
@@ -258,15 +259,15 @@ fn feed_files<
                 loaded.table.limit ≡ owned.entry.loader.system.limit) }
             ensures feeders { IfOk result (λ loaded.
                 loaded.table.feeders ≡ length owned.entry.loader.system.channels) }
-        { feed_in(scope, rt, shared, owned, feeders, sources) },
+        { load_with_threads(scope, rt, shared, owned, feeders, sources) },
     )
 }
 
 /// Feeds the files by threads of a scope, and loads their rows.
-fn feed_in<
+fn load_with_threads<
     's,
     E,
-    B: Naming,
+    B: SystemTag,
     R: Threads + Wait + AllocGlobal + Sync + 's,
     I: Read + Drop + Send + 's,
     G: Gate + Stopping + Sync + 's,
@@ -298,7 +299,7 @@ fn feed_in<
 fn load_all<
     's,
     E,
-    B: Naming,
+    B: SystemTag,
     R: Threads + Wait + AllocGlobal + Sync + 's,
     I: Read + Drop + Send + 's,
     G: Gate + Stopping + Sync + 's,
@@ -313,8 +314,8 @@ fn load_all<
     requires { AreReady loader.old.system B.about.limit feeders.items sources.items }
     ensures fault { IfErr result (IsLoadFault I.remaining G.STOPS B.about.limit sources.items) }
     ensures fed { IfOk result (λ fed. AlwaysHolds loader.new →
-        length (loader.new.published ++ loader.new.held) ≤ loader.new.system.limit →
-        IsAllFed I.remaining G.STOPS B.about.limit (loader.new.published ++ loader.new.held)
+        length (loader.new.published ++ loader.new.staged) ≤ loader.new.system.limit →
+        IsAllFed I.remaining G.STOPS B.about.limit (loader.new.published ++ loader.new.staged)
         sources.items fed.items) }
     ensures system { loader.new.system ≡ loader.old.system }
 {
@@ -323,9 +324,9 @@ fn load_all<
     let mut ends = Vec::with_capacity(rt.alloc(), files)?;
     let mut fed = Vec::with_capacity(rt.alloc(), files)?;
     let started = start_all(scope, rt, flags, feeders, sources, &mut threads);
-    let beside = load_where(rt, loader, file_number(files), flags, started);
+    let loaded = load_if_started(rt, loader, file_number(files), flags, started);
     let joined = join_all(rt, threads, &mut ends);
-    beside?;
+    loaded?;
     joined?;
     settle_all(loader, ends, &mut fed)?;
     load_rest(rt, loader, &fed)?;
@@ -334,7 +335,7 @@ fn load_all<
 }
 
 /// Loads beside the feeders if all of them were started. Otherwise it tells those whose rings are full to stop.
-fn load_where<B: Naming, R: Wait, G: Gate>(
+fn load_if_started<B: SystemTag, R: Wait, G: Gate>(
     rt: &R,
     loader: &mut Loader<B>,
     feeders: u32,
@@ -342,13 +343,13 @@ fn load_where<B: Naming, R: Wait, G: Gate>(
     started: bool,
 ) -> Result<(), FilesFault>
     ensures system { loader.new.system ≡ loader.old.system }
-    ensures early { IfErr result (λ fault. is_early fault ≡ true) }
-    ensures room { IfErr result (λ fault. fault ≢ FilesFault.IndexFull) }
+    ensures while_loading { IfErr result (λ fault. raised_while_loading fault ≡ true) }
+    ensures not_full { IfErr result (λ fault. fault ≢ FilesFault.IndexFull) }
     ensures started { OnOk result (started ≡ true) }
 {
     if !started {
         flags.refuse();
         return Err(FilesFault::NoMemory);
     }
-    load_beside(rt, loader, feeders, flags)
+    load_until_ended(rt, loader, feeders, flags)
 }

@@ -1,25 +1,25 @@
 //! Blocks that tests fill column by column, and rows of blocks that they test against another schema.
 
 ghost use Rattle.std.specs.Prelude.{◌≡◌, ◌<◌, Some, length, slice_get, true, false, IfOk};
-ghost use Rattle.bsi_orders.specs.Blocks.{value_entries};
+ghost use Rattle.bsi_digits.specs.Blocks.{value_entries};
 ghost use Rattle.bsi_rows.specs.RowBlocks.{entries_of, HasColumn};
 ghost use Rattle.bsi_rows.specs.Table.{AreFitting};
 
 use crate::NoMemory;
 use bsi_table::{Block, Row, Schema};
 
-/// Writes the values of column `c` in all rows of a block, if it has the column and that takes each. Returns whether it
-/// does.
+/// Writes the values of column `c` in all rows of a block, if it has the column and that accepts each. Returns whether
+/// it does.
 pub fn write_values(block: &mut Block, c: usize, values: &[i64], not_null: u64) -> bool
     ensures schema { block.new.schema ≡ block.old.schema }
     ensures written { result ≡ true →
         HasColumn block.old block.new c (value_entries values.now not_null) }
-    ensures kept { result ≡ false → block.new ≡ block.old }
+    ensures unchanged { result ≡ false → block.new ≡ block.old }
 {
     if c >= block.columns() || values.len() != block.len() {
         return false;
     }
-    if !block.takes_column(c, values, not_null) {
+    if !block.accepts_column(c, values, not_null) {
         return false;
     }
     block.write_column(c, values, not_null);

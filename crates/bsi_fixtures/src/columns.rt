@@ -2,8 +2,8 @@
 
 ghost use Rattle.std.specs.Prelude.{◌≡◌, ◌↔◌, ◌<◌, ◌++◌, ◌∷◌, [], reverse, length, map, IsTrue, All, IfOk, OnOk, OnErr, IsOkUnless, ◌+◌, ◌≤◌};
 ghost use Rattle.bsi_bits.specs.BitList.{max_len};
-ghost use Rattle.bsi_columns.specs.AnyRows.{any_entries, any_form};
-ghost use Rattle.bsi_orders.specs.Rows.{number_or_zero, selects};
+ghost use Rattle.bsi_columns.specs.AnyColumns.{any_entries, any_form};
+ghost use Rattle.bsi_digits.specs.Comparisons.{number_or_zero, selects};
 ghost use Rattle.bsi_fixtures.specs.Columns.{column_form, AreBases, IsWidth, IsWide};
 
 use crate::NoMemory;
@@ -36,13 +36,13 @@ pub struct Wide<'a> {
     pub bases: &'a [u32],
 }
 
-/// Why a column was not made, or did not take an entry.
+/// Why a column was not made, or did not accept an entry.
 #[derive(Clone, Copy, Debug, PartialEq, Eq)]
 pub enum MakingError {
     /// There is no such column: it has no slice or more than 63, or its bases are refused.
     BadWidth,
     /// The entry of this row is not below the size, or there are 2^32 rows already.
-    NotTaken(u64),
+    NotAccepted(u64),
     /// Memory was refused.
     NoMemory,
 }
@@ -124,14 +124,14 @@ pub fn empty_column(alloc: Global, form: TestForm, wide: Wide) -> Result<AnyColu
 fn push<C: Column>(column: &mut C, entry: Option<u64>) -> Result<(), MakingError>
     ensures pushed { OnOk result (C.entries column.new ≡ C.entries column.old ++ entry ∷ []) }
     ensures form { C.form_of column.new ≡ C.form_of column.old }
-    ensures kept { OnErr result (C.entries column.new ≡ C.entries column.old) }
+    ensures unchanged { OnErr result (C.entries column.new ≡ C.entries column.old) }
     ensures err { length (C.entries column.old) < max_len
         → number_or_zero entry < C.size_of (C.form_of column.old)
         → IsOkUnless result MakingError.NoMemory }
 {
     let row = column.len();
     if row == MAX_ROWS || entry.unwrap_or(0) >= column.size() {
-        return Err(MakingError::NotTaken(row));
+        return Err(MakingError::NotAccepted(row));
     }
     if column.reserve_one().is_err() {
         column.reserve_one()?;
@@ -156,23 +156,23 @@ pub fn append<C: Column>(column: &mut C, entries: &[Option<u64>]) -> Result<(), 
 
 /// Returns for each row whether it is a number that satisfies the comparison `op` with `constant`.
 pub fn compared<C: Column>(column: &C, op: Op, constant: u64) -> Result<Bits, NoMemory>
-    ensures { IfOk result (λ found. found.bits
+    ensures { IfOk result (λ selection. selection.bits
         ≡ map (selects op constant) (C.entries column.now)) }
 {
     match column.compare(op, constant) {
         Err(_) => column.compare(op, constant),
-        found => found,
+        selection => selection,
     }
 }
 
 /// Returns whether a vector has these bits and no others.
-pub fn has_bits(bits: &Bits, wanted: &[bool]) -> bool
-    ensures { IsTrue result ↔ (bits.now.bits ≡ wanted.now) }
+pub fn has_bits(bits: &Bits, expected: &[bool]) -> bool
+    ensures { IsTrue result ↔ (bits.now.bits ≡ expected.now) }
 {
-    if bits.len() != wanted.len() as u64 {
+    if bits.len() != expected.len() as u64 {
         return false;
     }
-    for (place, bit) in wanted.iter().enumerate() {
+    for (place, bit) in expected.iter().enumerate() {
         if bits.get(place as u64) != *bit {
             return false;
         }

@@ -15,5 +15,5 @@ pub use columns::{
 };
 pub use std::alloc::AllocError as NoMemory;
 pub use streams::{EMPTY, NarrowWriter, TextReader};
-pub use tables::{DeclaredColumn, QTY, add, both, not, row_of, schema_of};
+pub use tables::{DeclaredColumn, QTY, add, both, either, not, row_of, schema_of};
 pub use whole::WholeVectors;

@@ -42,12 +42,12 @@ impl<'a> Read for TextReader<'a> {
     }
 }
 
-/// A writer that takes a byte a call until it has `room` of them. Then it fails once, or takes nothing once.
+/// A writer that accepts a byte a call until it has `room` of them. After them it fails once, or accepts nothing once.
 #[derive(Drop)]
 pub struct NarrowWriter {
-    /// The bytes that were taken.
-    pub taken: Vec<u8>,
-    /// How many bytes it takes before it refuses one.
+    /// The bytes that were accepted.
+    pub accepted: Vec<u8>,
+    /// How many bytes it accepts before it refuses one.
     pub room: usize,
     /// Whether it fails where it refuses a byte, and at each flush.
     pub fails: bool,
@@ -58,8 +58,8 @@ pub struct NarrowWriter {
 impl Write for NarrowWriter {
     fn write(&mut self, buf: &[u8]) -> io::Result<usize> {
         match buf.first() {
-            Some(byte) if self.taken.len() < self.room => {
-                self.taken.push(*byte)?;
+            Some(byte) if self.accepted.len() < self.room => {
+                self.accepted.push(*byte)?;
                 Ok(1)
             }
             _ => {

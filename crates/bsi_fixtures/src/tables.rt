@@ -3,14 +3,14 @@
 ghost use Rattle.std.specs.Prelude.{◌≡◌, map, IfOk, OnOk, OnErr};
 ghost use Rattle.std.specs.List.{list_any};
 ghost use Rattle.bsi_schema.specs.Columns.{form_of, with_column};
-ghost use Rattle.bsi_fixtures.specs.Tables.{as_column, has_offset, stored_form, IsBoth, IsNegation};
+ghost use Rattle.bsi_fixtures.specs.Tables.{as_column, has_offset, stored_form, IsBoth, IsEither, IsNegation};
 
 use crate::NoMemory;
 use crate::columns::{TestForm, Wide};
 use bsi_table::{ColumnSpec, Pred, Row, Schema, SchemaError};
 use std::alloc::Global;
 
-/// A column that is declared: its name, its form, and the least number that it takes.
+/// A column that is declared: its name, its form, and the least number that it accepts.
 #[derive(Clone, Copy)]
 pub struct DeclaredColumn<'a> {
     /// The name.
@@ -49,7 +49,7 @@ fn spec(alloc: Global, form: TestForm, wide: Wide) -> Result<ColumnSpec, NoMemor
 fn add_once(alloc: Global, schema: &mut Schema, column: DeclaredColumn) -> Result<(), SchemaError>
     ensures added { OnOk result (schema.new
         ≡ with_column schema.old (as_column column.entry) (has_offset column.entry)) }
-    ensures kept { OnErr result (schema.new ≡ schema.old) }
+    ensures unchanged { OnErr result (schema.new ≡ schema.old) }
 {
     let spec = spec(alloc, column.form, column.wide)?;
     if column.offset == 0 {
@@ -64,7 +64,7 @@ fn add_once(alloc: Global, schema: &mut Schema, column: DeclaredColumn) -> Resul
 pub fn add(alloc: Global, schema: &mut Schema, column: DeclaredColumn) -> Result<(), SchemaError>
     ensures added { OnOk result (schema.new
         ≡ with_column schema.old (as_column column.entry) (has_offset column.entry)) }
-    ensures kept { OnErr result (schema.new ≡ schema.old) }
+    ensures unchanged { OnErr result (schema.new ≡ schema.old) }
 {
     match add_once(alloc, schema, column) {
         Err(SchemaError::NoMemory) => add_once(alloc, schema, column),
@@ -116,4 +116,11 @@ pub fn both(alloc: Global, first: Pred, second: Pred) -> Result<Pred, NoMemory>
     ensures { IfOk result (IsBoth first second) }
 {
     Ok(Pred::Both(boxed(alloc, first)?, boxed(alloc, second)?))
+}
+
+/// Returns the disjunction of two predicates.
+pub fn either(alloc: Global, first: Pred, second: Pred) -> Result<Pred, NoMemory>
+    ensures { IfOk result (IsEither first second) }
+{
+    Ok(Pred::Either(boxed(alloc, first)?, boxed(alloc, second)?))
 }

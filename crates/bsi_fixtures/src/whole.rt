@@ -98,9 +98,9 @@ impl<E: Encoding> Encoding for WholeVectors<E> {
 
     fn le_span(&self, _d: u32, _at: usize, _span: &mut [u64]) {}
 
-    fn digit_sum(&self, found: &Bits) -> u128 {
+    fn digit_sum(&self, selection: &Bits) -> u128 {
         self.sums.set(self.sums.get().saturating_add(1));
-        self.inner.digit_sum(found)
+        self.inner.digit_sum(selection)
     }
 
     fn copy(&self) -> Result<Self, NoMemory> {

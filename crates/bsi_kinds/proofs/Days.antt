@@ -13,8 +13,8 @@ use Rattle.jiff_core.specs.Calendar.{days_from_civil, days_in_month, is_leap_yea
 use Rattle.jiff_core.specs.Date.{epoch_day, IsYmd}
 use Rattle.jiff_core.specs.declared.civil.date.Date.{Date}
 use Rattle.bsi_kinds.specs.Dates.{date_number, date_text, day_number, is_day, ordered, ymd_of, Ymd}
-use Rattle.bsi_kinds.specs.Decimals.{fraction, most_scanned, part_of, whole_part}
-use Rattle.bsi_kinds.specs.Texts.{last_digits}
+use Rattle.bsi_kinds.specs.Decimals.{fraction, integer_digits, most_scanned, short_number}
+use Rattle.bsi_kinds.specs.DecimalTexts.{last_digits}
 use Rattle.bsi_kinds.specs.declared.date.DateForm.{DateForm}
 use Rattle.bsi_kinds.specs.declared.date.DateOrder.{DateOrder}
 use Rattle.bsi_kinds.specs.declared.date.DateOrder.TheVariants.{YearFirst}
@@ -45,7 +45,7 @@ module _ (least most number : ℕ) (text : List ℕ) (long : least ≤ length te
   pub number_fits : number < 2 ^ 16
   number_fits = omega (arith, number_small, small_power)
 
-  pub part_is : Some number ≡ part_of least most text
+  pub part_is : Some number ≡ short_number least most text
   part_is =
       ap (λ n. Some n) number_is
       ∙ ap (λ b. if b then Some (digits_value 10 text) else None)
@@ -70,15 +70,15 @@ at_ok r P x holds is = subst (λ (q : Result _ _). IfOk q P) is holds
 
 -- three numbers, by the signs between them, in the order of a form
 pub dated : (form : DateForm) (text first rest second third : List ℕ) (order : DateOrder) → form.order ≡ order
-    → first ≡ whole_part form.sign text → rest ≡ fraction form.sign text → second ≡ whole_part form.sign rest → third ≡ fraction form.sign rest
+    → first ≡ integer_digits form.sign text → rest ≡ fraction form.sign text → second ≡ integer_digits form.sign rest → third ≡ fraction form.sign rest
     → option_and_then day_number (ordered order first second third) ≡ date_number form text
 dated form text first rest second third order is one behind two three =
     ap (λ o. option_and_then day_number (ordered o first second third)) (sym is)
     ∙ ap (λ a. option_and_then day_number (ordered form.order a second third)) one
-    ∙ ap (λ b. option_and_then day_number (ordered form.order (whole_part form.sign text) b third)) (two ∙ ap (whole_part form.sign) behind)
-    ∙ ap (λ c. option_and_then day_number (ordered form.order (whole_part form.sign text) (whole_part form.sign (fraction form.sign text)) c)) (three ∙ ap (fraction form.sign) behind)
+    ∙ ap (λ b. option_and_then day_number (ordered form.order (integer_digits form.sign text) b third)) (two ∙ ap (integer_digits form.sign) behind)
+    ∙ ap (λ c. option_and_then day_number (ordered form.order (integer_digits form.sign text) (integer_digits form.sign (fraction form.sign text)) c)) (three ∙ ap (fraction form.sign) behind)
 
--- what a call says of the value that was taken out of its answer
+-- what a call says of the value in its answer
 from_ok : {T E : Type 0} (r : Result T E) (P : T → Type 0) (x : T) → Some x ≡ result_ok r → IfOk r P → P x
 from_ok (Ok y) P x is holds = let same : y ≡ x = (cc) in subst P same holds
 from_ok (Err e) P x is holds = absurd (cc)
@@ -88,7 +88,7 @@ abbrev joined : Option ℕ → Option ℕ → Option ℕ → Option Ymd
 joined a b c = option_and_then (λ y. option_and_then (λ m. option_map (λ d. record { year = y; month = m; day = d }) c) b) a
 
 pub ymd_found : {E : Type 0} (year month day : List ℕ) (y m k : ℕ) (d : Date) (r : Result Date E) (n : ℤ)
-    → Some y ≡ part_of 4 4 year → y < 10000 → Some m ≡ part_of 1 2 month → m < 100 → Some k ≡ part_of 1 2 day → k < 100
+    → Some y ≡ short_number 4 4 year → y < 10000 → Some m ≡ short_number 1 2 month → m < 100 → Some k ≡ short_number 1 2 day → k < 100
     → Some d ≡ result_ok r → IfOk r (IsYmd (to_z w16 y) (to_z w8 m) (to_z w8 k)) → n ≡ epoch_day d
     → Some n ≡ option_and_then day_number (ymd_of year month day)
 ymd_found year month day y m k d r n one small_y two small_m three small_k found is number =
@@ -100,8 +100,8 @@ ymd_found year month day y m k d r n one small_y two small_m three small_k found
     ∙ sym (day_number_of d y at_year)
     ∙ ap₂ (λ a b. day_number (record { year = y; month = a; day = b })) at_month at_day
     ∙ ap (λ a. option_and_then day_number (joined a (Some m) (Some k))) one
-    ∙ ap (λ b. option_and_then day_number (joined (part_of 4 4 year) b (Some k))) two
-    ∙ ap (λ c. option_and_then day_number (joined (part_of 4 4 year) (part_of 1 2 month) c)) three
+    ∙ ap (λ b. option_and_then day_number (joined (short_number 4 4 year) b (Some k))) two
+    ∙ ap (λ c. option_and_then day_number (joined (short_number 4 4 year) (short_number 1 2 month) c)) three
 
 -- the number of a day, as it is cast
 pub cast_twice : (n w v : ℤ) → ((neg_ℤ (pos 4371587)) ≤ℤ n) × (n ≤ℤ pos 2932896) → w ≡ to_z w32 (of_z w32 n) → v ≡ to_z w64 (of_z w64 w) → v ≡ n
@@ -120,14 +120,14 @@ minus_apart d is = let range = digit_range d is in ap not (ne_eqb d 45 (λ e. om
 no_minus : (ds : List ℕ) → list_all is_ascii_digit ds ≡ true → Lacks (λ byte. byte == 45) ds
 no_minus ds all = digits_lack (λ byte. byte == 45) minus_apart ds all
 
-before_minus : (ds rest : List ℕ) → list_all is_ascii_digit ds ≡ true → whole_part 45 (ds ++ 45 ∷ rest) ≡ ds
+before_minus : (ds rest : List ℕ) → list_all is_ascii_digit ds ≡ true → integer_digits 45 (ds ++ 45 ∷ rest) ≡ ds
 before_minus ds rest all = before_is (λ byte. byte == 45) ds rest 45 (no_minus ds all) refl
 
 behind_minus : (ds rest : List ℕ) → list_all is_ascii_digit ds ≡ true → fraction 45 (ds ++ 45 ∷ rest) ≡ rest
 behind_minus ds rest all = after_is (λ byte. byte == 45) ds rest 45 (no_minus ds all) refl
 
 -- the last digits of a small number are the number
-pub part_text : (least k n : ℕ) → least ≤ k → n < 10 ^ k → part_of least k (last_digits k n) ≡ Some n
+pub part_text : (least k n : ℕ) → least ≤ k → n < 10 ^ k → short_number least k (last_digits k n) ≡ Some n
 part_text least k n low small =
     let long = length_last k n in
     let test : (nat_le least (length (last_digits k n)) && nat_le (length (last_digits k n)) k && list_all is_ascii_digit (last_digits k n)) ≡ true =
@@ -165,7 +165,7 @@ date_spells d low =
     (last_digits 4 (unsigned_abs d.year)) (last_digits 2 d.month ++ 45 ∷ last_digits 2 d.day) (last_digits 2 d.month) (last_digits 2 d.day) YearFirst refl
     (sym (before_minus (last_digits 4 (unsigned_abs d.year)) (last_digits 2 d.month ++ 45 ∷ last_digits 2 d.day) first)) (sym behind)
     (sym (before_minus (last_digits 2 d.month) (last_digits 2 d.day) second)) (sym (behind_minus (last_digits 2 d.month) (last_digits 2 d.day) second)))
-    ∙ ap (λ a. option_and_then day_number (joined a (part_of 1 2 (last_digits 2 d.month)) (part_of 1 2 (last_digits 2 d.day)))) (part_text 4 4 (unsigned_abs d.year) (omega arith) most)
-    ∙ ap (λ b. option_and_then day_number (joined (Some (unsigned_abs d.year)) b (part_of 1 2 (last_digits 2 d.day)))) (part_text 1 2 d.month (omega arith) (omega (arith, d.month_in)))
+    ∙ ap (λ a. option_and_then day_number (joined a (short_number 1 2 (last_digits 2 d.month)) (short_number 1 2 (last_digits 2 d.day)))) (part_text 4 4 (unsigned_abs d.year) (omega arith) most)
+    ∙ ap (λ b. option_and_then day_number (joined (Some (unsigned_abs d.year)) b (short_number 1 2 (last_digits 2 d.day)))) (part_text 1 2 d.month (omega arith) (omega (arith, d.month_in)))
     ∙ ap (λ c. option_and_then day_number (joined (Some (unsigned_abs d.year)) (Some d.month) c)) (part_text 1 2 d.day (omega arith) (omega arith))
     ∙ day_number_of d (unsigned_abs d.year) plain.0

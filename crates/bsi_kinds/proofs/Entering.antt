@@ -3,7 +3,7 @@ use Rattle.std.proofs.Common.{◌≡◌, ℕ, ◌≤◌, inl, inr, min, Bool, tr
 use Rattle.std.proofs.lemmas.Bool.{cases_cond, cases_lt, ne_eqb}
 use Rattle.std.proofs.lemmas.Int.{ints}
 use Rattle.bsi_digits.specs.Signed.{end_of_i64, least_i64}
-use Rattle.bsi_kinds.specs.Decimals.{is_whole, most_scanned, scanned, scanned_entry, signed_units, units_of, whole_units, within_i64, Digits}
+use Rattle.bsi_kinds.specs.Decimals.{is_exact, most_scanned, scanned, scanned_entry, signed_units, units_of, whole_units, within_i64, Digits}
 use Rattle.bsi_kinds.proofs.Cutting.{some_none, some_same}
 
 -- 64 bits do not hold a number past what a scan tells apart
@@ -17,7 +17,7 @@ past : (minus : Bool) (n : ℕ) → most_scanned ≤ n → within_i64 (signed_un
 past true n large = past_negative n large
 past false n large = past_positive n large
 
-by_test : (minus : Bool) (p : ℕ) (d : Digits) (whole : Bool) → is_whole p d ≡ whole
+by_test : (minus : Bool) (p : ℕ) (d : Digits) (whole : Bool) → is_exact p d ≡ whole
     → scanned_entry minus (record { units = min (units_of p d) most_scanned; exact = whole })
     ≡ option_and_then within_i64 (option_map (signed_units minus) (if whole then Some (units_of p d) else None))
 by_test minus p d false is = refl
@@ -39,7 +39,7 @@ pub entry_found : (minus : Bool) (p : ℕ) (found : Option Digits)
     → option_and_then (scanned_entry minus) (option_map (scanned p) found)
     ≡ option_and_then within_i64 (option_map (signed_units minus) (option_and_then (whole_units p) found))
 entry_found minus p None = refl
-entry_found minus p (Some d) = by_test minus p d (is_whole p d) refl
+entry_found minus p (Some d) = by_test minus p d (is_exact p d) refl
 
 -- an entry is a number
 within_is : (m n : ℤ) → within_i64 m ≡ Some n → m ≡ n

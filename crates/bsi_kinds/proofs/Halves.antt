@@ -8,7 +8,7 @@ use Rattle.std.proofs.lemmas.Bool.Decides.{nat_tests}
 use Rattle.std.proofs.lemmas.Int.{ints, to_z-of_z, to_z_pos}
 use mir.Val.{of_z, to_z}
 use Rattle.std.proofs.lemmas.Nat.{div-add-mod', mod_below, pow-add}
-use Rattle.bsi_kinds.specs.Decimals.{decimal_entry, decimal_number, decimal_of, most_scanned, negative, positive, scanned, signed_units, units_of, Decimal, Digits, StandsAt}
+use Rattle.bsi_kinds.specs.Decimals.{decimal_entry, decimal_number, decimal_of, most_scanned, negative, positive, scanned, signed_units, units_of, Decimal, Digits, Represents}
 use Rattle.bsi_kinds.specs.Rounding.{goes_up, rounded_units, IsRounded}
 use Rattle.bsi_kinds.specs.declared.decimal.Scanned.{Scanned}
 use Rattle.bsi_kinds.proofs.Cutting.{neg_times, number_stands, signed_by, some_same}
@@ -224,7 +224,7 @@ round_none p minus (Some digits) s is full =
     far_signed p minus digits (omega (arith, times, split))
 
 -- a number that needs no rounding
-same_rounded : (p : ℕ) (d : Decimal) (n : ℤ) → StandsAt p n d → IsRounded p d n
+same_rounded : (p : ℕ) (d : Decimal) (n : ℤ) → Represents p n d → IsRounded p d n
 same_rounded p d n same =
     let some = ten_some d.places in
     record {
@@ -233,7 +233,7 @@ same_rounded p d n same =
       even = λ tie. absurd (elim tie [ inl short ↦ omega (arith, ints, same, short, some) | inr long ↦ omega (arith, ints, same, long, some) ]);
     }
 
-stands_rounded : (p : ℕ) (found : Option Decimal) (n : ℤ) → MatchOption found ⊥ (StandsAt p n) → MatchOption found ⊥ (λ d. IsRounded p d n)
+stands_rounded : (p : ℕ) (found : Option Decimal) (n : ℤ) → MatchOption found ⊥ (Represents p n) → MatchOption found ⊥ (λ d. IsRounded p d n)
 stands_rounded p None n stands = stands
 stands_rounded p (Some d) n stands = same_rounded p d n stands
 

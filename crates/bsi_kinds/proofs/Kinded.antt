@@ -1,20 +1,20 @@
 -- Comparisons with values that a number stands for.
 use Rattle.std.proofs.Common.{◌≡◌, ◌⊎◌, inl, inr, ℕ, Bool, true, false, if◌then◌else◌, List, Option, Some, None, option_map, IfSome, MatchOption, ℤ, pos, refl, sym, subst, ap₂, ◌∙◌}
 use Rattle.std.specs.Str.{bytes_eq}
-use Rattle.bsi_orders.specs.Orders.{compares_by}
-use Rattle.bsi_orders.specs.WholeNumbers.{signed_order}
-use Rattle.bsi_orders.specs.declared.op.Op.{Op}
+use Rattle.bsi_digits.specs.Orders.{compares_by}
+use Rattle.bsi_digits.specs.WholeNumbers.{signed_order}
+use Rattle.bsi_digits.specs.declared.op.Op.{Op}
 use Rattle.bsi_kinds.specs.Booleans.{boolean_number, is_true}
 use Rattle.bsi_kinds.specs.Comparisons.{comparison, ComparesAs}
 use Rattle.bsi_kinds.specs.Decimals.{decimal_at, decimal_of, decimal_order, Decimal as Fraction}
 use Rattle.bsi_kinds.specs.Dates.{date_number}
-use Rattle.bsi_kinds.specs.Kinds.{compares, day, fraction, truth, value_of, ComparesValues}
+use Rattle.bsi_kinds.specs.Kinds.{day, fraction, truth, value_compares, value_of, ComparesValues}
 use Rattle.bsi_kinds.specs.declared.boolean.BooleanForm.{BooleanForm}
 use Rattle.bsi_kinds.specs.declared.comparison.Comparison.{Comparison}
 use Rattle.bsi_kinds.specs.declared.date.DateForm.{DateForm}
 use Rattle.bsi_kinds.specs.declared.kind.Kind.{Kind}
 use Rattle.bsi_kinds.specs.declared.kind.Kind.TheVariants.{Boolean, Date, Decimal, Time}
-use Rattle.bsi_kinds.specs.Times.{places_of, time_of}
+use Rattle.bsi_kinds.specs.Times.{time_of, unit_places}
 use Rattle.bsi_kinds.specs.declared.time.TimeForm.{TimeForm}
 use Rattle.bsi_kinds.proofs.Cutting.{some_same}
 use Rattle.bsi_kinds.proofs.Moments.{number_fits}
@@ -41,15 +41,15 @@ either_test false false n is = absurd (cc)
 
 -- truth values compare as their numbers
 by_truth : (op : Op) (n m : ℤ) → (n ≡ pos 0) ⊎ (n ≡ pos 1) → (m ≡ pos 0) ⊎ (m ≡ pos 1)
-    → compares op (truth (is_true n)) (truth (is_true m)) ≡ compares_by signed_order op n m
+    → value_compares op (truth (is_true n)) (truth (is_true m)) ≡ compares_by signed_order op n m
 by_truth op n m (inl zero_n) (inl zero_m) =
-    ap₂ (λ a b. compares op (truth (is_true a)) (truth (is_true b))) zero_n zero_m ∙ ap₂ (λ a b. compares_by signed_order op a b) (sym zero_n) (sym zero_m)
+    ap₂ (λ a b. value_compares op (truth (is_true a)) (truth (is_true b))) zero_n zero_m ∙ ap₂ (λ a b. compares_by signed_order op a b) (sym zero_n) (sym zero_m)
 by_truth op n m (inl zero_n) (inr one_m) =
-    ap₂ (λ a b. compares op (truth (is_true a)) (truth (is_true b))) zero_n one_m ∙ ap₂ (λ a b. compares_by signed_order op a b) (sym zero_n) (sym one_m)
+    ap₂ (λ a b. value_compares op (truth (is_true a)) (truth (is_true b))) zero_n one_m ∙ ap₂ (λ a b. compares_by signed_order op a b) (sym zero_n) (sym one_m)
 by_truth op n m (inr one_n) (inl zero_m) =
-    ap₂ (λ a b. compares op (truth (is_true a)) (truth (is_true b))) one_n zero_m ∙ ap₂ (λ a b. compares_by signed_order op a b) (sym one_n) (sym zero_m)
+    ap₂ (λ a b. value_compares op (truth (is_true a)) (truth (is_true b))) one_n zero_m ∙ ap₂ (λ a b. compares_by signed_order op a b) (sym one_n) (sym zero_m)
 by_truth op n m (inr one_n) (inr one_m) =
-    ap₂ (λ a b. compares op (truth (is_true a)) (truth (is_true b))) one_n one_m ∙ ap₂ (λ a b. compares_by signed_order op a b) (sym one_n) (sym one_m)
+    ap₂ (λ a b. value_compares op (truth (is_true a)) (truth (is_true b))) one_n one_m ∙ ap₂ (λ a b. compares_by signed_order op a b) (sym one_n) (sym one_m)
 
 -- a word that is found has 0 or 1
 boolean_is : (form : BooleanForm) (text : List ℕ) (n : ℤ) → boolean_number form text ≡ Some n → (n ≡ pos 0) ⊎ (n ≡ pos 1)
@@ -86,13 +86,13 @@ by_decimal op places kind point text (Some c) is given =
 
 -- and so does a time
 by_moment : (op : Op) (form : TimeForm) (found : Option Fraction) (c : Comparison)
-    → MatchOption found ⊥ (λ d. ComparesAs decimal_order (decimal_at (places_of form.unit)) op d c)
+    → MatchOption found ⊥ (λ d. ComparesAs decimal_order (decimal_at (unit_places form.unit)) op d c)
     → MatchOption (option_map fraction found) ⊥ (λ v. ComparesValues (Time form) op v c)
 by_moment op form None c holds = holds
 by_moment op form (Some d) c holds = λ n within. holds n (number_fits form.unit n within)
 
 pub by_time : (op : Op) (form : TimeForm) (kind : Kind) (point : ℕ) (text : List ℕ) (found : Option Comparison) → kind ≡ Time form
-    → IfSome found (λ c. MatchOption (time_of form text) ⊥ (λ d. ComparesAs decimal_order (decimal_at (places_of form.unit)) op d c))
+    → IfSome found (λ c. MatchOption (time_of form text) ⊥ (λ d. ComparesAs decimal_order (decimal_at (unit_places form.unit)) op d c))
     → IfSome found (λ c. MatchOption (value_of kind point text) ⊥ (λ v. ComparesValues kind op v c))
 by_time op form kind point text None is given = tt
 by_time op form kind point text (Some c) is given =

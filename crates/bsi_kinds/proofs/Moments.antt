@@ -7,13 +7,13 @@ use Rattle.std.proofs.lemmas.Int.{by_lt_z, ints}
 use Rattle.std.proofs.lemmas.Nat.{div-add-mod', mod_below}
 use Rattle.std.specs.Int.{int_div_euclid}
 use Rattle.jiff_core.proofs.SignedLemmas.{signed_arith}
-use Rattle.bsi_orders.specs.Orders.{compares_by}
-use Rattle.bsi_orders.specs.WholeNumbers.{signed_order}
-use Rattle.bsi_orders.specs.declared.op.Op.{Op}
+use Rattle.bsi_digits.specs.Orders.{compares_by}
+use Rattle.bsi_digits.specs.WholeNumbers.{signed_order}
+use Rattle.bsi_digits.specs.declared.op.Op.{Op}
 use Rattle.bsi_kinds.specs.Comparisons.{brought_down, past_numbers, ComparesAs}
-use Rattle.bsi_kinds.specs.Decimals.{decimal_at, decimal_order, is_whole, most_scanned, units_of, StandsAt}
+use Rattle.bsi_kinds.specs.Decimals.{decimal_at, decimal_order, is_exact, most_scanned, units_of, Represents}
 use Rattle.bsi_kinds.specs.Clocks.{moment_value, scanned_time, Moment}
-use Rattle.bsi_kinds.specs.Times.{day_of, first_at, places_of, units_at, IsTimeNumber}
+use Rattle.bsi_kinds.specs.Times.{day_of, first_at, unit_places, units_at, IsTimeNumber}
 use Rattle.bsi_kinds.specs.declared.comparison.Comparison.{Comparison}
 use Rattle.bsi_kinds.specs.declared.clock.ScannedTime.{ScannedTime}
 use Rattle.bsi_kinds.specs.declared.time.TimeUnit.{TimeUnit}
@@ -23,14 +23,14 @@ use Rattle.bsi_kinds.proofs.Cutting.{by_units, neg_times}
 use Rattle.bsi_kinds.proofs.Scaling.{ten_some}
 
 -- a unit has few places
-pub few_places : (unit : TimeUnit) → places_of unit ≤ 6
+pub few_places : (unit : TimeUnit) → unit_places unit ≤ 6
 few_places Seconds = omega arith
 few_places Milliseconds = omega arith
 few_places Microseconds = omega arith
 
 -- the day of units is that of the second that they follow
-pub same_day : (unit : TimeUnit) (s : ℤ) (u : ℕ) → u < 10 ^ places_of unit
-    → day_of unit (s *ℤ pos (10 ^ places_of unit) +ℤ pos u) ≡ int_div_euclid s (pos 86400)
+pub same_day : (unit : TimeUnit) (s : ℤ) (u : ℕ) → u < 10 ^ unit_places unit
+    → day_of unit (s *ℤ pos (10 ^ unit_places unit) +ℤ pos u) ≡ int_div_euclid s (pos 86400)
 same_day Seconds s u low = omega (arith, signed_arith)
 same_day Milliseconds s u low = omega (arith, signed_arith)
 same_day Microseconds s u low = omega (arith, signed_arith)
@@ -100,74 +100,74 @@ module _ (s : ℤ) (f a b u r : ℕ) (split : u * b + r ≡ f * a) (close : r < 
       ]
 
 -- the units of a part that were scanned are all that there are
-units_same : (p : ℕ) (m : Moment) (t : ScannedTime) → t ≡ scanned_time p m → t.part.units < 10 ^ p → p ≤ 6 → t.part.units ≡ units_of p m.part
+units_same : (p : ℕ) (m : Moment) (t : ScannedTime) → t ≡ scanned_time p m → t.subsecond.units < 10 ^ p → p ≤ 6 → t.subsecond.units ≡ units_of p m.subsecond
 units_same p m t same low few =
-    let capped : t.part.units ≡ min (units_of p m.part) most_scanned = ap (λ q. q.part.units) same in
+    let capped : t.subsecond.units ≡ min (units_of p m.subsecond) most_scanned = ap (λ q. q.subsecond.units) same in
     let most : 10 ^ p ≤ 10 ^ 6 = pow-le-pow_right {n = 10} (omega arith) {i = p} {j = 6} few in
     omega (arith, capped, most)
 
 abbrev begun_at : ℕ → Moment → ℤ
-begun_at p m = m.seconds *ℤ pos (10 ^ p) +ℤ pos (units_of p m.part)
+begun_at p m = m.seconds *ℤ pos (10 ^ p) +ℤ pos (units_of p m.subsecond)
 
-units_at_is : (p : ℕ) (m : Moment) (t : ScannedTime) → t ≡ scanned_time p m → t.part.units < 10 ^ p → p ≤ 6 → units_at p t ≡ begun_at p m
+units_at_is : (p : ℕ) (m : Moment) (t : ScannedTime) → t ≡ scanned_time p m → t.subsecond.units < 10 ^ p → p ≤ 6 → units_at p t ≡ begun_at p m
 units_at_is p m t same low few =
-    ap (λ u. t.seconds *ℤ pos (10 ^ p) +ℤ pos u) (units_same p m t same low few) ∙ ap (λ q. q.seconds *ℤ pos (10 ^ p) +ℤ pos (units_of p m.part)) same
+    ap (λ u. t.seconds *ℤ pos (10 ^ p) +ℤ pos u) (units_same p m t same low few) ∙ ap (λ q. q.seconds *ℤ pos (10 ^ p) +ℤ pos (units_of p m.subsecond)) same
 
 module _ (p : ℕ) (few : p ≤ 6) where
-  split_of : (m : Moment) → units_of p m.part * 10 ^ m.part.places + m.part.value * 10 ^ p % 10 ^ m.part.places ≡ m.part.value * 10 ^ p
-  split_of m = div-add-mod' (m.part.value * 10 ^ p) (10 ^ m.part.places)
+  split_of : (m : Moment) → units_of p m.subsecond * 10 ^ m.subsecond.places + m.subsecond.value * 10 ^ p % 10 ^ m.subsecond.places ≡ m.subsecond.value * 10 ^ p
+  split_of m = div-add-mod' (m.subsecond.value * 10 ^ p) (10 ^ m.subsecond.places)
 
-  close_of : (m : Moment) → m.part.value * 10 ^ p % 10 ^ m.part.places < 10 ^ m.part.places
-  close_of m = mod_below (m.part.value * 10 ^ p) (10 ^ m.part.places) (ten_some m.part.places)
+  close_of : (m : Moment) → m.subsecond.value * 10 ^ p % 10 ^ m.subsecond.places < 10 ^ m.subsecond.places
+  close_of m = mod_below (m.subsecond.value * 10 ^ p) (10 ^ m.subsecond.places) (ten_some m.subsecond.places)
 
   -- what a scan found is a time, and the comparison with it is brought down
-  pub time_compares : (op : Op) (found : Option Moment) (t : ScannedTime) (c : Comparison) → Some t ≡ option_map (scanned_time p) found → t.part.units < 10 ^ p
-      → c ≡ brought_down op t.part.exact (first_at p t)
+  pub time_compares : (op : Op) (found : Option Moment) (t : ScannedTime) (c : Comparison) → Some t ≡ option_map (scanned_time p) found → t.subsecond.units < 10 ^ p
+      → c ≡ brought_down op t.subsecond.exact (first_at p t)
       → MatchOption (option_map moment_value found) ⊥ (λ constant. ComparesAs decimal_order (decimal_at p) op constant c)
   time_compares op None t c some low is = absurd (cc)
   time_compares op (Some m) t c some low is =
       λ n fits.
       let same : t ≡ scanned_time p m = (cc) in
-      let exact : t.part.exact ≡ is_whole p m.part = ap (λ q. q.part.exact) same in
-      let from : first_at p t ≡ (if is_whole p m.part then begun_at p m else begun_at p m +ℤ pos 1) =
-      ap (λ z. if t.part.exact then z else z +ℤ pos 1) (units_at_is p m t same low few)
+      let exact : t.subsecond.exact ≡ is_exact p m.subsecond = ap (λ q. q.subsecond.exact) same in
+      let from : first_at p t ≡ (if is_exact p m.subsecond then begun_at p m else begun_at p m +ℤ pos 1) =
+      ap (λ z. if t.subsecond.exact then z else z +ℤ pos 1) (units_at_is p m t same low few)
       ∙ ap (λ e. if e then begun_at p m else begun_at p m +ℤ pos 1) exact in
-      let down : c ≡ brought_down op (is_whole p m.part) (if is_whole p m.part then begun_at p m else begun_at p m +ℤ pos 1) =
-      is ∙ ap (λ z. brought_down op t.part.exact z) from ∙ ap (λ e. brought_down op e (if is_whole p m.part then begun_at p m else begun_at p m +ℤ pos 1)) exact in
+      let down : c ≡ brought_down op (is_exact p m.subsecond) (if is_exact p m.subsecond then begun_at p m else begun_at p m +ℤ pos 1) =
+      is ∙ ap (λ z. brought_down op t.subsecond.exact z) from ∙ ap (λ e. brought_down op e (if is_exact p m.subsecond then begun_at p m else begun_at p m +ℤ pos 1)) exact in
       by_units op (decimal_at p n) (moment_value m)
-      ∙ agrees m.seconds m.part.value (10 ^ p) (10 ^ m.part.places) (units_of p m.part) (m.part.value * 10 ^ p % 10 ^ m.part.places) (split_of m) (close_of m) op n fits
+      ∙ agrees m.seconds m.subsecond.value (10 ^ p) (10 ^ m.subsecond.places) (units_of p m.subsecond) (m.subsecond.value * 10 ^ p % 10 ^ m.subsecond.places) (split_of m) (close_of m) op n fits
       ∙ ap (λ d. compares_by signed_order d.op n d.number) (sym down)
 
   -- its number stands for it, if nothing is left
-  pub number_spelled : (found : Option Moment) (t : ScannedTime) (n : ℤ) → Some t ≡ option_map (scanned_time p) found → t.part.units < 10 ^ p
-      → t.part.exact ≡ true → n ≡ units_at p t → MatchOption (option_map moment_value found) ⊥ (StandsAt p n)
+  pub number_spelled : (found : Option Moment) (t : ScannedTime) (n : ℤ) → Some t ≡ option_map (scanned_time p) found → t.subsecond.units < 10 ^ p
+      → t.subsecond.exact ≡ true → n ≡ units_at p t → MatchOption (option_map moment_value found) ⊥ (Represents p n)
   number_spelled None t n some low whole is = absurd (cc)
   number_spelled (Some m) t n some low whole is =
       let same : t ≡ scanned_time p m = (cc) in
-      let exact : is_whole p m.part ≡ true = sym (ap (λ q. q.part.exact) same) ∙ whole in
-      ap (λ z. z *ℤ pos (10 ^ m.part.places)) (is ∙ units_at_is p m t same low few)
-      ∙ stands m.seconds m.part.value (10 ^ p) (10 ^ m.part.places) (units_of p m.part) (m.part.value * 10 ^ p % 10 ^ m.part.places) (split_of m) (close_of m)
-      (eqb-true (m.part.value * 10 ^ p % 10 ^ m.part.places) 0 exact)
+      let exact : is_exact p m.subsecond ≡ true = sym (ap (λ q. q.subsecond.exact) same) ∙ whole in
+      ap (λ z. z *ℤ pos (10 ^ m.subsecond.places)) (is ∙ units_at_is p m t same low few)
+      ∙ stands m.seconds m.subsecond.value (10 ^ p) (10 ^ m.subsecond.places) (units_of p m.subsecond) (m.subsecond.value * 10 ^ p % 10 ^ m.subsecond.places) (split_of m) (close_of m)
+      (eqb-true (m.subsecond.value * 10 ^ p % 10 ^ m.subsecond.places) 0 exact)
 
-  pub spelled_only : (found : Option Moment) (t : ScannedTime) (n : ℤ) → Some t ≡ option_map (scanned_time p) found → t.part.units < 10 ^ p
-      → t.part.exact ≡ true → MatchOption (option_map moment_value found) ⊥ (StandsAt p n) → n ≡ units_at p t
+  pub spelled_only : (found : Option Moment) (t : ScannedTime) (n : ℤ) → Some t ≡ option_map (scanned_time p) found → t.subsecond.units < 10 ^ p
+      → t.subsecond.exact ≡ true → MatchOption (option_map moment_value found) ⊥ (Represents p n) → n ≡ units_at p t
   spelled_only None t n some low whole = λ none. absurd none
   spelled_only (Some m) t n some low whole =
       λ standing.
       let same : t ≡ scanned_time p m = (cc) in
-      let exact : is_whole p m.part ≡ true = sym (ap (λ q. q.part.exact) same) ∙ whole in
-      only m.seconds m.part.value (10 ^ p) (10 ^ m.part.places) (units_of p m.part) (m.part.value * 10 ^ p % 10 ^ m.part.places) (split_of m) (close_of m)
-      (eqb-true (m.part.value * 10 ^ p % 10 ^ m.part.places) 0 exact) n standing
+      let exact : is_exact p m.subsecond ≡ true = sym (ap (λ q. q.subsecond.exact) same) ∙ whole in
+      only m.seconds m.subsecond.value (10 ^ p) (10 ^ m.subsecond.places) (units_of p m.subsecond) (m.subsecond.value * 10 ^ p % 10 ^ m.subsecond.places) (split_of m) (close_of m)
+      (eqb-true (m.subsecond.value * 10 ^ p % 10 ^ m.subsecond.places) 0 exact) n standing
       ∙ sym (units_at_is p m t same low few)
 
   -- and no number does, if something is
   pub nothing_spelled : (found : Option Moment) (t : ScannedTime) (n : ℤ) → Some t ≡ option_map (scanned_time p) found
-      → t.part.exact ≡ false → MatchOption (option_map moment_value found) ⊥ (StandsAt p n) → ⊥
+      → t.subsecond.exact ≡ false → MatchOption (option_map moment_value found) ⊥ (Represents p n) → ⊥
   nothing_spelled None t n some whole = λ none. none
   nothing_spelled (Some m) t n some whole =
       λ standing.
       let same : t ≡ scanned_time p m = (cc) in
-      let exact : is_whole p m.part ≡ false = sym (ap (λ q. q.part.exact) same) ∙ whole in
-      let left : m.part.value * 10 ^ p % 10 ^ m.part.places ≡ 0 → ⊥ = eqb-false (m.part.value * 10 ^ p % 10 ^ m.part.places) 0 exact in
-      none_stands m.seconds m.part.value (10 ^ p) (10 ^ m.part.places) (units_of p m.part) (m.part.value * 10 ^ p % 10 ^ m.part.places) (split_of m) (close_of m)
+      let exact : is_exact p m.subsecond ≡ false = sym (ap (λ q. q.subsecond.exact) same) ∙ whole in
+      let left : m.subsecond.value * 10 ^ p % 10 ^ m.subsecond.places ≡ 0 → ⊥ = eqb-false (m.subsecond.value * 10 ^ p % 10 ^ m.subsecond.places) 0 exact in
+      none_stands m.seconds m.subsecond.value (10 ^ p) (10 ^ m.subsecond.places) (units_of p m.subsecond) (m.subsecond.value * 10 ^ p % 10 ^ m.subsecond.places) (split_of m) (close_of m)
       (omega arith) n standing

@@ -8,8 +8,8 @@ use Rattle.std.specs.Option.{unwrap_or}
 
 module _ {X : Type 0} (p : X → Bool) (xs : List X) where
   -- as a call that looks for it gives it, or the length
-  pub first_place : unwrap_or (position p xs) (length xs) ≡ position_or_len p xs
-  first_place = elim (cases_lt (position_or_len p xs) (length xs)) [
+  pub first_position : unwrap_or (position p xs) (length xs) ≡ position_or_len p xs
+  first_position = elim (cases_lt (position_or_len p xs) (length xs)) [
     | inl low ↦ ap (λ b. unwrap_or (cond b (Some (position_or_len p xs)) None) (length xs)) (lt-ltb _ _ low)
     | inr high ↦ (
         let within : position_or_len p xs ≤ length xs = prefix_len-le-length (λ x. not (p x)) xs in
@@ -21,7 +21,7 @@ module _ {X : Type 0} (p : X → Bool) (xs : List X) where
   pub behind_first : (found : Option ℕ) (at : ℕ) (rest : List X) → found ≡ position p xs → at ≡ unwrap_or found (length xs) → rest ≡ drop at xs
       → take (length rest - 1) (drop 1 rest) ≡ after_first p xs
   behind_first found at rest found_is at_is rest_is =
-      let place : at ≡ position_or_len p xs = at_is ∙ ap (λ o. unwrap_or o (length xs)) found_is ∙ first_place in
+      let place : at ≡ position_or_len p xs = at_is ∙ ap (λ o. unwrap_or o (length xs)) found_is ∙ first_position in
       let short : length (drop 1 rest) ≡ length rest - 1 = length-drop 1 rest in
       take_all (length rest - 1) (drop 1 rest) (omega arith)
       ∙ ap (drop 1) (rest_is ∙ ap (λ i. drop i xs) place) ∙ drop-drop 1 (position_or_len p xs) xs

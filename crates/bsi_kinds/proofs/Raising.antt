@@ -89,58 +89,58 @@ same_below : (v k l : ℕ) → v < 10 ^ k → k ≤ l → scanned 0 (record { va
 same_below v k l low more = below_unit v k k low (omega arith) ∙ sym (below_unit v k l low more)
 
 -- digits before the point and behind it
-digits_there : (whole part : List ℕ) → 0 < length whole + length part → list_all is_ascii_digit whole ≡ true → list_all is_ascii_digit part ≡ true
-    → digits_from whole part ≡ Some (record { value = digits_value 10 (whole ++ part); places = length part })
-digits_there whole part some first second =
-    let there : nat_lt 0 (length (whole ++ part)) ≡ true = lt-ltb _ _ (omega (arith, length-append whole part)) in
-    let all : list_all is_ascii_digit (whole ++ part) ≡ true = list_all-append is_ascii_digit whole part ∙ and_from _ _ first second in
-    ap (λ b. if b then Some (record { value = digits_value 10 (whole ++ part); places = length part }) else None) (and_from _ _ there all)
+digits_there : (whole decimals : List ℕ) → 0 < length whole + length decimals → list_all is_ascii_digit whole ≡ true → list_all is_ascii_digit decimals ≡ true
+    → digits_from whole decimals ≡ Some (record { value = digits_value 10 (whole ++ decimals); places = length decimals })
+digits_there whole decimals some first second =
+    let there : nat_lt 0 (length (whole ++ decimals)) ≡ true = lt-ltb _ _ (omega (arith, length-append whole decimals)) in
+    let all : list_all is_ascii_digit (whole ++ decimals) ≡ true = list_all-append is_ascii_digit whole decimals ∙ and_from _ _ first second in
+    ap (λ b. if b then Some (record { value = digits_value 10 (whole ++ decimals); places = length decimals }) else None) (and_from _ _ there all)
 
--- the digits that are kept before the point, and those behind them
-module _ (whole part kept rest : List ℕ) (before : ℕ) (are : kept ++ rest ≡ whole) (long : length kept ≡ length whole - before)
-    (rest_digits : list_all is_ascii_digit rest ≡ true) (part_digits : list_all is_ascii_digit part ≡ true)
-    (kept_digits : list_all is_ascii_digit kept ≡ true) (some : 0 < length whole + length part) where
-  behind_digits : list_all is_ascii_digit (rest ++ part) ≡ true
-  behind_digits = list_all-append is_ascii_digit rest part ∙ and_from _ _ rest_digits part_digits
+-- the digits before the point, and those behind them
+module _ (whole decimals leading rest : List ℕ) (before : ℕ) (are : leading ++ rest ≡ whole) (long : length leading ≡ length whole - before)
+    (rest_digits : list_all is_ascii_digit rest ≡ true) (part_digits : list_all is_ascii_digit decimals ≡ true)
+    (kept_digits : list_all is_ascii_digit leading ≡ true) (some : 0 < length whole + length decimals) where
+  behind_digits : list_all is_ascii_digit (rest ++ decimals) ≡ true
+  behind_digits = list_all-append is_ascii_digit rest decimals ∙ and_from _ _ rest_digits part_digits
 
-  lengths : length kept + length rest ≡ length whole
-  lengths = sym (length-append kept rest) ∙ ap (λ ds. length {A = ℕ} ds) are
+  lengths : length leading + length rest ≡ length whole
+  lengths = sym (length-append leading rest) ∙ ap (λ ds. length {A = ℕ} ds) are
 
-  behind_length : length (rest ++ part) ≡ length rest + length part
-  behind_length = length-append rest part
+  behind_length : length (rest ++ decimals) ≡ length rest + length decimals
+  behind_length = length-append rest decimals
 
-  joined : kept ++ (rest ++ part) ≡ whole ++ part
-  joined = sym (append_assoc kept rest part) ∙ ap (λ ds. ds ++ part) are
+  joined : leading ++ (rest ++ decimals) ≡ whole ++ decimals
+  joined = sym (append_assoc leading rest decimals) ∙ ap (λ ds. ds ++ decimals) are
 
   -- what all digits come to, so many places before the point
-  value_is : scanned 0 (record { value = digits_value 10 (kept ++ (rest ++ part)); places = length (rest ++ part) })
-      ≡ scanned 0 (record { value = digits_value 10 (whole ++ part); places = length part + before })
+  value_is : scanned 0 (record { value = digits_value 10 (leading ++ (rest ++ decimals)); places = length (rest ++ decimals) })
+      ≡ scanned 0 (record { value = digits_value 10 (whole ++ decimals); places = length decimals + before })
   value_is = elim (cases_lt (length whole) before) [
     | inl many ↦ (
-        let none : length kept ≡ 0 = omega arith in
-        let size : length (kept ++ (rest ++ part)) ≡ length (rest ++ part) = length-append kept (rest ++ part) ∙ omega (arith, none) in
-        let all : list_all is_ascii_digit (kept ++ (rest ++ part)) ≡ true = list_all-append is_ascii_digit kept (rest ++ part) ∙ and_from _ _ kept_digits behind_digits in
-        let low : digits_value 10 (kept ++ (rest ++ part)) < 10 ^ length (rest ++ part) =
-        omega (arith, value_below (kept ++ (rest ++ part)) all, ap (λ k. 10 ^ k) size) in
-        same_below (digits_value 10 (kept ++ (rest ++ part))) (length (rest ++ part)) (length part + before) low (omega (arith, behind_length, lengths))
-        ∙ ap (λ ds. scanned 0 (record { value = digits_value 10 ds; places = length part + before })) joined)
+        let none : length leading ≡ 0 = omega arith in
+        let size : length (leading ++ (rest ++ decimals)) ≡ length (rest ++ decimals) = length-append leading (rest ++ decimals) ∙ omega (arith, none) in
+        let all : list_all is_ascii_digit (leading ++ (rest ++ decimals)) ≡ true = list_all-append is_ascii_digit leading (rest ++ decimals) ∙ and_from _ _ kept_digits behind_digits in
+        let low : digits_value 10 (leading ++ (rest ++ decimals)) < 10 ^ length (rest ++ decimals) =
+        omega (arith, value_below (leading ++ (rest ++ decimals)) all, ap (λ k. 10 ^ k) size) in
+        same_below (digits_value 10 (leading ++ (rest ++ decimals))) (length (rest ++ decimals)) (length decimals + before) low (omega (arith, behind_length, lengths))
+        ∙ ap (λ ds. scanned 0 (record { value = digits_value 10 ds; places = length decimals + before })) joined)
     | inr few ↦ (
-        let places : length (rest ++ part) ≡ length part + before = omega (arith, behind_length, lengths) in
+        let places : length (rest ++ decimals) ≡ length decimals + before = omega (arith, behind_length, lengths) in
         ap₂ (λ ds k. scanned 0 (record { value = digits_value 10 ds; places = k })) joined places)
   ]
 
-  pub scan_before : (u : ℕ) → u ≡ min (digits_value_after 10 0 kept) most_scanned
-      → Some (record { units = u; exact = list_all (λ byte. byte == 48) rest && list_all (λ byte. byte == 48) part })
-      ≡ option_map (λ digits. scanned 0 (record { value = digits.value; places = digits.places + before })) (digits_from whole part)
+  pub scan_before : (u : ℕ) → u ≡ min (digits_value_after 10 0 leading) most_scanned
+      → Some (record { units = u; exact = list_all (λ byte. byte == 48) rest && list_all (λ byte. byte == 48) decimals })
+      ≡ option_map (λ digits. scanned 0 (record { value = digits.value; places = digits.places + before })) (digits_from whole decimals)
   scan_before u is =
-      let zeros = sym (list_all-append (λ byte. byte == 48) rest part) in
+      let zeros = sym (list_all-append (λ byte. byte == 48) rest decimals) in
       let whole_digits : list_all is_ascii_digit whole ≡ true =
-      ap (list_all is_ascii_digit) (sym are) ∙ list_all-append is_ascii_digit kept rest ∙ and_from _ _ kept_digits rest_digits in
+      ap (list_all is_ascii_digit) (sym are) ∙ list_all-append is_ascii_digit leading rest ∙ and_from _ _ kept_digits rest_digits in
       let capped : u ≡ min (u * 10 ^ (0 - 0)) most_scanned = omega (arith, is) in
       let again : u ≡ min (digits_value_after 10 u []) most_scanned = omega (arith, is) in
-      let filled : 0 < length kept + length (rest ++ part) = omega (arith, behind_length, lengths) in
+      let filled : 0 < length leading + length (rest ++ decimals) = omega (arith, behind_length, lengths) in
       ap₂ (λ k e. Some (record { units = k; exact = e })) capped zeros
-      ∙ scan_of kept (rest ++ part) [] (rest ++ part) 0 refl (omega arith) behind_digits u u kept_digits refl filled is again
-      ∙ ap (option_map (scanned 0)) (digits_there kept (rest ++ part) filled kept_digits behind_digits)
+      ∙ scan_of leading (rest ++ decimals) [] (rest ++ decimals) 0 refl (omega arith) behind_digits u u kept_digits refl filled is again
+      ∙ ap (option_map (scanned 0)) (digits_there leading (rest ++ decimals) filled kept_digits behind_digits)
       ∙ ap (λ s. Some s) value_is
-      ∙ sym (ap (option_map (λ digits. scanned 0 (record { value = digits.value; places = digits.places + before }))) (digits_there whole part some whole_digits part_digits))
+      ∙ sym (ap (option_map (λ digits. scanned 0 (record { value = digits.value; places = digits.places + before }))) (digits_there whole decimals some whole_digits part_digits))

@@ -11,8 +11,8 @@ use Rattle.std.specs.Char.{is_ascii_digit}
 use Rattle.std.specs.List.{list_all}
 use Rattle.std.specs.Option.{option_or}
 use Rattle.std.specs.Str.Parse.{digits_value, digits_value_after, AllDigits}
-use Rattle.bsi_kinds.specs.Decimals.{begins_minus, decimal_at, decimal_of, digits_of, fraction, mantissa_of, negative, positive, raised_digits_of, whole_part, without_minus}
-use Rattle.bsi_kinds.specs.Texts.{decimal_text, last_digits, places_text, sign_text, units_text}
+use Rattle.bsi_kinds.specs.Decimals.{begins_minus, decimal_at, decimal_of, fraction, integer_digits, mantissa_of, negative, positive, raised_digits_of, spelled_digits, without_minus}
+use Rattle.bsi_kinds.specs.DecimalTexts.{decimal_text, last_digits, places_text, sign_text, units_text}
 use Rattle.bsi_kinds.proofs.Cuts.{after_is, after_none, before_is, before_none, digits_lack, Lacks}
 use Rattle.bsi_kinds.proofs.Scaling.{value_after_is}
 use Rattle.bsi_kinds.proofs.Scanning.{value_after-append}
@@ -37,24 +37,24 @@ no_minus_byte : (d : ℕ) → is_ascii_digit d ≡ true → (d == 45) ≡ false
 no_minus_byte d is = let range = digit_range d is in ne_eqb d 45 (λ e. omega arith)
 
 -- digits in two parts
-from_parts : (whole part : List ℕ) → 0 < length whole → list_all is_ascii_digit whole ≡ true → list_all is_ascii_digit part ≡ true
-    → digits_from whole part ≡ Some (record { value = digits_value 10 (whole ++ part); places = length part })
-from_parts whole part some first second =
-    let there : nat_lt 0 (length (whole ++ part)) ≡ true = lt-ltb _ _ (omega (arith, length-append whole part)) in
-    let all : list_all is_ascii_digit (whole ++ part) ≡ true = list_all-append is_ascii_digit whole part ∙ and_from _ _ first second in
-    ap (λ b. if b then Some (record { value = digits_value 10 (whole ++ part); places = length part }) else None) (and_from _ _ there all)
+from_parts : (whole decimals : List ℕ) → 0 < length whole → list_all is_ascii_digit whole ≡ true → list_all is_ascii_digit decimals ≡ true
+    → digits_from whole decimals ≡ Some (record { value = digits_value 10 (whole ++ decimals); places = length decimals })
+from_parts whole decimals some first second =
+    let there : nat_lt 0 (length (whole ++ decimals)) ≡ true = lt-ltb _ _ (omega (arith, length-append whole decimals)) in
+    let all : list_all is_ascii_digit (whole ++ decimals) ≡ true = list_all-append is_ascii_digit whole decimals ∙ and_from _ _ first second in
+    ap (λ b. if b then Some (record { value = digits_value 10 (whole ++ decimals); places = length decimals }) else None) (and_from _ _ there all)
 
-with_point : (whole part : List ℕ) → 0 < length whole → list_all is_ascii_digit whole ≡ true → list_all is_ascii_digit part ≡ true
-    → mantissa_of 46 (whole ++ 46 ∷ part) ≡ Some (record { value = digits_value 10 (whole ++ part); places = length part })
-with_point whole part some first second =
-    let before : whole_part 46 (whole ++ 46 ∷ part) ≡ whole = before_is (λ byte. byte == 46) whole part 46 (no_point whole first) refl in
-    let behind : fraction 46 (whole ++ 46 ∷ part) ≡ part = after_is (λ byte. byte == 46) whole part 46 (no_point whole first) refl in
-    ap₂ (λ w f. digits_from w f) before behind ∙ from_parts whole part some first second
+with_point : (whole decimals : List ℕ) → 0 < length whole → list_all is_ascii_digit whole ≡ true → list_all is_ascii_digit decimals ≡ true
+    → mantissa_of 46 (whole ++ 46 ∷ decimals) ≡ Some (record { value = digits_value 10 (whole ++ decimals); places = length decimals })
+with_point whole decimals some first second =
+    let before : integer_digits 46 (whole ++ 46 ∷ decimals) ≡ whole = before_is (λ byte. byte == 46) whole decimals 46 (no_point whole first) refl in
+    let behind : fraction 46 (whole ++ 46 ∷ decimals) ≡ decimals = after_is (λ byte. byte == 46) whole decimals 46 (no_point whole first) refl in
+    ap₂ (λ w f. digits_from w f) before behind ∙ from_parts whole decimals some first second
 
 without_point : (whole : List ℕ) → 0 < length whole → list_all is_ascii_digit whole ≡ true
     → mantissa_of 46 whole ≡ Some (record { value = digits_value 10 whole; places = 0 })
 without_point whole some first =
-    let before : whole_part 46 whole ≡ whole = before_none (λ byte. byte == 46) whole (no_point whole first) in
+    let before : integer_digits 46 whole ≡ whole = before_none (λ byte. byte == 46) whole (no_point whole first) in
     let behind : fraction 46 whole ≡ [] = after_none (λ byte. byte == 46) whole (no_point whole first) in
     ap₂ (λ w f. digits_from w f) before behind ∙ from_parts whole [] some first refl
     ∙ ap (λ ds. Some (record { value = digits_value 10 ds; places = 0 })) (append-nil whole)
@@ -107,7 +107,7 @@ text_spells p (pos m) small =
     let none : sign_text (pos m) ≡ [] = ap (λ b. if b then 45 ∷ [] else []) (le-ltb m 0 (omega arith)) in
     let sign = plain_sign (decimal (m / 10 ^ p)) (places_text p (m % 10 ^ p)) (front_is p m fits).1 (front_is p m fits).0 in
     ap (λ s. decimal_of 46 (s ++ units_text p m)) none
-    ∙ ap₂ (λ b t. option_map (if b then negative else positive) (digits_of 46 t)) sign.0 sign.1
+    ∙ ap₂ (λ b t. option_map (if b then negative else positive) (spelled_digits 46 t)) sign.0 sign.1
     ∙ ap (λ found. option_map positive (option_or found (raised_digits_of 46 (units_text p m)))) (units_spell p m fits)
 text_spells p (negsuc k) small =
     let fits : suc k < 10 ^ 64 = omega arith in

@@ -67,39 +67,39 @@ zeros_are (d ∷ ds) all =
 
 -- digits by the parts of their text
 abbrev pub digits_from : List ℕ → List ℕ → Option Digits
-digits_from whole part =
-    if nat_lt 0 (length (whole ++ part)) && list_all is_ascii_digit (whole ++ part)
-    then Some (record { value = digits_value 10 (whole ++ part); places = length part }) else None
+digits_from whole decimals =
+    if nat_lt 0 (length (whole ++ decimals)) && list_all is_ascii_digit (whole ++ decimals)
+    then Some (record { value = digits_value 10 (whole ++ decimals); places = length decimals }) else None
 
 -- the digits up to the last place that counts, and those behind them
-value_parts : (whole part kept rest : List ℕ) → kept ++ rest ≡ part
-    → digits_value 10 (whole ++ part) ≡ digits_value_after 10 (digits_value 10 whole) kept * 10 ^ length rest + digits_value 10 rest
-value_parts whole part kept rest are =
-    value_after-append 0 whole part ∙ ap (λ ds. digits_value_after 10 (digits_value 10 whole) ds) (sym are)
-    ∙ value_after-append (digits_value 10 whole) kept rest
-    ∙ value_after_is (digits_value_after 10 (digits_value 10 whole) kept) rest
+value_parts : (whole decimals leading rest : List ℕ) → leading ++ rest ≡ decimals
+    → digits_value 10 (whole ++ decimals) ≡ digits_value_after 10 (digits_value 10 whole) leading * 10 ^ length rest + digits_value 10 rest
+value_parts whole decimals leading rest are =
+    value_after-append 0 whole decimals ∙ ap (λ ds. digits_value_after 10 (digits_value 10 whole) ds) (sym are)
+    ∙ value_after-append (digits_value 10 whole) leading rest
+    ∙ value_after_is (digits_value_after 10 (digits_value 10 whole) leading) rest
 
 -- what was counted, capped at the end of each step
-counted : (n m k : ℕ) (kept : List ℕ) → 0 < k
-    → min (min (digits_value_after 10 (min n m) kept) m * k) m ≡ min (digits_value_after 10 n kept * k) m
-counted n m k kept some =
-    ap (λ u. min (u * k) m) (value_after_capped n m kept) ∙ times_capped (digits_value_after 10 n kept) m k some
+counted : (n m k : ℕ) (leading : List ℕ) → 0 < k
+    → min (min (digits_value_after 10 (min n m) leading) m * k) m ≡ min (digits_value_after 10 n leading * k) m
+counted n m k leading some =
+    ap (λ u. min (u * k) m) (value_after_capped n m leading) ∙ times_capped (digits_value_after 10 n leading) m k some
 
-module _ (whole part kept rest : List ℕ) (p : ℕ) (are : kept ++ rest ≡ part) (long : length kept ≡ min (length part) p)
+module _ (whole decimals leading rest : List ℕ) (p : ℕ) (are : leading ++ rest ≡ decimals) (long : length leading ≡ min (length decimals) p)
     (all : list_all is_ascii_digit rest ≡ true) where
-  lengths : length kept + length rest ≡ length part
-  lengths = sym (length-append kept rest) ∙ ap (λ ds. length {A = ℕ} ds) are
+  lengths : length leading + length rest ≡ length decimals
+  lengths = sym (length-append leading rest) ∙ ap (λ ds. length {A = ℕ} ds) are
 
   abbrev counted_of : ℕ
-  counted_of = digits_value_after 10 (digits_value 10 whole) kept
+  counted_of = digits_value_after 10 (digits_value 10 whole) leading
 
   abbrev value_of : ℕ
-  value_of = digits_value 10 (whole ++ part)
+  value_of = digits_value 10 (whole ++ decimals)
 
   value_is : value_of ≡ counted_of * 10 ^ length rest + digits_value 10 rest
-  value_is = value_parts whole part kept rest are
+  value_is = value_parts whole decimals leading rest are
 
-  no_rest : length part < p → value_of ≡ counted_of
+  no_rest : length decimals < p → value_of ≡ counted_of
   no_rest few =
       let none : length rest ≡ 0 = omega (arith, lengths) in
       let one : 10 ^ length rest ≡ 1 = ap (λ k. 10 ^ k) none in
@@ -107,70 +107,70 @@ module _ (whole part kept rest : List ℕ) (p : ℕ) (are : kept ++ rest ≡ par
       let times : counted_of * 10 ^ length rest ≡ counted_of * 1 = ap (λ k. counted_of * k) one in
       omega (arith, value_is, times, zero_left, one)
 
-  units_few : length part < p → counted_of * 10 ^ (p - length kept) ≡ value_of * 10 ^ p / 10 ^ length part
+  units_few : length decimals < p → counted_of * 10 ^ (p - length leading) ≡ value_of * 10 ^ p / 10 ^ length decimals
   units_few few =
-      let same : length kept ≡ length part = omega arith in
-      ap (λ k. counted_of * 10 ^ (p - k)) same ∙ sym (scaled_up counted_of (length part) p (omega arith))
-      ∙ ap (λ v. v * 10 ^ p / 10 ^ length part) (sym (no_rest few))
+      let same : length leading ≡ length decimals = omega arith in
+      ap (λ k. counted_of * 10 ^ (p - k)) same ∙ sym (scaled_up counted_of (length decimals) p (omega arith))
+      ∙ ap (λ v. v * 10 ^ p / 10 ^ length decimals) (sym (no_rest few))
 
-  exact_few : length part < p → list_all (λ byte. byte == 48) rest ≡ (value_of * 10 ^ p % 10 ^ length part == 0)
+  exact_few : length decimals < p → list_all (λ byte. byte == 48) rest ≡ (value_of * 10 ^ p % 10 ^ length decimals == 0)
   exact_few few =
       let none : length rest ≡ 0 = omega (arith, lengths) in
       let zero_left : digits_value 10 rest < 10 ^ length rest = value_below rest all in
       let nothing : digits_value 10 rest ≡ 0 = omega (arith, zero_left, ap (λ k. 10 ^ k) none) in
-      zeros_are rest all ∙ ap (λ v. v == 0) (nothing ∙ sym (nothing_left value_of (length part) p (omega arith)))
+      zeros_are rest all ∙ ap (λ v. v == 0) (nothing ∙ sym (nothing_left value_of (length decimals) p (omega arith)))
 
-  long_rest : p ≤ length part → value_of ≡ counted_of * 10 ^ (length part - p) + digits_value 10 rest
+  long_rest : p ≤ length decimals → value_of ≡ counted_of * 10 ^ (length decimals - p) + digits_value 10 rest
   long_rest many =
-      let behind : length rest ≡ length part - p = omega (arith, lengths) in
+      let behind : length rest ≡ length decimals - p = omega (arith, lengths) in
       value_is ∙ ap (λ k. counted_of * 10 ^ k + digits_value 10 rest) behind
 
-  low : p ≤ length part → digits_value 10 rest < 10 ^ (length part - p)
+  low : p ≤ length decimals → digits_value 10 rest < 10 ^ (length decimals - p)
   low many =
-      let behind : length rest ≡ length part - p = omega (arith, lengths) in
+      let behind : length rest ≡ length decimals - p = omega (arith, lengths) in
       omega (arith, value_below rest all, ap (λ k. 10 ^ k) behind)
 
-  units_many : p ≤ length part → counted_of * 10 ^ (p - length kept) ≡ value_of * 10 ^ p / 10 ^ length part
+  units_many : p ≤ length decimals → counted_of * 10 ^ (p - length leading) ≡ value_of * 10 ^ p / 10 ^ length decimals
   units_many many =
-      let none : p - length kept ≡ 0 = omega arith in
+      let none : p - length leading ≡ 0 = omega arith in
       let once : counted_of * 10 ^ 0 ≡ counted_of = omega arith in
       ap (λ k. counted_of * 10 ^ k) none ∙ once
-      ∙ sym (scaled_down counted_of (digits_value 10 rest) (length part) p many (low many))
-      ∙ ap (λ v. v * 10 ^ p / 10 ^ length part) (sym (long_rest many))
+      ∙ sym (scaled_down counted_of (digits_value 10 rest) (length decimals) p many (low many))
+      ∙ ap (λ v. v * 10 ^ p / 10 ^ length decimals) (sym (long_rest many))
 
-  exact_many : p ≤ length part → list_all (λ byte. byte == 48) rest ≡ (value_of * 10 ^ p % 10 ^ length part == 0)
+  exact_many : p ≤ length decimals → list_all (λ byte. byte == 48) rest ≡ (value_of * 10 ^ p % 10 ^ length decimals == 0)
   exact_many many =
       zeros_are rest all ∙ times_zero (digits_value 10 rest) (10 ^ p) (ten_some p)
-      ∙ ap (λ v. v == 0) (sym (left_over counted_of (digits_value 10 rest) (length part) p many (low many))
-      ∙ ap (λ v. v * 10 ^ p % 10 ^ length part) (sym (long_rest many)))
+      ∙ ap (λ v. v == 0) (sym (left_over counted_of (digits_value 10 rest) (length decimals) p many (low many))
+      ∙ ap (λ v. v * 10 ^ p % 10 ^ length decimals) (sym (long_rest many)))
 
-  units_are : counted_of * 10 ^ (p - length kept) ≡ value_of * 10 ^ p / 10 ^ length part
-  units_are = elim (cases_lt (length part) p) [ inl few ↦ units_few few | inr many ↦ units_many many ]
+  units_are : counted_of * 10 ^ (p - length leading) ≡ value_of * 10 ^ p / 10 ^ length decimals
+  units_are = elim (cases_lt (length decimals) p) [ inl few ↦ units_few few | inr many ↦ units_many many ]
 
-  exact_is : list_all (λ byte. byte == 48) rest ≡ (value_of * 10 ^ p % 10 ^ length part == 0)
-  exact_is = elim (cases_lt (length part) p) [ inl few ↦ exact_few few | inr many ↦ exact_many many ]
+  exact_is : list_all (λ byte. byte == 48) rest ≡ (value_of * 10 ^ p % 10 ^ length decimals == 0)
+  exact_is = elim (cases_lt (length decimals) p) [ inl few ↦ exact_few few | inr many ↦ exact_many many ]
 
   -- the parts of a text come to its digits, at so many places
-  pub scan_of : (u1 u2 : ℕ) → list_all is_ascii_digit whole ≡ true → list_all is_ascii_digit kept ≡ true → 0 < length whole + length part
+  pub scan_of : (u1 u2 : ℕ) → list_all is_ascii_digit whole ≡ true → list_all is_ascii_digit leading ≡ true → 0 < length whole + length decimals
       → u1 ≡ min (digits_value_after 10 0 whole) most_scanned
-      → u2 ≡ min (digits_value_after 10 u1 kept) most_scanned
-      → Some (record { units = min (u2 * 10 ^ (p - length kept)) most_scanned; exact = list_all (λ byte. byte == 48) rest })
-      ≡ option_map (scanned p) (digits_from whole part)
+      → u2 ≡ min (digits_value_after 10 u1 leading) most_scanned
+      → Some (record { units = min (u2 * 10 ^ (p - length leading)) most_scanned; exact = list_all (λ byte. byte == 48) rest })
+      ≡ option_map (scanned p) (digits_from whole decimals)
   scan_of u1 u2 whole_digits kept_digits some first second =
-      let places : ℕ = p - length kept in
-      let capped : min (u2 * 10 ^ (p - length kept)) most_scanned ≡ min (value_of * 10 ^ p / 10 ^ length part) most_scanned =
-      ap (λ u. min (u * 10 ^ (p - length kept)) most_scanned)
-      (second ∙ ap (λ u. min (digits_value_after 10 u kept) most_scanned) first)
-      ∙ counted (digits_value_after 10 0 whole) most_scanned (10 ^ (p - length kept)) kept (ten_some (p - length kept))
+      let places : ℕ = p - length leading in
+      let capped : min (u2 * 10 ^ (p - length leading)) most_scanned ≡ min (value_of * 10 ^ p / 10 ^ length decimals) most_scanned =
+      ap (λ u. min (u * 10 ^ (p - length leading)) most_scanned)
+      (second ∙ ap (λ u. min (digits_value_after 10 u leading) most_scanned) first)
+      ∙ counted (digits_value_after 10 0 whole) most_scanned (10 ^ (p - length leading)) leading (ten_some (p - length leading))
       ∙ ap (λ v. min v most_scanned) units_are in
-      let part_digits : list_all is_ascii_digit part ≡ true =
-      ap (list_all is_ascii_digit) (sym are) ∙ list_all-append is_ascii_digit kept rest ∙ and_from _ _ kept_digits all in
-      let digits : list_all is_ascii_digit (whole ++ part) ≡ true =
-      list_all-append is_ascii_digit whole part ∙ and_from _ _ whole_digits part_digits in
-      let there : nat_lt 0 (length (whole ++ part)) ≡ true = lt-ltb _ _ (omega (arith, length-append whole part)) in
-      let test : (nat_lt 0 (length (whole ++ part)) && list_all is_ascii_digit (whole ++ part)) ≡ true = and_from _ _ there digits in
+      let part_digits : list_all is_ascii_digit decimals ≡ true =
+      ap (list_all is_ascii_digit) (sym are) ∙ list_all-append is_ascii_digit leading rest ∙ and_from _ _ kept_digits all in
+      let digits : list_all is_ascii_digit (whole ++ decimals) ≡ true =
+      list_all-append is_ascii_digit whole decimals ∙ and_from _ _ whole_digits part_digits in
+      let there : nat_lt 0 (length (whole ++ decimals)) ≡ true = lt-ltb _ _ (omega (arith, length-append whole decimals)) in
+      let test : (nat_lt 0 (length (whole ++ decimals)) && list_all is_ascii_digit (whole ++ decimals)) ≡ true = and_from _ _ there digits in
       ap₂ (λ a b. Some (record { units = a; exact = b })) capped exact_is
-      ∙ ap (λ b. option_map (scanned p) (if b then Some (record { value = value_of; places = length part }) else None)) (sym test)
+      ∙ ap (λ b. option_map (scanned p) (if b then Some (record { value = value_of; places = length decimals }) else None)) (sym test)
 
 -- what a `Some` says of the test that gives it
 pub some_if : {A : Type 0} (b : Bool) (x y : A) → Some x ≡ (if b then Some y else None) → (b ≡ true) × (x ≡ y)

@@ -1,7 +1,7 @@
--- The words of booleans.
+-- What a contract sees of a `BooleanForm`: the word for false, and the word for true.
 use Rattle.bsi_kinds.specs.Decimals.{Field}
 
--- the word of what is false, and that of what is true
+-- The word for false, and the word for true.
 pub record BooleanWords : Type 0 where
   pub no : Field
   pub yes : Field

@@ -4,15 +4,15 @@ use Rattle.std.specs.Str.{bytes_eq}
 use Rattle.bsi_kinds.specs.Decimals.{Field}
 use Rattle.bsi_kinds.specs.declared.boolean.BooleanForm.{BooleanForm}
 
--- the number of a word: 1 for what is true, 0 for what is false
+-- The number of a word: 1 for true, and 0 for false.
 abbrev pub boolean_number : BooleanForm → Field → Option ℤ
 boolean_number form text =
     if bytes_eq text form.yes then Some (pos 1) else (if bytes_eq text form.no then Some (pos 0) else None)
 
--- a number stands for what is true
+-- The number stands for true.
 abbrev pub is_true : ℤ → Bool
 is_true n = int_lt (pos 0) n
 
--- the word of a number
+-- The word of a number.
 abbrev pub boolean_text : BooleanForm → ℤ → Field
 boolean_text form n = if is_true n then form.yes else form.no

@@ -4,12 +4,13 @@ pub mod Clocks
 pub mod Comparisons
 pub mod Dates
 pub mod Decimals
+pub mod DecimalTexts
 pub mod Dictionaries
-pub mod Exact
+pub mod FieldNumbers
 pub mod Kinds
+pub mod Nulls
 pub mod Places
 pub mod Predicates
 pub mod Rounding
-pub mod Texts
-pub mod TimeTexts
 pub mod Times
+pub mod TimeTexts

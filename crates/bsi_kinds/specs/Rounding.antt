@@ -1,4 +1,4 @@
--- Decimals that are rounded to so many places.
+-- Decimals rounded to some places, half to even (`IsRounded`).
 use Rattle.std.specs.Prelude.{◌≡◌, ◌⊎◌, ℕ, ◌+◌, ◌/◌, ◌%◌, ◌^◌, nat_lt, Bool, not, ◌&&◌, ◌||◌, ◌==◌, if◌then◌else◌, ℤ, pos, ◌+ℤ◌, ◌-ℤ◌, ◌≤ℤ◌, unsigned_abs}
 use Rattle.bsi_kinds.specs.Decimals.{decimal_at, units_beside, Decimal}
 use Rattle.bsi_kinds.specs.declared.decimal.Scanned.{Scanned}
@@ -6,25 +6,26 @@ use Rattle.bsi_kinds.specs.declared.decimal.Scanned.{Scanned}
 abbrev pub twice : ℤ → ℤ
 twice z = z +ℤ z
 
--- a number of units of so many places, and a decimal, both in the same parts, of which a unit has `unit_of`
-abbrev pub unit_of : Decimal → ℤ
-unit_of d = pos (10 ^ d.places)
+-- A unit, a number of units, and a decimal, on one common denominator.
+abbrev pub scaled_unit : Decimal → ℤ
+scaled_unit d = pos (10 ^ d.places)
 
-abbrev pub parts_at : ℕ → Decimal → ℤ → ℤ
-parts_at places d n = units_beside (decimal_at places n) d
+abbrev pub scaled_number : ℕ → Decimal → ℤ → ℤ
+scaled_number places d n = units_beside (decimal_at places n) d
 
-abbrev pub parts_of : ℕ → Decimal → ℤ → ℤ
-parts_of places d n = units_beside d (decimal_at places n)
+abbrev pub scaled_decimal : ℕ → Decimal → ℤ → ℤ
+scaled_decimal places d n = units_beside d (decimal_at places n)
 
--- a decimal rounded to so many places: it lies no further than half a unit from the number, and the number is even if it
--- lies just half a unit from it
+-- A decimal rounded to a number of units, half to even.
 pub record IsRounded (places : ℕ) (d : Decimal) (n : ℤ) : Type 0 where
-  pub low : (twice (parts_at places d n) -ℤ unit_of d) ≤ℤ twice (parts_of places d n)
-  pub high : twice (parts_of places d n) ≤ℤ (twice (parts_at places d n) +ℤ unit_of d)
-  pub even : (twice (parts_of places d n) ≡ twice (parts_at places d n) -ℤ unit_of d)
-      ⊎ (twice (parts_of places d n) ≡ twice (parts_at places d n) +ℤ unit_of d) → unsigned_abs n % 2 ≡ 0
+  -- The decimal is at most half a unit from the number.
+  pub low : (twice (scaled_number places d n) -ℤ scaled_unit d) ≤ℤ twice (scaled_decimal places d n)
+  pub high : twice (scaled_decimal places d n) ≤ℤ (twice (scaled_number places d n) +ℤ scaled_unit d)
+  -- If it is exactly half a unit from the number, the number is even.
+  pub even : (twice (scaled_decimal places d n) ≡ twice (scaled_number places d n) -ℤ scaled_unit d)
+      ⊎ (twice (scaled_decimal places d n) ≡ twice (scaled_number places d n) +ℤ scaled_unit d) → unsigned_abs n % 2 ≡ 0
 
--- the units next to tenths of them: below the half down, above it up, and at the half to the even one
+-- Tenths of a unit are rounded up: above the half, or at the half from an odd number of units.
 abbrev pub goes_up : ℕ → ℕ → Bool → Bool
 goes_up units digit exact = nat_lt 5 digit || ((digit == 5) && (not exact || (units % 2 == 1)))
 

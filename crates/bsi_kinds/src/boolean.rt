@@ -1,4 +1,4 @@
-//! Booleans: a word for each truth value.
+//! Reads booleans, a word for each truth value, as 1 or 0, and writes them.
 
 ghost use Rattle.std.specs.Prelude.{◌≡◌, ◌↔◌, ◌++◌, IsTrue, OnOk};
 ghost use Rattle.bsi_kinds.specs.Booleans.{boolean_number, boolean_text};
@@ -47,7 +47,7 @@ pub fn read_boolean(form: &BooleanForm, text: &[u8]) -> Option<i64>
     }
 }
 
-/// Appends the word of 1 or 0, or a first part of it.
+/// Appends the word of 1 or 0, or a prefix of it.
 pub fn write_boolean(form: &BooleanForm, number: i64, line: &mut Vec<u8>) -> Result<(), NoMemory>
     ensures { OnOk result (line.new.items ≡ line.old.items ++ boolean_text form.now number) }
 {

@@ -1,19 +1,19 @@
-//! Clocks and zones: from the bytes of a field to seconds.
+//! Scans a clock as seconds and what follows their point (`ScannedTime`), and a zone as the seconds to subtract.
 
 ghost use Rattle.std.specs.Prelude.{◌≡◌, ℕ, ◌<◌, ◌≤◌, ◌^◌, option_map, IfSome};
 ghost use Rattle.jiff_core.specs.Calendar.{IsWithin};
-ghost use Rattle.bsi_kinds.specs.Clocks.{clock_of, minutes_of, offset_of, part_behind, scanned_time, seconds_behind, two_digits, whole_moment, zone_of, IsWithinSeconds};
+ghost use Rattle.bsi_kinds.specs.Clocks.{clock_of, minutes_of, scanned_time, seconds_behind, subsecond_behind, two_digits, whole_moment, zone_of, zone_offset, IsWithinSeconds};
 ghost use Rattle.bsi_kinds.specs.Decimals.{scanned};
 
-use crate::decimal::{Scanned, read_part, scan_mantissa, split_at_byte};
+use crate::decimal::{Scanned, read_short_number, scan_mantissa, split_at_byte};
 
 /// A time at so many places.
 #[derive(Clone, Copy, Debug, PartialEq, Eq)]
 pub(crate) struct ScannedTime {
     /// Whole seconds.
     pub(crate) seconds: i64,
-    /// What stands behind their point, in units.
-    pub(crate) part: Scanned,
+    /// What follows their point, in units.
+    pub(crate) subsecond: Scanned,
 }
 
 /// Scans a clock as seconds since midnight.
@@ -26,7 +26,7 @@ pub(crate) fn scan_clock(places: u32, text: &[u8]) -> Option<ScannedTime>
     scan_seconds(places, read_minutes(minutes)?, behind)
 }
 
-/// Scans what stands behind hours and minutes.
+/// Scans what follows hours and minutes.
 fn scan_seconds(places: u32, minutes: u16, text: &[u8]) -> Option<ScannedTime>
     requires places { places ≤ 6 }
     requires minutes { minutes < 1440 }
@@ -39,18 +39,18 @@ fn scan_seconds(places: u32, minutes: u16, text: &[u8]) -> Option<ScannedTime>
         [b':', rest @ ..] => {
             let (seconds, behind) = rest.split_at(rest.len().min(2));
             let seconds = minutes * 60 + i64::from(read_two_digits(60, seconds)?);
-            let part = scan_part(places, behind)?;
-            Some(ScannedTime { seconds, part })
+            let subsecond = scan_subsecond(places, behind)?;
+            Some(ScannedTime { seconds, subsecond })
         }
         _ => None,
     }
 }
 
-/// Scans what stands behind whole seconds.
-fn scan_part(places: u32, text: &[u8]) -> Option<Scanned>
+/// Scans what follows whole seconds.
+fn scan_subsecond(places: u32, text: &[u8]) -> Option<Scanned>
     requires { places ≤ 6 }
-    ensures value { result ≡ option_map (scanned places) (part_behind text.now) }
-    ensures few { IfSome result (λ part. part.units < 10 ^ places) }
+    ensures value { result ≡ option_map (scanned places) (subsecond_behind text.now) }
+    ensures few { IfSome result (λ subsecond. subsecond.units < 10 ^ places) }
 {
     match text {
         [] => Some(Scanned {
@@ -66,20 +66,20 @@ fn scan_part(places: u32, text: &[u8]) -> Option<Scanned>
 pub(crate) fn whole_seconds(seconds: i64) -> ScannedTime
     ensures value { (places : ℕ) → result ≡ scanned_time places (whole_moment seconds) }
     ensures seconds { result.seconds ≡ seconds }
-    ensures part { result.part.units ≡ 0 }
+    ensures subsecond { result.subsecond.units ≡ 0 }
 {
     ScannedTime {
         seconds,
-        part: Scanned {
+        subsecond: Scanned {
             units: 0,
             exact: true,
         },
     }
 }
 
-/// Reads the seconds that are taken off a clock.
+/// Reads the seconds to subtract from a clock.
 pub(crate) fn read_offset(utc: bool, zone: &[u8]) -> Option<i64>
-    ensures value { result ≡ offset_of utc zone.now }
+    ensures value { result ≡ zone_offset utc zone.now }
     ensures few { IfSome result (IsWithin 86400) }
 {
     if utc {
@@ -117,6 +117,6 @@ fn read_two_digits(end: u16, text: &[u8]) -> Option<u16>
     ensures value { result ≡ two_digits end text.now }
     ensures small { IfSome result (λ n. n < end) }
 {
-    let number = read_part(2, 2, text)?;
+    let number = read_short_number(2, 2, text)?;
     if number < end { Some(number) } else { None }
 }

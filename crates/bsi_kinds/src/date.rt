@@ -8,7 +8,7 @@ ghost use Rattle.bsi_kinds.specs.Dates.{date_number, date_text, day_number, ymd_
 ghost use Rattle.bsi_kinds.specs.declared.date.DateOrder.TheVariants.{YearFirst};
 
 use crate::NoMemory;
-use crate::decimal::{read_part, split_at_byte};
+use crate::decimal::{read_short_number, split_at_byte};
 use crate::decimal_text::write_last_digits;
 use jiff_core::civil::Date;
 
@@ -32,6 +32,12 @@ pub struct DateForm {
     pub sign: u8,
 }
 
+/// Dates as 2026-01-31.
+pub const ISO_DATE: DateForm = DateForm {
+    order: DateOrder::YearFirst,
+    sign: b'-',
+};
+
 /// Reads a date as its number of days since 1970-01-01. `None` stands for a text that is not written so, and for a day that
 /// the calendar has not. It allocates no memory.
 pub fn read_date(form: DateForm, text: &[u8]) -> Option<i64>
@@ -52,24 +58,24 @@ fn read_ymd(year: &[u8], month: &[u8], day: &[u8]) -> Option<i64>
     ensures value { result ≡ option_and_then day_number (ymd_of year.now month.now day.now) }
     ensures within { IfSome result IsEpochDay }
 {
-    let year = read_part(4, 4, year)?;
-    let month = read_part(1, 2, month)?;
-    let day = read_part(1, 2, day)?;
+    let year = read_short_number(4, 4, year)?;
+    let month = read_short_number(1, 2, month)?;
+    let day = read_short_number(1, 2, day)?;
     let date = Date::new(year as i16, month as i8, day as i8).ok()?;
     Some(i64::from(date.to_unix_epoch_day()))
 }
 
-/// Appends the date of a day, or a first part of it.
+/// Appends the date of a day, or a prefix of it.
 pub fn write_date(day: i64, line: &mut Vec<u8>) -> Result<(), NoMemory>
     requires { IsEpochDay day }
     ensures { OnOk result (WritesDate day line.old.items line.new.items) }
 {
     let date = Date::from_unix_epoch_day(day).unwrap();
-    write_parts(date, line)
+    write_ymd(date, line)
 }
 
-/// Appends a date, or a first part of it.
-pub(crate) fn write_parts(date: Date, line: &mut Vec<u8>) -> Result<(), NoMemory>
+/// Appends a date, or a prefix of it.
+pub(crate) fn write_ymd(date: Date, line: &mut Vec<u8>) -> Result<(), NoMemory>
     ensures { OnOk result (line.new.items ≡ line.old.items ++ date_text date) }
 {
     if date.year < 0 {

@@ -5,11 +5,11 @@ ghost use Rattle.std.specs.Char.{is_ascii_digit};
 ghost use Rattle.std.specs.List.{after_first, before_first, list_all, position};
 ghost use Rattle.std.specs.Str.Parse.{digits_value_after};
 ghost use Rattle.bsi_kinds.specs.Comparisons.{ComparesAs};
-ghost use Rattle.bsi_kinds.specs.Exact.{decimal_compared};
-ghost use Rattle.bsi_kinds.specs.Decimals.{begins_minus, decimal_at, decimal_entry, decimal_number, decimal_of, decimal_order, digits_of, exponent_of, first_from, fraction, is_exponent_sign, mantissa_of, most_scanned, part_of, raised_digits_of, scanned, scanned_entry, whole_part, without_minus, StandsAt};
+ghost use Rattle.bsi_kinds.specs.FieldNumbers.{decimal_compared};
+ghost use Rattle.bsi_kinds.specs.Decimals.{begins_minus, decimal_at, decimal_entry, decimal_number, decimal_of, decimal_order, exponent_of, first_from, fraction, integer_digits, is_exponent_sign, mantissa_of, most_scanned, raised_digits_of, scanned, scanned_entry, short_number, spelled_digits, without_minus, Represents};
 
 use crate::comparison::{Comparison, bring_down};
-use bsi_orders::Op;
+use bsi_digits::Op;
 
 /// The most places of a decimal.
 pub const MAX_PLACES: u32 = 18;
@@ -60,12 +60,12 @@ pub fn compare_decimal(op: Op, point: u8, places: u32, text: &[u8]) -> Option<Co
 
 /// States that the number of a text stands for its decimal, and that a text without one stands for no number's.
 pub fn a_number_is_its_decimal()
-    ensures stands { (point places : ℕ) → (text : List ℕ) → (n : ℤ) →
+    ensures represents { (point places : ℕ) → (text : List ℕ) → (n : ℤ) →
         decimal_number point places text ≡ Some n →
-        MatchOption (decimal_of point text) ⊥ (StandsAt places n) }
+        MatchOption (decimal_of point text) ⊥ (Represents places n) }
     ensures none { (point places : ℕ) → (text : List ℕ) → (n : ℤ) →
         decimal_number point places text ≡ None →
-        MatchOption (decimal_of point text) ⊤ (λ d. StandsAt places n d → ⊥) }
+        MatchOption (decimal_of point text) ⊤ (λ d. Represents places n d → ⊥) }
 {}
 
 /// Returns the first number that does not stand for less than what was scanned.
@@ -79,7 +79,7 @@ fn first_from(negative: bool, scanned: Scanned) -> i128
     if scanned.exact { units } else { units + 1 }
 }
 
-/// Splits a minus sign from a text: whether there is one, and what stands behind it.
+/// Splits a minus sign from a text: whether there is one, and what follows it.
 pub(crate) fn split_sign(text: &[u8]) -> (bool, &[u8])
     ensures negative { result.0 ≡ begins_minus text.now }
     ensures digits { result.1.now ≡ without_minus text.now }
@@ -93,11 +93,11 @@ pub(crate) fn split_sign(text: &[u8]) -> (bool, &[u8])
 /// Scans digits with at most one point among them, and an exponent behind them or none, at so many places.
 pub fn scan(point: u8, places: u32, text: &[u8]) -> Option<Scanned>
     requires { places ≤ 19 }
-    ensures { result ≡ option_map (scanned places) (digits_of point text.now) }
+    ensures { result ≡ option_map (scanned places) (spelled_digits point text.now) }
 {
     match scan_mantissa(point, places, text) {
         None => scan_raised(point, places, text),
-        found => found,
+        mantissa => mantissa,
     }
 }
 
@@ -122,9 +122,9 @@ pub(crate) fn read_exponent(text: &[u8]) -> Option<i32>
     ensures small { IfSome result (λ e. (neg_ℤ (pos 9999) ≤ℤ e) × (e ≤ℤ pos 9999)) }
 {
     match text {
-        [b'-', digits @ ..] => Some(-i32::from(read_part(1, 4, digits)?)),
-        [b'+', digits @ ..] => Some(i32::from(read_part(1, 4, digits)?)),
-        digits => Some(i32::from(read_part(1, 4, digits)?)),
+        [b'-', digits @ ..] => Some(-i32::from(read_short_number(1, 4, digits)?)),
+        [b'+', digits @ ..] => Some(i32::from(read_short_number(1, 4, digits)?)),
+        digits => Some(i32::from(read_short_number(1, 4, digits)?)),
     }
 }
 
@@ -138,8 +138,8 @@ fn scan_before_point(point: u8, before: u32, text: &[u8]) -> Option<Scanned>
     if whole.is_empty() && fraction.is_empty() {
         return None;
     }
-    let (kept, rest) = whole.split_at(whole.len().saturating_sub(before as usize));
-    let units = read_digits(0, kept)?;
+    let (leading, rest) = whole.split_at(whole.len().saturating_sub(before as usize));
+    let units = read_digits(0, leading)?;
     if !are_digits(rest) || !are_digits(fraction) {
         return None;
     }
@@ -158,23 +158,23 @@ pub(crate) fn scan_mantissa(point: u8, places: u32, text: &[u8]) -> Option<Scann
     if whole.is_empty() && fraction.is_empty() {
         return None;
     }
-    let (kept, rest) = fraction.split_at(fraction.len().min(places as usize));
+    let (leading, rest) = fraction.split_at(fraction.len().min(places as usize));
     let units = read_digits(0, whole)?;
-    let units = read_digits(units, kept)?;
+    let units = read_digits(units, leading)?;
     if !are_digits(rest) {
         return None;
     }
-    let missing = places - kept.len() as u32;
+    let missing = places - leading.len() as u32;
     Some(Scanned {
         units: units.saturating_mul(10u64.saturating_pow(missing)),
         exact: are_zeros(rest),
     })
 }
 
-/// Splits a text at the first byte of this kind: what stands before it, and what stands behind it.
-#[tactic(auto, using(crate::proofs::Places::first_place))]
+/// Splits a text at the first byte of this kind: what precedes it, and what follows it.
+#[tactic(auto, using(crate::proofs::Places::first_position))]
 pub(crate) fn split_at_byte(point: u8, text: &[u8]) -> (&[u8], &[u8])
-    ensures whole { result.0.now ≡ whole_part point text.now }
+    ensures whole { result.0.now ≡ integer_digits point text.now }
     ensures fraction { result.1.now ≡ fraction point text.now }
 {
     let at = find_byte(point, text).unwrap_or(text.len());
@@ -185,8 +185,8 @@ pub(crate) fn split_at_byte(point: u8, text: &[u8]) -> (&[u8], &[u8])
     }
 }
 
-/// Splits a text at the letter e of an exponent: what stands before it, and what stands behind it.
-#[tactic(auto, using(crate::proofs::Places::first_place))]
+/// Splits a text at the letter e of an exponent: what precedes it, and what follows it.
+#[tactic(auto, using(crate::proofs::Places::first_position))]
 pub(crate) fn split_at_exponent(text: &[u8]) -> (&[u8], &[u8])
     ensures before { result.0.now ≡ before_first is_exponent_sign text.now }
     ensures behind { result.1.now ≡ after_first is_exponent_sign text.now }
@@ -207,9 +207,9 @@ fn find_exponent(text: &[u8]) -> Option<usize>
 }
 
 /// Reads a number of so many digits, at most four.
-pub(crate) fn read_part(least: usize, most: usize, text: &[u8]) -> Option<u16>
+pub(crate) fn read_short_number(least: usize, most: usize, text: &[u8]) -> Option<u16>
     requires { most ≤ 4 }
-    ensures value { result ≡ part_of least most text.now }
+    ensures value { result ≡ short_number least most text.now }
     ensures small { IfSome result (λ n. n < 10 ^ most) }
 {
     if text.len() < least || text.len() > most {
@@ -220,10 +220,10 @@ pub(crate) fn read_part(least: usize, most: usize, text: &[u8]) -> Option<u16>
 }
 
 /// Finds the first byte of this kind.
-fn find_byte(wanted: u8, text: &[u8]) -> Option<usize>
-    ensures { result ≡ position (λ byte. byte == wanted) text.now }
+fn find_byte(target: u8, text: &[u8]) -> Option<usize>
+    ensures { result ≡ position (λ byte. byte == target) text.now }
 {
-    text.iter().position(|byte| *byte == wanted)
+    text.iter().position(|byte| *byte == target)
 }
 
 /// Reads digits that follow those of a number. The greatest number stands for all that are as great or greater.

@@ -1,4 +1,4 @@
-//! Decimals: how many places their digits take.
+//! Counts the decimal places that a text takes (`count_places`), and tests whether it spells a decimal.
 
 ghost use Rattle.std.specs.Prelude.{◌≡◌, ◌^◌, ◌<◌, is_some, neg_ℤ, pos, ◌≤ℤ◌};
 ghost use Rattle.bsi_kinds.specs.Decimals.{decimal_of};

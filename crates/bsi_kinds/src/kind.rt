@@ -1,8 +1,8 @@
-//! Kinds: what the numbers of a column stand for.
+//! The kind of a column (`Kind`): what its numbers stand for, so how fields and constants are read and numbers written.
 
 ghost use Rattle.std.specs.Prelude.{◌≡◌, ◌↔◌, ℤ, None, IsTrue, OnOk, option_map, MatchOption, IfNone, IfSome};
 ghost use Rattle.bsi_kinds.specs.Comparisons.{comparison};
-ghost use Rattle.bsi_kinds.specs.Exact.{comparison_of, number_of};
+ghost use Rattle.bsi_kinds.specs.FieldNumbers.{comparison_of, field_number};
 ghost use Rattle.bsi_kinds.specs.Kinds.{value_of, ComparesValues, IsKind, IsNumber, IsSpelled, Writes};
 
 use crate::NoMemory;
@@ -14,7 +14,7 @@ use crate::decimal_text::write_decimal;
 use crate::dictionary::Dictionary;
 use crate::time::{TimeForm, compare_time, read_time};
 use crate::time_text::write_time;
-use bsi_orders::Op;
+use bsi_digits::Op;
 
 /// What the numbers of a column stand for. Whole numbers are decimals of no places.
 #[derive(Drop)]
@@ -36,7 +36,7 @@ impl Kind {
     /// Reads a field as the number that stands for its value, or returns none if no number does. It allocates no memory.
     pub fn read(&self, point: u8, text: &[u8]) -> Option<i64>
         requires { IsKind self.now }
-        ensures exact { result ≡ number_of self.now point text.now }
+        ensures exact { result ≡ field_number self.now point text.now }
         ensures some { IfSome result (IsSpelled self.now point text.now) }
         ensures number { IfSome result (IsNumber self.now) }
         ensures none { IfNone result ((n : ℤ) → IsSpelled self.now point text.now n → ⊥) }
@@ -82,7 +82,7 @@ impl Kind {
         }
     }
 
-    /// Appends the text of the value that a number stands for, or a first part of it.
+    /// Appends the text of the value that a number stands for, or a prefix of it.
     pub fn write(&self, number: i64, line: &mut Vec<u8>) -> Result<(), NoMemory>
         requires kind { IsKind self.now }
         requires number { IsNumber self.now number }

@@ -17,9 +17,9 @@ mod time;
 mod time_text;
 
 pub use boolean::{BooleanForm, read_boolean, write_boolean};
-pub use bsi_orders::Op;
+pub use bsi_digits::Op;
 pub use comparison::Comparison;
-pub use date::{DateForm, DateOrder, a_date_text_spells_its_day, read_date, write_date};
+pub use date::{DateForm, DateOrder, ISO_DATE, a_date_text_spells_its_day, read_date, write_date};
 pub use decimal::{
     MAX_PLACES, Scanned, a_number_is_its_decimal, compare_decimal, read_decimal, scan,
 };

@@ -1,4 +1,4 @@
-//! Decimals that are rounded to so many places.
+//! Reads a decimal as the nearest number of so many places, half to even (`read_rounded`).
 
 ghost use Rattle.std.specs.Prelude.{◌≡◌, ◌≤◌, ⊤, ℤ, unsigned_abs, MatchOption, IfNone, IfSome};
 ghost use Rattle.bsi_kinds.specs.Decimals.{decimal_of};
@@ -18,7 +18,7 @@ pub fn read_rounded(point: u8, places: u32, text: &[u8]) -> Option<i64>
 {
     match read_decimal(point, places, text) {
         None => round(point, places, text),
-        found => found,
+        exact => exact,
     }
 }
 

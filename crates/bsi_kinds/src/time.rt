@@ -7,13 +7,13 @@ ghost use Rattle.jiff_core.specs.Calendar.{IsEpochDay, IsWithin};
 ghost use Rattle.bsi_kinds.specs.Clocks.{scanned_time, IsWithinSeconds};
 ghost use Rattle.bsi_kinds.specs.Comparisons.{ComparesAs};
 ghost use Rattle.bsi_kinds.specs.Decimals.{decimal_at, decimal_order};
-ghost use Rattle.bsi_kinds.specs.Exact.{time_compared};
-ghost use Rattle.bsi_kinds.specs.Times.{first_at, from_first, is_clock_sign, is_epoch_day, is_zone_sign, moment_of, moment_on, most_seconds, places_of, time_entry, time_of, units_at, IsTimeNumber, SpellsTime};
+ghost use Rattle.bsi_kinds.specs.FieldNumbers.{time_compared};
+ghost use Rattle.bsi_kinds.specs.Times.{first_at, from_first, is_clock_sign, is_epoch_day, is_zone_sign, moment_of, moment_on, most_seconds, time_entry, time_of, unit_places, units_at, IsTimeNumber, SpellsTime};
 
 use crate::clock::{ScannedTime, read_offset, scan_clock, whole_seconds};
 use crate::comparison::{Comparison, bring_down};
 use crate::date::{DateForm, read_date};
-use bsi_orders::Op;
+use bsi_digits::Op;
 use jiff_core::civil::Date;
 
 /// The seconds of a day.
@@ -31,11 +31,11 @@ pub enum TimeUnit {
 }
 
 impl TimeUnit {
-    ghost use Rattle.bsi_kinds.specs.Times.{places_of};
+    ghost use Rattle.bsi_kinds.specs.Times.{unit_places};
 
     /// Returns how many digits behind the point of seconds a unit counts.
     pub fn places(self) -> u32
-        ensures places { result ≡ places_of self }
+        ensures places { result ≡ unit_places self }
         ensures few { result ≤ 6 }
     {
         match self {
@@ -47,7 +47,7 @@ impl TimeUnit {
 
     /// Returns how many units a second has.
     pub(crate) fn per_second(self) -> i64
-        ensures units { result ≡ pos (10 ^ places_of self) }
+        ensures units { result ≡ pos (10 ^ unit_places self) }
         ensures some { pos 0 <ℤ result }
         ensures few { result ≤ℤ pos 1000000 }
     {
@@ -83,7 +83,7 @@ pub fn read_time(form: TimeForm, text: &[u8]) -> Option<i64>
         SpellsTime form text.now n → ⊥) }
 {
     let time = scan_time(form, text)?;
-    if time.part.exact && has_date(time.seconds) {
+    if time.subsecond.exact && has_date(time.seconds) {
         Some(count_units(form.unit, time))
     } else {
         None
@@ -95,12 +95,12 @@ pub fn read_time(form: TimeForm, text: &[u8]) -> Option<i64>
 pub fn compare_time(op: Op, form: TimeForm, text: &[u8]) -> Option<Comparison>
     ensures exact { result ≡ time_compared op form text.now }
     ensures some { IfSome result (λ c. MatchOption (time_of form text.now) ⊥ (λ constant.
-        ComparesAs decimal_order (decimal_at (places_of form.unit)) op constant c)) }
+        ComparesAs decimal_order (decimal_at (unit_places form.unit)) op constant c)) }
     ensures none { IfNone result (time_of form text.now ≡ None) }
 {
     let time = scan_time(form, text)?;
     let from = first_from(form.unit, time);
-    Some(bring_down(op, time.part.exact, from))
+    Some(bring_down(op, time.subsecond.exact, from))
 }
 
 /// Returns whether the calendar has the day of a second: its years are -9999 to 9999.
@@ -113,27 +113,31 @@ fn has_date(seconds: i64) -> bool
 
 /// Returns how many units have begun at a time.
 fn count_units(unit: TimeUnit, time: ScannedTime) -> i64
-    requires { IsWithinSeconds most_seconds (places_of unit) time }
-    ensures value { result ≡ units_at (places_of unit) time }
+    requires { IsWithinSeconds most_seconds (unit_places unit) time }
+    ensures value { result ≡ units_at (unit_places unit) time }
     ensures few { IsWithin (2 ^ 62) result }
 {
-    time.seconds * unit.per_second() + time.part.units as i64
+    time.seconds * unit.per_second() + time.subsecond.units as i64
 }
 
 /// Returns the first number that does not stand for less than a time.
 fn first_from(unit: TimeUnit, time: ScannedTime) -> i128
-    requires { IsWithinSeconds most_seconds (places_of unit) time }
-    ensures value { result ≡ first_at (places_of unit) time }
+    requires { IsWithinSeconds most_seconds (unit_places unit) time }
+    ensures value { result ≡ first_at (unit_places unit) time }
     ensures few { IsWithin (2 ^ 63) result }
 {
     let begun = i128::from(count_units(unit, time));
-    if time.part.exact { begun } else { begun + 1 }
+    if time.subsecond.exact {
+        begun
+    } else {
+        begun + 1
+    }
 }
 
-/// Scans a date, and what stands behind it.
+/// Scans a date, and what follows it.
 fn scan_time(form: TimeForm, text: &[u8]) -> Option<ScannedTime>
-    ensures value { result ≡ option_map (scanned_time (places_of form.unit)) (moment_of form text.now) }
-    ensures few { IfSome result (IsWithinSeconds most_seconds (places_of form.unit)) }
+    ensures value { result ≡ option_map (scanned_time (unit_places form.unit)) (moment_of form text.now) }
+    ensures few { IfSome result (IsWithinSeconds most_seconds (unit_places form.unit)) }
 {
     let (date, behind) = split_before_clock(text);
     let day = read_date(form.date, date)?;
@@ -147,20 +151,20 @@ fn scan_time(form: TimeForm, text: &[u8]) -> Option<ScannedTime>
 /// Scans a clock on a day, and the zone behind it.
 fn scan_on_day(form: TimeForm, day: i64, text: &[u8]) -> Option<ScannedTime>
     requires { IsEpochDay day }
-    ensures value { result ≡ option_map (scanned_time (places_of form.unit)) (moment_on form.utc day text.now) }
-    ensures few { IfSome result (IsWithinSeconds most_seconds (places_of form.unit)) }
+    ensures value { result ≡ option_map (scanned_time (unit_places form.unit)) (moment_on form.utc day text.now) }
+    ensures few { IfSome result (IsWithinSeconds most_seconds (unit_places form.unit)) }
 {
     let (clock, zone) = split_before_zone(text);
     let offset = read_offset(form.utc, zone)?;
     let time = scan_clock(form.unit.places(), clock)?;
     Some(ScannedTime {
         seconds: time.seconds + (day * DAY - offset),
-        part: time.part,
+        subsecond: time.subsecond,
     })
 }
 
 /// Splits a text before the letter T or the space behind a date.
-#[tactic(auto, using(crate::proofs::Places::first_place))]
+#[tactic(auto, using(crate::proofs::Places::first_position))]
 fn split_before_clock(text: &[u8]) -> (&[u8], &[u8])
     ensures before { result.0.now ≡ before_first is_clock_sign text.now }
     ensures behind { result.1.now ≡ from_first is_clock_sign text.now }
@@ -169,7 +173,7 @@ fn split_before_clock(text: &[u8]) -> (&[u8], &[u8])
 }
 
 /// Splits a text before the first byte of a zone.
-#[tactic(auto, using(crate::proofs::Places::first_place))]
+#[tactic(auto, using(crate::proofs::Places::first_position))]
 fn split_before_zone(text: &[u8]) -> (&[u8], &[u8])
     ensures before { result.0.now ≡ before_first is_zone_sign text.now }
     ensures behind { result.1.now ≡ from_first is_zone_sign text.now }

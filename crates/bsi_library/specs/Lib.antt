@@ -1,15 +1,15 @@
 pub use Rattle.bsi_columns.specs.Decomposed
-pub use Rattle.bsi_groups.specs.Groups
-pub use Rattle.bsi_groups.specs.Replies as ColumnReplies
-pub use Rattle.bsi_groups.specs.Tops
+pub use Rattle.bsi_aggregates.specs.Groups
+pub use Rattle.bsi_aggregates.specs.QuestionReplies
+pub use Rattle.bsi_aggregates.specs.Replies as ColumnReplies
+pub use Rattle.bsi_aggregates.specs.Tops
 pub use Rattle.bsi_load.specs.Runs
 pub use Rattle.bsi_load.specs.Shown
 pub use Rattle.bsi_load.specs.Sizes
-pub use Rattle.bsi_orders.specs.Blocks
-pub use Rattle.bsi_orders.specs.Orders
-pub use Rattle.bsi_orders.specs.Rows as ColumnRows
-pub use Rattle.bsi_orders.specs.Totals
-pub use Rattle.bsi_parallel.specs.Replies
+pub use Rattle.bsi_digits.specs.Blocks
+pub use Rattle.bsi_digits.specs.Orders
+pub use Rattle.bsi_digits.specs.Comparisons
+pub use Rattle.bsi_digits.specs.Totals
 pub use Rattle.bsi_system.specs.Opening
 pub use Rattle.bsi_system.specs.Running
 pub use Rattle.bsi_table.specs.Answers

@@ -1,13 +1,13 @@
-//! The face: what a caller names, from one crate. The modules are the layers below an index and above it. CALLING.md
+//! Re-exports what a caller names, from one crate: the index, and as modules the layers below and above it. CALLING.md
 //! shows a proved caller, and what each clause gives.
 #![tactic(auto)]
 
+pub use bsi_aggregates as aggregates;
+pub use bsi_answers as answers;
 pub use bsi_bits as bits;
 pub use bsi_columns as columns;
 pub use bsi_digits as digits;
-pub use bsi_groups as groups;
 pub use bsi_load as machine;
-pub use bsi_parallel as parallel;
 pub use bsi_system as running;
 pub use bsi_table::{
     Answer, AppendError, AskError, Block, BlockColumn, ColumnSpec, Form, Index, IndexError,

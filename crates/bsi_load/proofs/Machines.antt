@@ -59,7 +59,7 @@ module _ (P : Entries → Type 0) (old new : Buffer Entries) (row : Entries) whe
   pushed_within (Ok done) variant ok err within = let room = variant.0 refl in subst (λ b. length b.items ≤ b.capacity) (sym ok) (omega (arith, room, length-append old.items (row ∷ [])))
   pushed_within (Err x) variant ok err within = subst (λ b. length b.items ≤ b.capacity) (sym err.1) within
 
--- ---- a queue after its first row was taken
+-- ---- a queue after its first row was popped
 
 pub taken_all : (P : Entries → Type 0) (rows : List Entries) → All P rows → All P (drop 1 rows)
 taken_all P rows all = All-drop P 1 rows all

@@ -1,4 +1,4 @@
-//! The machine: a bounded queue for each feeder, over an index.
+//! The step machine (`Core`): a bounded queue for each feeder over an index, driven by events in one thread.
 
 ghost use Rattle.std.specs.Prelude.{◌≡◌, ℕ, ◌≤◌, [], ◌∷◌, None, length, map, IfErr, IfOk, OnOk, if◌then◌else◌};
 ghost use Rattle.bsi_rows.specs.Answers.{IsReply};
@@ -49,7 +49,7 @@ impl Core {
         limit: u64,
     ) -> Result<Core, MakeError>
         ensures ok { IfOk result (λ core. core ≡ new_machine schema capacities.items limit) }
-        ensures taken { OnOk result (sizes_refusal schema capacities.items limit ≡ None) }
+        ensures accepted { OnOk result (sizes_refusal schema capacities.items limit ≡ None) }
         ensures refused { IfErr result
             (IsFirstOr MakeError.NoMemory (sizes_refusal schema capacities.items limit)) }
     {

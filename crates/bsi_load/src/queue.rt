@@ -1,4 +1,4 @@
-//! What a machine keeps of a feeder: the queue of its rows.
+//! The queue of a feeder (`Queue`): its waiting rows, at most as many as its capacity, and whether it is closed.
 
 ghost use Rattle.std.specs.Prelude.{◌≡◌, if◌then◌else◌};
 

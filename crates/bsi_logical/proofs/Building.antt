@@ -23,14 +23,14 @@ use Rattle.bsi_kinds.specs.Decimals.{Field}
 use Rattle.bsi_kinds.specs.Kinds.{IsKind}
 use Rattle.bsi_kinds.specs.declared.kind.Kind.{Kind}
 use Rattle.bsi_kinds.specs.declared.kind.Kind.TheVariants.{Decimal}
-use Rattle.bsi_records.specs.Numbers.{offset_of}
-use Rattle.bsi_records.specs.Setups.{column_after, form_in, limit_of, one_more, table_after, IsChange}
-use Rattle.bsi_records.specs.declared.setups.DeclaredTable.{DeclaredTable}
-use Rattle.bsi_logical.specs.Logical.{kind_of, name_of, place_of, title_at, title_of, IsLogical, Logical}
-use Rattle.bsi_logical.specs.Records.{after_table, by_pair, column_said, kind_after, of_column, pair_of, record_said, said_by, table_of, text_added, text_given, text_said, title_given, title_said, with_column, with_kind, with_limit, with_title, word_of, Does}
+use Rattle.bsi_syntax.specs.Numbers.{offset_of}
+use Rattle.bsi_syntax.specs.Setups.{column_after, form_in, limit_of, table_after, with_new_column, IsChange}
+use Rattle.bsi_syntax.specs.declared.setups.DeclaredTable.{DeclaredTable}
+use Rattle.bsi_logical.specs.Logical.{column_called, kind_of, name_of, title_at, title_of, IsLogical, Logical}
+use Rattle.bsi_logical.specs.Records.{after_table, by_pair, column_said, kind_after, logical_table, of_column, pair_of, record_said, said_by, text_added, text_given, text_said, title_given, title_said, with_kind, with_limit, with_plain_column, with_title, word_of, Does}
 use Rattle.bsi_logical.specs.declared.refusal.DeclareError.{DeclareError}
 use Rattle.bsi_logical.specs.declared.refusal.DeclareError.TheVariants.{NoMemory, Refused}
-use Rattle.bsi_logical.specs.declared.refusal.Refusal.TheVariants.{BadTitle, NameTaken, NoColumn, NoTexts, TitleStands, TitleTaken}
+use Rattle.bsi_logical.specs.declared.refusal.Refusal.TheVariants.{BadTitle, NameTaken, NoColumn, NoTexts, TitleDeclared, TitleTaken}
 use Rattle.bsi_logical.specs.declared.logical.declaring.Word.TheVariants.{Column, Limit, Dialect as Dialect', Null, Title, Kind as Kind', Text as Text'}
 
 -- ---- what no column is called by
@@ -56,7 +56,7 @@ pub record IsUncalled (l : Logical) (name : Field) : Type 0 where
   pub titles : (c : ℕ) → c < length l.titles → title_of l c ≡ name → ⊥
   pub names : (c : ℕ) → c < length l.schema.columns → name_of l c ≡ name → ⊥
 
-pub uncalled : (l : Logical) (name : Field) → place_of l name ≡ None → IsUncalled l name
+pub uncalled : (l : Logical) (name : Field) → column_called l name ≡ None → IsUncalled l name
 uncalled l name none =
     let parts = neither (position (λ title. bytes_eq name title) l.titles) (position_of l.schema.columns name) none in
     record {
@@ -139,12 +139,12 @@ unchanged None old new done change not = change.1
 unchanged (Some x) old new done change not = absurd (cc (change.0, not))
 
 pub limit_logical : (l : Logical) (fields : List Field) (new : DeclaredTable) (done : Bool) → word_of (get_or fields 0 []) ≡ Some Limit → IsLogical l
-    → IsChange (table_after (table_of l) fields) (table_of l) new done → IsLogical (with_limit l new)
-limit_logical l fields new done word is change = same_columns l new is (by (table_after (table_of l) fields) refl change)
+    → IsChange (table_after (logical_table l) fields) (logical_table l) new done → IsLogical (with_limit l new)
+limit_logical l fields new done word is change = same_columns l new is (by (table_after (logical_table l) fields) refl change)
   where
-    by : (after : Option DeclaredTable) → table_after (table_of l) fields ≡ after → IsChange after (table_of l) new done → new.schema ≡ l.schema
+    by : (after : Option DeclaredTable) → table_after (logical_table l) fields ≡ after → IsChange after (logical_table l) new done → new.schema ≡ l.schema
     by None is change = ap (λ (t : DeclaredTable). t.schema) change.1
-    by (Some t) is change = ap (λ (t : DeclaredTable). t.schema) change.1 ∙ limit_keeps (table_of l) fields t word is
+    by (Some t) is change = ap (λ (t : DeclaredTable). t.schema) change.1 ∙ limit_keeps (logical_table l) fields t word is
 
 -- ---- a column
 
@@ -162,7 +162,7 @@ few_from true false false x y z is = refl
 few_from false b c x y z is = absurd (cc)
 
 grows : (schema : Declared) (name : Field) (signed : Bool) (form : Form) (offset : ℤ) (after : Declared)
-    → one_more schema name signed form offset ≡ Some after → Grows schema after name
+    → with_new_column schema name signed form offset ≡ Some after → Grows schema after name
 grows schema name signed form offset after is = by (name_refusal schema name) (int_le (offset +ℤ pos (size_in form)) (pos max_end)) refl is
   where
     by : (o : Option SchemaError) (b : Bool) → name_refusal schema name ≡ o
@@ -181,15 +181,15 @@ grows schema name signed form offset after is = by (name_refusal schema name) (i
         }
 
 plain_grows : (schema : Declared) (name form sizes : Field) (after : Declared)
-    → option_and_then (λ f. one_more schema name false f (pos 0)) (form_in form sizes) ≡ Some after → Grows schema after name
+    → option_and_then (λ f. with_new_column schema name false f (pos 0)) (form_in form sizes) ≡ Some after → Grows schema after name
 plain_grows schema name form sizes after is =
-    option_and_then_some (λ f. one_more schema name false f (pos 0)) (form_in form sizes) after is (λ f read done. grows schema name false f (pos 0) after done)
+    option_and_then_some (λ f. with_new_column schema name false f (pos 0)) (form_in form sizes) after is (λ f read done. grows schema name false f (pos 0) after done)
 
 signed_grows : (schema : Declared) (name form sizes offset : Field) (after : Declared)
-    → option_and_then (λ f. option_and_then (λ o. one_more schema name true f o) (offset_of offset)) (form_in form sizes) ≡ Some after → Grows schema after name
+    → option_and_then (λ f. option_and_then (λ o. with_new_column schema name true f o) (offset_of offset)) (form_in form sizes) ≡ Some after → Grows schema after name
 signed_grows schema name form sizes offset after is =
-    option_and_then_some (λ f. option_and_then (λ o. one_more schema name true f o) (offset_of offset)) (form_in form sizes) after is
-    (λ f read done. option_and_then_some (λ o. one_more schema name true f o) (offset_of offset) after done (λ o spelled made. grows schema name true f o after made))
+    option_and_then_some (λ f. option_and_then (λ o. with_new_column schema name true f o) (offset_of offset)) (form_in form sizes) after is
+    (λ f read done. option_and_then_some (λ o. with_new_column schema name true f o) (offset_of offset) after done (λ o spelled made. grows schema name true f o after made))
 
 column_grows : (schema : Declared) (fields : List Field) (after : Declared) → column_after schema fields ≡ Some after → Grows schema after (get_or fields 0 [])
 column_grows schema [] after is = absurd (cc)
@@ -264,7 +264,7 @@ module _ (l : Logical) (name : Field) (table : DeclaredTable) (is : IsLogical l)
   grown : length table.schema.columns ≡ length l.schema.columns + 1
   grown = ap length more.is ∙ omega (arith, length-append l.schema.columns (more.column ∷ []))
 
-  pub column_logical : IsLogical (with_column l name table)
+  pub column_logical : IsLogical (with_plain_column l name table)
   column_logical = record {
     titled = omega (arith, long, grown, is.titled);
     few = omega (arith, long, more.few, is.titled);
@@ -339,30 +339,30 @@ any_default (x ∷ xs) (suc c) d e within = any_default xs c d e (omega arith)
 
 module _ (l : Logical) (titles : List Field) (kinds : List Kind) (table : DeclaredTable) where
   pub not_column : (fields : List Field) (done : Bool) → IsLogical l → titles ≡ l.titles → kinds ≡ l.kinds
-      → IsChange (table_after (table_of l) fields) (table_of l) table done → done ≡ false
+      → IsChange (table_after (logical_table l) fields) (logical_table l) table done → done ≡ false
       → IsLogical (record l { schema = table.schema; limit = table.limit; titles = titles; kinds = kinds })
   not_column fields done is same_titles same_kinds change not =
-      let same : table ≡ table_of l = unchanged (table_after (table_of l) fields) (table_of l) table done change not in
+      let same : table ≡ logical_table l = unchanged (table_after (logical_table l) fields) (logical_table l) table done change not in
       subst (λ (ts : List Field). IsLogical (record l { schema = table.schema; limit = table.limit; titles = ts; kinds = kinds })) (sym same_titles)
       (subst (λ (ks : List Kind). IsLogical (record l { schema = table.schema; limit = table.limit; kinds = ks })) (sym same_kinds)
       (same_columns l table is (ap (λ (t : DeclaredTable). t.schema) same)))
 
   module _ (fields : List Field) (done : Bool) (is : IsLogical l) (word : word_of (get_or fields 0 []) ≡ Some Column)
-      (none : place_of l (get_or fields 1 []) ≡ None) (change : IsChange (table_after (table_of l) fields) (table_of l) table done) (did : done ≡ true)
+      (none : column_called l (get_or fields 1 []) ≡ None) (change : IsChange (table_after (logical_table l) fields) (logical_table l) table done) (did : done ≡ true)
       (more_titles : titles ≡ l.titles ++ get_or fields 1 [] ∷ []) (more_kinds : kinds ≡ l.kinds ++ Decimal 0 ∷ []) where
     pub one_column : IsLogical (record l { schema = table.schema; limit = table.limit; titles = titles; kinds = kinds })
     one_column =
-        let after = made (table_after (table_of l) fields) (table_of l) table done change did in
-        let grown = table_grows (table_of l) fields table word after in
+        let after = made (table_after (logical_table l) fields) (logical_table l) table done change did in
+        let grown = table_grows (logical_table l) fields table word after in
         subst (λ (ts : List Field). IsLogical (record l { schema = table.schema; limit = table.limit; titles = ts; kinds = kinds })) (sym more_titles)
         (subst (λ (ks : List Kind). IsLogical (record l { schema = table.schema; limit = table.limit; titles = l.titles ++ get_or fields 1 [] ∷ []; kinds = ks })) (sym more_kinds)
         (column_logical l (get_or fields 1 []) table is (uncalled l (get_or fields 1 []) none) grown))
 
     pub column_done : column_said l fields ≡ Ok (record l { schema = table.schema; limit = table.limit; titles = titles; kinds = kinds })
     column_done =
-        let after = made (table_after (table_of l) fields) (table_of l) table done change did in
-        ap (λ o. if is_some o then Err NameTaken else after_table (with_column l (get_or fields 1 [])) (table_after (table_of l) fields)) none
-        ∙ ap (after_table (with_column l (get_or fields 1 []))) after
+        let after = made (table_after (logical_table l) fields) (logical_table l) table done change did in
+        ap (λ o. if is_some o then Err NameTaken else after_table (with_plain_column l (get_or fields 1 [])) (table_after (logical_table l) fields)) none
+        ∙ ap (after_table (with_plain_column l (get_or fields 1 []))) after
         ∙ ap₂ (λ (ts : List Field) (ks : List Kind). Ok (record l { schema = table.schema; limit = table.limit; titles = ts; kinds = ks })) (sym more_titles) (sym more_kinds)
 
 -- a column by the word of its record
@@ -371,10 +371,10 @@ said_column l [] is = absurd (cc)
 said_column l (word ∷ fields) is = ap (λ o. said_by l o (word ∷ fields) fields) is
 
 -- a title that is given
-pub title_done : (l : Logical) (c : ℕ) (title : Field) → bytes_eq (title_of l c) (name_of l c) ≡ true → place_of l title ≡ None
+pub title_done : (l : Logical) (c : ℕ) (title : Field) → bytes_eq (title_of l c) (name_of l c) ≡ true → column_called l title ≡ None
     → title_given l c title ≡ Ok (with_title l c title)
 title_done l c title plain none =
-    ap (λ b. if not b then Err TitleStands else (if is_some (place_of l title) then Err TitleTaken else Ok (with_title l c title))) plain
+    ap (λ b. if not b then Err TitleDeclared else (if is_some (column_called l title) then Err TitleTaken else Ok (with_title l c title))) plain
     ∙ ap (λ o. if is_some o then Err TitleTaken else Ok (with_title l c title)) none
 
 kind_back : (l : Logical) (c : ℕ) (kind : Kind) → kind ≡ kind_of l c → with_kind l c kind ≡ l

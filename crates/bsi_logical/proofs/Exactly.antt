@@ -6,11 +6,11 @@ use Rattle.csv.specs.Reading.{default_config, strip_bom, AreRecords, Reached}
 use Rattle.csv.specs.declared.parser.State.{State}
 use Rattle.csv.specs.declared.parser.State.TheVariants as st
 use Rattle.bsi_kinds.specs.Decimals.{Field}
-use Rattle.bsi_reading.specs.Texts.{AreAllRecords}
-use Rattle.bsi_reading.specs.declared.rows.SourceFault.TheVariants as source
-use Rattle.bsi_reading.proofs.AllRecords.{all_records, one_reading, records_behind}
+use Rattle.bsi_input.specs.Texts.{AreAllRecords}
+use Rattle.bsi_input.specs.declared.rows.SourceFault.TheVariants as source
+use Rattle.bsi_input.proofs.AllRecords.{all_records, one_reading, records_behind}
 use Rattle.bsi_logical.specs.Logical.{nothing_said, Logical}
-use Rattle.bsi_logical.specs.LogicalTexts.{records_said, said_then, IsBadRecord, IsLogicalFault, IsLogicalText, Says, SaysTooLong, Reads}
+use Rattle.bsi_logical.specs.LogicalTexts.{records_said, said_then, IsLogicalFault, IsLogicalText, IsRefusedRecord, Reads, Says, SaysTooLong}
 use Rattle.bsi_logical.specs.Records.{record_said, Said}
 use Rattle.bsi_logical.specs.declared.logical_text.LogicalFault.{LogicalFault}
 use Rattle.bsi_logical.specs.declared.logical_text.LogicalFault.TheVariants.{BadRecord, NoColumns, Source}
@@ -44,7 +44,7 @@ module _ (bytes : List ℕ) (l : Logical) (text : Says bytes l) where
       same_ok other l (records_said nothing_said says.records) says.said (ap (records_said nothing_said) same ∙ text.said)
 
   -- no record is bad
-  no_bad : (number : ℕ) (why : Refusal) → IsBadRecord bytes number why → ⊥
+  no_bad : (number : ℕ) (why : Refusal) → IsRefusedRecord bytes number why → ⊥
   no_bad number why bad =
       let behind = all_records default_config bad.state bad.rest in
       let first = bad.records ++ bad.fields ∷ [] in

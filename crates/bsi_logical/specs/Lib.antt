@@ -2,4 +2,5 @@ pub mod Dialects
 pub mod Entries
 pub mod Logical
 pub mod LogicalTexts
+pub mod Meanings
 pub mod Records

@@ -1,14 +1,13 @@
-//! A schema of kinds as its text.
+//! Writes a logical schema as its text.
 
 ghost use Rattle.std.specs.Prelude.{◌<◌, IfOk, length};
 ghost use Rattle.bsi_logical.specs.LogicalTexts.{IsLogicalText};
 
 use crate::NoMemory;
-use crate::kind_words::ISO_DATE;
 use crate::logical::LogicalSchema;
 use crate::logical_text::read_logical;
-use bsi_kinds::{DateForm, DateOrder, Dictionary, Kind, TimeForm, TimeUnit};
-use bsi_reading::describe_schema;
+use bsi_input::describe_schema;
+use bsi_kinds::{DateForm, DateOrder, Dictionary, ISO_DATE, Kind, TimeForm, TimeUnit};
 use csv::{Writer, WriterBuilder};
 use itoa::Buffer;
 use std::alloc::Global;

@@ -1,4 +1,4 @@
-//! The bytes of row files that stand between fields and in decimals.
+//! Dialects: the byte between the fields of row files, and the decimal point.
 
 ghost use Rattle.std.specs.Prelude.{◌≡◌};
 ghost use Rattle.bsi_logical.specs.Dialects.{is_dialect, is_usual, usual_dialect};

@@ -1,25 +1,19 @@
-//! Kinds, as the fields of a record tell them.
+//! Reads the kind of a column from the fields of a record (`read_kind`).
 
 ghost use Rattle.std.specs.Prelude.{◌≡◌, ◌≤◌, [], ◌∷◌, IfOk, IfSome};
 ghost use Rattle.bsi_kinds.specs.Kinds.{IsKind};
-ghost use Rattle.bsi_records.specs.Numbers.{number_between};
-ghost use Rattle.bsi_records.specs.Reading.{texts};
-ghost use Rattle.bsi_logical.specs.Records.{boolean_kind, byte_of, date_form, kind_in, max_places, order_of, sign_of, time_form, unit_of, utc_of};
+ghost use Rattle.bsi_syntax.specs.Numbers.{number_between};
+ghost use Rattle.bsi_syntax.specs.Reading.{texts};
+ghost use Rattle.bsi_logical.specs.Records.{boolean_kind, byte_of, date_form, date_sign_of, kind_in, max_decimal_places, order_of, time_form, unit_of, utc_of};
 
 use crate::NoMemory;
 use bsi_kinds::{
-    BooleanForm, DateForm, DateOrder, Dictionary, Kind, MAX_PLACES, TimeForm, TimeUnit,
+    BooleanForm, DateForm, DateOrder, Dictionary, ISO_DATE, Kind, MAX_PLACES, TimeForm, TimeUnit,
 };
-use bsi_records::read_number;
+use bsi_syntax::read_number;
 use std::alloc::Global;
 
-/// Dates as 2026-01-31.
-pub(crate) const ISO_DATE: DateForm = DateForm {
-    order: DateOrder::YearFirst,
-    sign: b'-',
-};
-
-/// Reads a kind, or returns none if the fields tell none.
+/// Reads a kind, or returns none if the fields spell none.
 pub(crate) fn read_kind(alloc: Global, words: &[&[u8]]) -> Result<Option<Kind>, NoMemory>
     ensures kind { IfOk result (λ kind. kind ≡ kind_in (texts words.now)) }
     ensures valid { IfOk result (λ kind. IfSome kind IsKind) }
@@ -50,7 +44,7 @@ fn read_decimal_kind(word: &[u8], places: &[u8]) -> Option<Kind>
     ensures valid { IfSome result IsKind }
 {
     if word == b"decimal".as_slice() {
-        let places = read_places(places)?;
+        let places = read_decimal_places(places)?;
         return Some(Kind::Decimal(places));
     }
     None
@@ -92,9 +86,9 @@ fn read_long_kind(word: &[u8], unit: &[u8], zone: &[u8], order: &[u8], sign: &[u
 }
 
 /// Reads how many places decimals have.
-fn read_places(text: &[u8]) -> Option<u32>
-    ensures places { result ≡ number_between 1 max_places text.now }
-    ensures few { IfSome result (λ places. places ≤ max_places) }
+fn read_decimal_places(text: &[u8]) -> Option<u32>
+    ensures places { result ≡ number_between 1 max_decimal_places text.now }
+    ensures few { IfSome result (λ places. places ≤ max_decimal_places) }
 {
     let places = read_number(text)?;
     if places < 1 || places > u64::from(MAX_PLACES) {
@@ -129,7 +123,7 @@ fn read_order(word: &[u8]) -> Option<DateOrder>
 
 /// Reads the sign between two numbers of a date.
 fn read_sign(text: &[u8]) -> Option<u8>
-    ensures { result ≡ sign_of text.now }
+    ensures { result ≡ date_sign_of text.now }
 {
     let sign = read_byte(text)?;
     if sign.is_ascii_digit() {

@@ -7,6 +7,7 @@ mod kind_words;
 mod logical;
 mod logical_text;
 mod refusal;
+mod vocabulary;
 
 pub use bsi_kinds::{Comparison, Kind, NoMemory, Op};
 pub use describing::describe_logical;

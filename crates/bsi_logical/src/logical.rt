@@ -1,9 +1,9 @@
-//! A schema of kinds.
+//! A logical schema: the columns of an index with their titles and kinds, and how row files are written.
 
 ghost use Rattle.std.specs.Prelude.{◌≡◌, ◌<◌, length, map, position, IfSome};
 ghost use Rattle.std.specs.Str.{bytes_eq};
 ghost use Rattle.bsi_kinds.specs.Kinds.{IsKind};
-ghost use Rattle.bsi_logical.specs.Logical.{kind_of, nothing_said, place_of, title_of, IsLogical};
+ghost use Rattle.bsi_logical.specs.Logical.{column_called, kind_of, nothing_said, title_of, IsLogical};
 
 mod comparing;
 mod declaring;
@@ -91,7 +91,7 @@ impl LogicalSchema {
         self.dialect
     }
 
-    /// Lends the null words, in the order in which they were told.
+    /// Lends the null words, in the order in which they were declared.
     pub fn nulls(&self) -> &[Vec<u8>]
         ensures { map (λ word. word.items) result.now ≡ self.now.nulls }
     {
@@ -115,20 +115,20 @@ impl LogicalSchema {
         &self.kinds[c as usize]
     }
 
-    /// Returns the place of the column that has this title or, if none has it, this name. It allocates no memory.
+    /// Returns the column that has this title or, if none has it, this name. It allocates no memory.
     pub fn find(&self, name: &[u8]) -> Option<u32>
-        ensures { result ≡ place_of self.now name.now }
+        ensures { result ≡ column_called self.now name.now }
     {
-        match place_among(&self.titles, name) {
+        match find_title(&self.titles, name) {
             Some(c) => Some(c as u32),
             None => self.schema.find(name),
         }
     }
 }
 
-/// Returns the place of a title among these, or none if it is none of them.
-fn place_among(titles: &[Vec<u8>], name: &[u8]) -> Option<usize>
-    ensures place { result ≡ position (λ title. bytes_eq name.now title.items) titles.now }
+/// Returns the index of a title among these, or none if it is none of them.
+fn find_title(titles: &[Vec<u8>], name: &[u8]) -> Option<usize>
+    ensures index { result ≡ position (λ title. bytes_eq name.now title.items) titles.now }
     ensures within { IfSome result (λ c. c < length titles.now) }
 {
     titles.iter().position(|title| name == title.as_slice())

@@ -1,15 +1,15 @@
-//! The text of a schema of kinds.
+//! Reads the text of a logical schema: the columns with their kinds, and how row files are written.
 
 ghost use Rattle.std.specs.Prelude.{◌≡◌, ◌<◌, ℕ, List, None, Some, IfErr, IfOk, IfSome, OnOk, length};
 ghost use Rattle.csv.specs.Reading.{reader_state, source_of};
 ghost use Rattle.csv.specs.declared.parser.State.TheVariants as st;
-ghost use Rattle.bsi_reading.specs.Texts.{FromText};
+ghost use Rattle.bsi_input.specs.Texts.{ForText};
 ghost use Rattle.bsi_logical.specs.Logical.{nothing_said, Logical};
 ghost use Rattle.bsi_logical.specs.LogicalTexts.{fault_of, IsLogicalFault, IsLogicalText, Reads, Says};
 
 use crate::logical::LogicalSchema;
 use crate::{DeclareError, NoMemory, Refusal};
-use bsi_reading::{RecordSource, SourceFault};
+use bsi_input::{RecordSource, SourceFault};
 use csv::ByteRecord;
 use std::alloc::Global;
 use std::io::Read;
@@ -38,7 +38,7 @@ impl From<SourceFault> for LogicalFault {
 
 impl From<NoMemory> for LogicalFault {
     ghost use Rattle.std.specs.Prelude.{◌≡◌};
-    ghost use Rattle.bsi_reading.specs.declared.rows.SourceFault.TheVariants.{NoMemory};
+    ghost use Rattle.bsi_input.specs.declared.rows.SourceFault.TheVariants.{NoMemory};
     ghost use Rattle.bsi_logical.specs.declared.logical_text.LogicalFault.TheVariants.{Source};
 
     ghost from_gives = { λ _ e. e ≡ Source NoMemory };
@@ -50,7 +50,7 @@ impl From<NoMemory> for LogicalFault {
 
 /// Reads the schema of kinds that a text says: records as a schema file has them and, each behind the column that it
 /// names, `title,NAME,TITLE`, `kind,NAME,KIND` and `text,NAME,TEXT`; besides, `dialect,DELIMITER,POINT` and
-/// `null,WORD`. It takes at most 1,000,000 records.
+/// `null,WORD`. It reads at most 1,000,000 records.
 pub fn read_logical<R: Read + Drop>(alloc: Global, reader: R) -> Result<LogicalSchema, LogicalFault>
     ensures some { IfOk result (λ logical. 0 < length logical.schema.columns) }
     ensures said { IfOk result (λ logical. IfSome (R.remaining reader)
@@ -88,12 +88,12 @@ fn declare_all<R: Read + Drop>(
     records: &mut RecordSource<R>,
     logical: &mut LogicalSchema,
 ) -> Result<(), LogicalFault>
-    requires fresh { (records.old.taken ≡ 0) × (records.old.end ≡ None) }
+    requires fresh { (records.old.read_so_far ≡ 0) × (records.old.end ≡ None) }
     requires start { reader_state records.old.input ≡ st.StartRecord }
     requires none { logical.old ≡ nothing_said }
-    ensures said { OnOk result (FromText (source_of R.remaining records.old.input)
+    ensures said { OnOk result (ForText (source_of R.remaining records.old.input)
         (λ bytes. Says bytes logical.new)) }
-    ensures fault { IfErr result (λ fault. FromText (source_of R.remaining records.old.input)
+    ensures fault { IfErr result (λ fault. ForText (source_of R.remaining records.old.input)
         (λ bytes. IsLogicalFault bytes fault)) }
 {
     let mut fields = ByteRecord::new(alloc);

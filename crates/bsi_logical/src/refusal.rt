@@ -1,11 +1,11 @@
-//! Why a record says nothing of a schema.
+//! Why a record declares nothing of a logical schema.
 
 ghost use Rattle.std.specs.Prelude.{◌≡◌};
 
 use std::alloc::AllocError;
 use thiserror::Error;
 
-/// Why a record says nothing. A record that is taken says something that did not stand before, so none says a thing
+/// Why a record says nothing. A record that is accepted says something new, so none says a thing
 /// twice, but a further limit replaces the one before.
 #[derive(Clone, Copy, Debug, PartialEq, Eq, Error)]
 #[error("{}", self.text())]
@@ -14,32 +14,32 @@ pub enum Refusal {
     UnknownWord,
     /// The record `column` or `limit` is one that a schema file can't have there.
     BadTable,
-    /// The new column's name is taken, by a name or a title.
+    /// A column has the name of the new one as its name or title.
     NameTaken,
-    /// Behind `dialect` stand not a delimiter and a decimal point, each one byte, that can serve and differ; or they
+    /// After `dialect` come not a delimiter and a decimal point, each one byte, that can serve and differ; or they
     /// are the usual ones.
     BadDialect,
-    /// The dialect was told.
-    DialectStands,
-    /// Behind `null` stands not one word.
+    /// The dialect was declared.
+    DialectDeclared,
+    /// After `null` comes not one word.
     BadNull,
-    /// The null word was told, or it is the empty field.
-    NullStands,
+    /// The null word exists, or it is the empty field.
+    NullDeclared,
     /// The second field is the name of no column in front of the record.
     NoColumn,
-    /// Behind `title` stand not a name and a title.
+    /// After `title` come not a name and a title.
     BadTitle,
-    /// The column's title was told.
-    TitleStands,
+    /// The column's title was declared.
+    TitleDeclared,
     /// A column is called so, by its title or its name.
     TitleTaken,
-    /// Behind `kind` and a name stands no kind.
+    /// After `kind` and a name comes no kind.
     BadKind,
-    /// The column's kind was told.
-    KindStands,
+    /// The column's kind was declared.
+    KindDeclared,
     /// The text doesn't come after the one before it, or it is empty, or there are 65,536 texts.
     BadText,
-    /// Behind `text` stand not the name of a column of texts and a text.
+    /// After `text` come not the name of a column of texts and a text.
     NoTexts,
 }
 
@@ -55,17 +55,17 @@ impl Refusal {
             Refusal::BadDialect => {
                 "a dialect is a delimiter and a decimal point, one byte each, which differ: dialect,;,\",\""
             }
-            Refusal::DialectStands => "the dialect was told before",
+            Refusal::DialectDeclared => "the dialect was declared before",
             Refusal::BadNull => "a null word is one field: null,WORD",
-            Refusal::NullStands => "this is a null without the record",
+            Refusal::NullDeclared => "this is a null without the record",
             Refusal::NoColumn => "no column of this name was declared before",
             Refusal::BadTitle => "a title is two fields: title,NAME,TITLE",
-            Refusal::TitleStands => "the title of this column was told before",
+            Refusal::TitleDeclared => "the title of this column was declared before",
             Refusal::TitleTaken => "a column is called so already",
             Refusal::BadKind => {
                 "a kind is decimal,PLACES; date,ORDER,SIGN; time,UNIT,ZONE; boolean,YES,NO; or text"
             }
-            Refusal::KindStands => "the kind of this column was told before",
+            Refusal::KindDeclared => "the kind of this column was declared before",
             Refusal::BadText => "texts rise by bytes, at most 65,536 of them, and none is empty",
             Refusal::NoTexts => "a text is two fields, of a column of kind text: text,NAME,TEXT",
         }

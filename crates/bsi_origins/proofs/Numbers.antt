@@ -8,7 +8,7 @@ use Rattle.std.proofs.lemmas.List.{drop-take, get_or-append_right, get_or-replic
 use Rattle.std.proofs.lemmas.List.Elements.{All-filter, All-from_get_or, All-get_or, filter-append}
 use Rattle.std.proofs.lemmas.List.FromFn.{get_or-range_with_len, length-range_with_len}
 use Rattle.std.proofs.lemmas.List.Sums.{count_by-le-length, count_by_more_yes, count_by_more_no, sum_by-take-drop}
-use Rattle.bsi_bits.specs.BitList.{set_places}
+use Rattle.bsi_bits.specs.BitList.{set_positions}
 use Rattle.bsi_rows.specs.Numbering.{numbered_at, number_within, count_before}
 use Rattle.bsi_origins.specs.Origins.{AreCountsBefore}
 
@@ -116,14 +116,14 @@ module _ (p : ℕ → Bool) where
 
 module _ (bits : List Bool) where
   -- the places of set bits rise
-  pub places-rising : (j : ℕ) → get_or (set_places bits) j (length bits) ≤ get_or (set_places bits) (j + 1) (length bits)
+  pub places-rising : (j : ℕ) → get_or (set_positions bits) j (length bits) ≤ get_or (set_positions bits) (j + 1) (length bits)
   places-rising j =
-      subst (λ k. get_or (set_places bits) j (length bits) ≤ get_or (set_places bits) k (length bits)) (sym (add-one j))
-      (subst (λ end. get_or (set_places bits) j end ≤ get_or (set_places bits) (suc j) end) (zero-add (length bits))
+      subst (λ k. get_or (set_positions bits) j (length bits) ≤ get_or (set_positions bits) k (length bits)) (sym (add-one j))
+      (subst (λ end. get_or (set_positions bits) j end ≤ get_or (set_positions bits) (suc j) end) (zero-add (length bits))
       (passed-rising (λ i. slice_index_or bits i false) 0 (length bits) j))
 
   -- each is one of the bits'
-  pub places-within : All (λ i. i < length bits) (set_places bits)
+  pub places-within : All (λ i. i < length bits) (set_positions bits)
   places-within =
       All-filter (λ i. slice_index_or bits i false) (λ i. i < length bits) (range_with_len 0 (length bits))
       (All-from_get_or (λ i. i < length bits) (range_with_len 0 (length bits)) 0
@@ -158,9 +158,9 @@ module _ (bits : List Bool) (feeders : List ℕ) (r : ℕ) where
       ∙ ap (λ k. places_below bits r ++ cond (slice_index_or bits k false) (k ∷ []) []) (omega arith)
 
   -- a row that was found is listed
-  pub numbered_found : (count : ℕ) → slice_index_or bits r false ≡ true → count ≡ number_within feeders r
+  pub numbered_selection : (count : ℕ) → slice_index_or bits r false ≡ true → count ≡ number_within feeders r
       → numbered_at feeders (places_below bits r) ++ (get_or feeders r 0, count) ∷ [] ≡ numbered_at feeders (places_below bits (r + 1))
-  numbered_found count set is =
+  numbered_selection count set is =
       ap (λ n. numbered_at feeders (places_below bits r) ++ (get_or feeders r 0, n) ∷ []) is
       ∙ sym (map-append (λ i. (get_or feeders i 0, number_within feeders i)) (places_below bits r) (r ∷ []))
       ∙ ap (λ b. numbered_at feeders (places_below bits r ++ cond b (r ∷ []) [])) (sym set)
@@ -182,6 +182,6 @@ pub count_before-on : (rows : List ℕ) (s r f : ℕ) → s ≤ r → r ≤ leng
 count_before-on rows s r f before within =
     let end : s + (r - s) ≡ r = omega arith in
     let first : take s (take r rows) ≡ take s rows = take-take s r rows before in
-    let behind : drop s (take r rows) ≡ take (r - s) (drop s rows) = ap (λ n. drop s (take n rows)) (sym end) ∙ drop-take s (r - s) rows in
-    ap₂ (λ xs ys. count_by (λ feeder. nat_eq feeder f) xs + count_by (λ feeder. nat_eq feeder f) ys) (sym first) (sym behind)
+    let after : drop s (take r rows) ≡ take (r - s) (drop s rows) = ap (λ n. drop s (take n rows)) (sym end) ∙ drop-take s (r - s) rows in
+    ap₂ (λ xs ys. count_by (λ feeder. nat_eq feeder f) xs + count_by (λ feeder. nat_eq feeder f) ys) (sym first) (sym after)
     ∙ sum_by-take-drop (λ feeder. cond (nat_eq feeder f) 1 0) (take r rows) s

@@ -24,7 +24,7 @@ tally_within len k f tallies before below =
     let more : len * (k + 1) ≡ len * k + len = ap (λ n. len * n) (add-one k) ∙ mul-suc len k in
     omega arith
 
--- rows that go in within a stretch, and the counts of all rows then
+-- rows that go in within a chunk, and the counts of all rows then
 module _ (feeders : ℕ) (rows counts tallies : List ℕ) (is : IsTallied feeders rows counts tallies) (more now : List ℕ)
     (from : All (λ f. f < feeders) more) (long : length now ≡ 64) (counted : AreCountsBefore feeders (rows ++ more) (length (rows ++ more)) now)
     (within : length rows % 512 + length more ≤ 512) where
@@ -45,7 +45,7 @@ module _ (feeders : ℕ) (rows counts tallies : List ℕ) (is : IsTallied feeder
     each = each;
   }
 
-  -- within a stretch the tallies stay
+  -- within a chunk the tallies stay
   pub tallied_within : 0 < length rows % 512 → IsTallied feeders (rows ++ more) now tallies
   tallied_within begun =
       let same : tally_count (length rows) ≡ tally_count (length rows + length more) = omega (arith, within, begun) in
@@ -54,7 +54,7 @@ module _ (feeders : ℕ) (rows counts tallies : List ℕ) (is : IsTallied feeder
       let there : 512 * k < length rows = omega (arith, all, before, within, begun) in
       is.each k f there small ∙ sym (count_before-append rows more (512 * k) f (omega arith)))
 
-  -- where a stretch begins, its tally has the counts
+  -- where a chunk begins, its tally has the counts
   pub tallied_begun : length rows % 512 ≡ 0 → 0 < length more
       → IsTallied feeders (rows ++ more) now (tallies ++ take (tally_len feeders) counts)
   tallied_begun begins some =
@@ -73,8 +73,8 @@ module _ (feeders : ℕ) (rows counts tallies : List ℕ) (is : IsTallied feeder
             get_or_append_left tallies (take len counts) 0 (len * k + f) inside ∙ is.each k f there small ∙ sym same
         | inl last ↦
             let at : k ≡ tally_count (length rows) = omega (arith, last) in
-            let behind : length tallies ≡ len * k = is.many ∙ ap (λ j. len * j) (sym at) in
-            get_or-append_right tallies (take len counts) (len * k) (len * k + f) 0 behind (omega arith)
+            let after : length tallies ≡ len * k = is.many ∙ ap (λ j. len * j) (sym at) in
+            get_or-append_right tallies (take len counts) (len * k) (len * k + f) 0 after (omega arith)
             ∙ ap (λ j. get_or (take len counts) j 0) (omega arith)
             ∙ get_or-take len counts f 0 small
             ∙ is.counted f (omega (arith, small, tally_len-le feeders))
@@ -82,9 +82,9 @@ module _ (feeders : ℕ) (rows counts tallies : List ℕ) (is : IsTallied feeder
       ])
 
 -- and the room that is left
-room_less : (room kept tallies now held feeders count : ℕ) (rows more : List ℕ) → length more ≡ count → count ≤ room → HasRoomFor room (length rows) feeders kept tallies → kept ≤ now → tallies ≤ held
-    → HasRoomFor (room - count) (length (rows ++ more)) feeders now held
-room_less room kept tallies now held feeders count rows more long enough has no_less as_many =
+room_less : (room rows_capacity tallies now now_tallies feeders count : ℕ) (rows more : List ℕ) → length more ≡ count → count ≤ room → HasRoomFor room (length rows) feeders rows_capacity tallies → rows_capacity ≤ now → tallies ≤ now_tallies
+    → HasRoomFor (room - count) (length (rows ++ more)) feeders now now_tallies
+room_less room rows_capacity tallies now now_tallies feeders count rows more long enough has no_less as_many =
     let same : length (rows ++ more) + (room - count) ≡ length rows + room = omega (arith, length-append rows more, long, enough) in
     record {
       within = omega (arith, same, has.within);
@@ -93,14 +93,14 @@ room_less room kept tallies now held feeders count rows more long enough has no_
     }
 
 -- what is kept so stays so with more rows, whatever its tallies are then
-pub tallied_push : (feeders room kept capacity count : ℕ) (rows more counts items after : List ℕ) → HasRoomFor room (length rows) feeders kept capacity → length more ≡ count → count ≤ room
-    → items ≡ rows ++ more → (now held : ℕ) → kept ≤ now → capacity ≤ held
+pub tallied_push : (feeders room rows_capacity capacity count : ℕ) (rows more counts items after : List ℕ) → HasRoomFor room (length rows) feeders rows_capacity capacity → length more ≡ count → count ≤ room
+    → items ≡ rows ++ more → (now now_tallies : ℕ) → rows_capacity ≤ now → capacity ≤ now_tallies
     → IsTallied feeders (rows ++ more) counts after
-    → IsTallied feeders items counts after × HasRoomFor (room - count) (length items) feeders now held
-tallied_push feeders room kept capacity count rows more counts items after has long enough are now held no_less as_many tallied = (
+    → IsTallied feeders items counts after × HasRoomFor (room - count) (length items) feeders now now_tallies
+tallied_push feeders room rows_capacity capacity count rows more counts items after has long enough are now now_tallies no_less as_many tallied = (
   subst (λ xs. IsTallied feeders xs counts after) (sym are) tallied,
-  subst (λ xs. HasRoomFor (room - count) (length xs) feeders now held) (sym are)
-      (room_less room kept capacity now held feeders count rows more long enough has no_less as_many),
+  subst (λ xs. HasRoomFor (room - count) (length xs) feeders now now_tallies) (sym are)
+      (room_less room rows_capacity capacity now now_tallies feeders count rows more long enough has no_less as_many),
 )
 
 -- a run of one feeder's rows adds to its count
@@ -137,21 +137,21 @@ tallied_none feeders rows tallies some none empty =
       each = λ k f before small. absurd (omega (arith, before, length_is));
     }
 
-pub room_none : (feeders : ℕ) (rows : List ℕ) (kept tallies : ℕ) → rows ≡ [] → HasRoomFor 0 (length rows) feeders kept tallies
-room_none feeders rows kept tallies none =
+pub room_none : (feeders : ℕ) (rows : List ℕ) (rows_capacity tallies : ℕ) → rows ≡ [] → HasRoomFor 0 (length rows) feeders rows_capacity tallies
+room_none feeders rows rows_capacity tallies none =
     let length_is : length rows ≡ 0 = ap length none in
     let count : tally_count (length rows + 0) ≡ 0 = omega arith in
     let tallies_are : tally_len feeders * tally_count (length rows + 0) ≡ 0 = ap (λ k. tally_len feeders * k) count ∙ omega arith in
     record { within = omega arith; rows_fit = omega arith; tallies_fit = omega (arith, tallies_are) }
 
 -- room for the rows that went out too
-pub room_emptied : (feeders room kept tallies kept' tallies' len : ℕ) (rows none : List ℕ) → HasRoomFor room (length rows) feeders kept tallies
-    → none ≡ [] → len ≡ length rows → kept' ≡ kept → tallies' ≡ tallies → HasRoomFor (room + len) (length none) feeders kept' tallies'
-room_emptied feeders room kept tallies kept' tallies' len rows none was empty long same_kept same_tallies =
+pub room_emptied : (feeders room rows_capacity tallies rows_capacity' tallies' len : ℕ) (rows none : List ℕ) → HasRoomFor room (length rows) feeders rows_capacity tallies
+    → none ≡ [] → len ≡ length rows → rows_capacity' ≡ rows_capacity → tallies' ≡ tallies → HasRoomFor (room + len) (length none) feeders rows_capacity' tallies'
+room_emptied feeders room rows_capacity tallies rows_capacity' tallies' len rows none was empty long same_capacity same_tallies =
     let all : length none + (room + len) ≡ length rows + room = omega (arith, ap length empty, long) in
     record {
       within = omega (arith, all, was.within);
-      rows_fit = omega (arith, all, was.rows_fit, same_kept);
+      rows_fit = omega (arith, all, was.rows_fit, same_capacity);
       tallies_fit = omega (arith, ap (λ n. tally_len feeders * tally_count n) all, was.tallies_fit, same_tallies);
     }
 

@@ -1,4 +1,4 @@
-//! The feeder of each row, and a row's number among its feeder's: the rows of a found set by both.
+//! The feeder of each row, and a row's number among its feeder's: the rows of a selection by both.
 #![tactic(auto)]
 
 mod numbering;

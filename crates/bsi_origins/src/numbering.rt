@@ -1,58 +1,59 @@
-//! The rows of a found set, each by its feeder and its number among the rows of that feeder.
+//! The rows of a selection, each by its feeder and its number among the rows of that feeder.
 //!
-//! It counts forward and keeps the counts of all feeders as it goes, so no stretch is read twice. Where more than
-//! an eighth of the rows was found it tests each row's bit in one pass, which costs less than looking for the next set
+//! It counts forward and keeps the counts of all feeders as it goes, so no chunk is read twice. Where more than an
+//! eighth of the rows is selected it tests each row's bit in one pass, which costs less than looking for the next set
 //! place.
 
 ghost use Rattle.std.specs.Prelude.{◌≡◌, ◌<◌, ◌≤◌, IfOk, length};
-ghost use Rattle.bsi_bits.specs.BitList.{set_places};
+ghost use Rattle.bsi_bits.specs.BitList.{set_positions};
 ghost use Rattle.bsi_rows.specs.Numbering.{numbered_at};
 ghost use Rattle.bsi_origins.specs.Origins.{AreCountsBefore};
 
-use crate::origins::{Counts, STRETCH_ROWS};
+use crate::origins::{CHUNK_ROWS, Counts};
 use crate::{NoMemory, Origins};
 use bsi_bits::Bits;
 use bsi_rows::MAX_FEEDERS;
 use std::alloc::Global;
 
-/// The fewest rows per found row with which the numbering goes from one found row to the next, and not over all rows.
-const MIN_ROWS_PER_FOUND: u64 = 8;
+/// The fewest rows for each selected row with which the numbering goes from one selected row to the next, and not over
+/// all rows.
+const MIN_ROWS_PER_SELECTED: u64 = 8;
 
-/// Returns the rows of a found set in order, each by its feeder and its number among that feeder's rows. `origins`
-/// gives the feeder of each row of the index. If few rows were found, it reads, in each stretch of 512 rows, the
-/// feeders up to the last found row, and none in a stretch with no found row.
+/// Returns the rows of a selection in order, each by its feeder and its number among that feeder's rows. `origins`
+/// gives the feeder of each row of the index. If few rows are selected, it reads, in each chunk of 512 rows, the
+/// feeders up to the last selected row, and none in a chunk with no selected row.
 pub fn number_rows(
     alloc: Global,
-    found: &Bits,
+    selection: &Bits,
     origins: &Origins,
 ) -> Result<Vec<(u32, u64)>, NoMemory>
-    requires { length found.now.bits ≡ length origins.now.rows }
+    requires { length selection.now.bits ≡ length origins.now.rows }
     ensures { IfOk result (λ rows. rows.items
-        ≡ numbered_at origins.now.rows (set_places found.now.bits)) }
+        ≡ numbered_at origins.now.rows (set_positions selection.now.bits)) }
 {
-    let count = found.count();
-    if count > origins.len() / MIN_ROWS_PER_FOUND {
-        number_many(alloc, found, count, origins)
+    let count = selection.count();
+    if count > origins.len() / MIN_ROWS_PER_SELECTED {
+        number_many(alloc, selection, count, origins)
     } else {
-        number_few(alloc, found, count, origins)
+        number_few(alloc, selection, count, origins)
     }
 }
 
-/// Numbers the found rows, going from one to the next. It takes memory for `count` rows at first.
+/// Numbers the selected rows, going from one to the next. It takes memory for `count` rows at first.
 fn number_few(
     alloc: Global,
-    found: &Bits,
+    selection: &Bits,
     count: u64,
     origins: &Origins,
 ) -> Result<Vec<(u32, u64)>, NoMemory>
-    requires { length found.now.bits ≡ length origins.now.rows }
+    requires { length selection.now.bits ≡ length origins.now.rows }
     ensures { IfOk result (λ rows. rows.items
-        ≡ numbered_at origins.now.rows (set_places found.now.bits)) }
+        ≡ numbered_at origins.now.rows (set_positions selection.now.bits)) }
 {
     let mut counts = [0u64; MAX_FEEDERS as usize];
     let mut at = 0;
     let mut rows = Vec::with_capacity(alloc, count as usize)?;
-    'rows: for r in found.ones() {
+    'rows: for r in selection.ones() {
         count_forward(origins, &mut counts, at, r);
         at = r;
         let feeder = origins.feeder(r);
@@ -61,25 +62,25 @@ fn number_few(
     Ok(rows)
 }
 
-/// Numbers the found rows in one pass over all rows. It takes memory for `count` rows at first.
+/// Numbers the selected rows in one pass over all rows. It takes memory for `count` rows at first.
 // In a caller that has much else to hold, the loop would read its pointers from the stack for each row.
 #[inline(never)]
 fn number_many(
     alloc: Global,
-    found: &Bits,
+    selection: &Bits,
     count: u64,
     origins: &Origins,
 ) -> Result<Vec<(u32, u64)>, NoMemory>
-    requires { length found.now.bits ≡ length origins.now.rows }
+    requires { length selection.now.bits ≡ length origins.now.rows }
     ensures { IfOk result (λ rows. rows.items
-        ≡ numbered_at origins.now.rows (set_places found.now.bits)) }
+        ≡ numbered_at origins.now.rows (set_positions selection.now.bits)) }
 {
     let mut counts = [0u64; MAX_FEEDERS as usize];
     let mut listed = Vec::with_capacity(alloc, count as usize)?;
     'rows: for r in 0..origins.len() {
         let feeder = origins.feeder(r);
         let before = counts[feeder as usize];
-        if found.get(r) {
+        if selection.get(r) {
             listed.push((u32::from(feeder), before))?;
         }
         counts[feeder as usize] = before + 1;
@@ -87,8 +88,8 @@ fn number_many(
     Ok(listed)
 }
 
-/// Moves the counts of the rows before `from` forward to those before `to`. Within the same stretch it counts on from
-/// there; for a later stretch it begins at its tally.
+/// Moves the counts of the rows before `from` forward to those before `to`. Within the same chunk it counts on from
+/// there; for a later chunk it begins at its tally.
 fn count_forward(origins: &Origins, counts: &mut Counts, from: u64, to: u64)
     requires forward { from ≤ to }
     requires within { to < length origins.now.rows }
@@ -97,9 +98,9 @@ fn count_forward(origins: &Origins, counts: &mut Counts, from: u64, to: u64)
 {
     if origins.feeders() == 1 {
         counts[0] = to;
-    } else if from / STRETCH_ROWS < to / STRETCH_ROWS {
-        origins.read_tally(to / STRETCH_ROWS, counts);
-        count_rows(origins, counts, to / STRETCH_ROWS * STRETCH_ROWS, to);
+    } else if from / CHUNK_ROWS < to / CHUNK_ROWS {
+        origins.read_tally(to / CHUNK_ROWS, counts);
+        count_rows(origins, counts, to / CHUNK_ROWS * CHUNK_ROWS, to);
     } else {
         count_rows(origins, counts, from, to);
     }

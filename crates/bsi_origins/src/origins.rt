@@ -1,4 +1,4 @@
-//! The feeder of each row, and the counts by which a row's number among its feeder's rows is found.
+//! The feeder of each row, and the counts that give a row's number among its feeder's rows.
 //!
 //! A feeder is a byte. Where there are several, a tally stands before each 512th row: for each feeder, how many of the
 //! rows before came from it, in 4 bytes, as a rank directory has counts of the set bits before (Jacobson 1989). The
@@ -9,7 +9,7 @@ ghost use Rattle.std.specs.Prelude.{◌≡◌, ◌≢◌, ◌↔◌, ◌+◌, �
 ghost use Rattle.bsi_bits.specs.BitList.{max_len};
 ghost use Rattle.bsi_rows.specs.Numbering.{number_within};
 ghost use Rattle.bsi_rows.specs.Table.{max_feeders};
-ghost use Rattle.bsi_origins.specs.Origins.{stretch_rows, tally_len, AreCountsBefore, HasOtherFeeder};
+ghost use Rattle.bsi_origins.specs.Origins.{chunk_rows, tally_len, AreCountsBefore, HasOtherFeeder};
 
 use crate::NoMemory;
 use bsi_bits::room_to_make;
@@ -18,12 +18,12 @@ use std::alloc::Global;
 use std::marker::Model;
 
 /// The number of rows from one tally to the next.
-pub(crate) const STRETCH_ROWS: u64 = 512;
+pub(crate) const CHUNK_ROWS: u64 = 512;
 
 /// A count for each feeder.
 pub(crate) type Counts = [u64; MAX_FEEDERS as usize];
 
-/// The feeder of each of at most 2^32 rows, and the tallies before their stretches where there are several feeders.
+/// The feeder of each of at most 2^32 rows, and the tallies before their chunks where there are several feeders.
 #[derive(Drop)]
 pub struct Origins {
     feeders: u32,
@@ -64,7 +64,7 @@ impl Origins {
         }
     }
 
-    /// Makes the list of rows that came from these feeders, or none if one of them is not among the first so many.
+    /// Makes the list of rows that came from these feeders, or none if one of them is not below `feeders`.
     pub fn from_feeders(
         alloc: Global,
         feeders: u32,
@@ -138,9 +138,9 @@ impl Origins {
             return r;
         }
         let feeder = self.row_feeders[r as usize];
-        let stretch = r / STRETCH_ROWS;
-        let tally = self.tallies[self.feeders as usize * stretch as usize + feeder as usize];
-        let start = stretch * STRETCH_ROWS;
+        let chunk = r / CHUNK_ROWS;
+        let tally = self.tallies[self.feeders as usize * chunk as usize + feeder as usize];
+        let start = chunk * CHUNK_ROWS;
         u64::from(tally) + count_rows_of(feeder, &self.row_feeders[start as usize..r as usize])
     }
 
@@ -154,19 +154,19 @@ impl Origins {
         ensures ok { OnOk result (more ≤ self.new.room) }
         ensures doubles { OnOk result (self.old.room < more →
             min (length self.old.rows) (max_len - length self.old.rows) ≤ self.new.room) }
-        ensures kept { self.old.room ≤ self.new.room }
+        ensures no_less { self.old.room ≤ self.new.room }
         ensures err { OnErr result (self.new ≡ self.old) }
         ensures succeeds { more ≤ self.old.room → IsOk result }
     {
         if more <= self.room {
             return Ok(());
         }
-        let wanted = room_to_make(self.len(), more);
-        let rows = self.len() + wanted;
-        let tallies = tally_len(self.feeders) * rows.div_ceil(STRETCH_ROWS) as usize;
-        self.row_feeders.reserve(wanted as usize)?;
+        let growth = room_to_make(self.len(), more);
+        let rows = self.len() + growth;
+        let tallies = tally_len(self.feeders) * rows.div_ceil(CHUNK_ROWS) as usize;
+        self.row_feeders.reserve(growth as usize)?;
         self.tallies.reserve(tallies - self.tallies.len())?;
-        self.room = wanted;
+        self.room = growth;
         Ok(())
     }
 
@@ -190,7 +190,7 @@ impl Origins {
         ensures feeders { self.new.feeders ≡ self.old.feeders }
         ensures room { self.new.room + 1 ≡ self.old.room }
     {
-        if self.row_feeders.len() as u64 % STRETCH_ROWS == 0 {
+        if self.row_feeders.len() as u64 % CHUNK_ROWS == 0 {
             push_tally(&mut self.tallies, &self.counts[..tally_len(self.feeders)]);
         }
         self.row_feeders.push_reserved(feeder);
@@ -216,7 +216,7 @@ impl Origins {
         }
     }
 
-    /// Appends so many rows of one feeder, into room that is already there. It goes stretch by stretch.
+    /// Appends so many rows of one feeder, into room that is already there. It goes chunk by chunk.
     pub fn push_many_reserved(&mut self, feeder: u8, rows: u64)
         requires feeder { feeder < self.old.feeders }
         requires room { rows ≤ self.old.room }
@@ -230,24 +230,24 @@ impl Origins {
             return;
         }
         let mut left = rows;
-        'stretches: while left > 0 {
-            let run = left.min(STRETCH_ROWS - self.len() % STRETCH_ROWS);
+        'chunks: while left > 0 {
+            let run = left.min(CHUNK_ROWS - self.len() % CHUNK_ROWS);
             self.push_run(feeder, run);
             left -= run;
         }
     }
 
-    /// Appends so many rows of one feeder, one at least, which are all in one stretch, into room that is already there.
+    /// Appends so many rows of one feeder, one at least, which are all in one chunk, into room that is already there.
     fn push_run(&mut self, feeder: u8, rows: u64)
         requires feeder { feeder < self.old.feeders }
         requires some { 0 < rows }
-        requires within { length self.old.rows % stretch_rows + rows ≤ stretch_rows }
+        requires within { length self.old.rows % chunk_rows + rows ≤ chunk_rows }
         requires room { rows ≤ self.old.room }
         ensures rows { self.new.rows ≡ self.old.rows ++ replicate rows feeder }
         ensures feeders { self.new.feeders ≡ self.old.feeders }
         ensures room { self.new.room + rows ≡ self.old.room }
     {
-        if self.row_feeders.len() as u64 % STRETCH_ROWS == 0 {
+        if self.row_feeders.len() as u64 % CHUNK_ROWS == 0 {
             push_tally(&mut self.tallies, &self.counts[..tally_len(self.feeders)]);
         }
         push_feeder(&mut self.row_feeders, feeder, rows);
@@ -255,11 +255,11 @@ impl Origins {
         self.room -= rows;
     }
 
-    /// Writes how many of the rows before stretch `k` came from each feeder. It requires several feeders.
+    /// Writes how many of the rows before chunk `k` came from each feeder. It requires several feeders.
     pub(crate) fn read_tally(&self, k: u64, counts: &mut Counts)
         requires several { 1 < self.now.feeders }
-        requires there { stretch_rows * k < length self.now.rows }
-        ensures { AreCountsBefore self.now.feeders self.now.rows (stretch_rows * k) counts.new }
+        requires there { chunk_rows * k < length self.now.rows }
+        ensures { AreCountsBefore self.now.feeders self.now.rows (chunk_rows * k) counts.new }
     {
         let len = self.feeders as usize;
         let start = len * k as usize;

@@ -10,7 +10,7 @@ use Rattle.std.proofs.lemmas.List.{append-nil, take-append-drop, take-append-le,
 use Rattle.std.proofs.lemmas.List.Elements.{filter_map-append}
 use Rattle.std.proofs.lemmas.List.FromFn.{length-map-range_with_len, get_or-map-range_with_len}
 use Rattle.std.proofs.lemmas.Option.{slice_get-get_or}
-use Rattle.bsi_rows.specs.Rows.{Entries, FedRow}
+use Rattle.bsi_rows.specs.Rows.{Entries, SourcedRow}
 use Rattle.bsi_rows.specs.declared.event.Event.{Event}
 use Rattle.bsi_rows.specs.declared.event.Event.TheVariants.{Submit, Load, Close, Ask}
 use Rattle.bsi_rows.specs.declared.event.Reply.{Reply}
@@ -42,9 +42,9 @@ not_both : {E : Type 0} (reply : Result ℕ E) (p : ℕ) (e : E) → reply ≡ O
 not_both (Ok n) p e ok err = grind (arith, err)
 not_both (Err e') p e ok err = grind (arith, ok)
 
-abbrev place_of : {E : Type 0} → Result ℕ E → ℕ
-place_of (Ok p) = p
-place_of (Err e) = 0
+abbrev position_of_reply : {E : Type 0} → Result ℕ E → ℕ
+position_of_reply (Ok p) = p
+position_of_reply (Err e) = 0
 
 by_tests : {E : Type 0} (u w i : Bool) (x y z : E) (n p : ℕ) (no_memory : E) (reply : Result ℕ E) → reply ≡ Ok p
     → MatchOption (cond u (Some x) (cond w (Some y) (cond i (Some z) None))) ((reply ≡ Ok n) ⊎ (reply ≡ Err no_memory)) (λ refused. reply ≡ Err refused)
@@ -52,14 +52,14 @@ by_tests : {E : Type 0} (u w i : Bool) (x y z : E) (n p : ℕ) (no_memory : E) (
 by_tests true w i x y z n p no_memory reply ok is = absurd (not_both reply p x ok is)
 by_tests false true i x y z n p no_memory reply ok is = absurd (not_both reply p y ok is)
 by_tests false false true x y z n p no_memory reply ok is = absurd (not_both reply p z ok is)
-by_tests false false false x y z n p no_memory reply ok (inl is) = (refl, refl, refl, ap (λ r. place_of r) (sym ok ∙ is))
+by_tests false false false x y z n p no_memory reply ok (inl is) = (refl, refl, refl, ap (λ r. position_of_reply r) (sym ok ∙ is))
 by_tests false false false x y z n p no_memory reply ok (inr is) = absurd (not_both reply p no_memory ok is)
 
 -- the feeder is there, and a row of it waits
 pub record Loads (s : Shown) (g p : ℕ) : Type 0 where
   pub there : g < length s.feeders
   pub some : 0 < length (feeder_at s g).rows
-  pub place : p ≡ length s.index.rows
+  pub position : p ≡ length s.index.rows
 
 pub loads_waiting : (s : Shown) (g p : ℕ) → IsLoadReply s g (Ok p) → Loads s g p
 loads_waiting s g p reply =
@@ -67,7 +67,7 @@ loads_waiting s g p reply =
     record {
       there = let test = tests.0 in grind (arith, nat_tests);
       some = let test = tests.1 in grind (arith, nat_tests);
-      place = tests.3;
+      position = tests.3;
     }
 
 -- ---- the balance
@@ -86,14 +86,14 @@ balanced_start s f =
       indexed_are = sym (take-append_seam rows more);
     }
 
-abbrev from_of : ℕ → FedRow → Option Entries
+abbrev from_of : ℕ → SourcedRow → Option Entries
 from_of f row = cond (nat_eq row.0 f) (Some row.1) None
 
 module _ (s : Shown) (f : ℕ) (past : List Done) (before : IsBalanced s f past) (e : Event) (r : Reply) where
   -- no row of the feeder is loaded
-  kept : loaded_by f e r ≡ 0 → rows_from f (loaded_row s past e r) ≡ [] → IsBalanced s f ((e, r) ∷ past)
+  unaffected : loaded_by f e r ≡ 0 → rows_from f (loaded_row s past e r) ≡ [] → IsBalanced s f ((e, r) ∷ past)
   unfolding accepted loads indexed
-  kept none no_row =
+  unaffected none no_row =
       let rows = accepted s f past in
       let more = accepted_by f e r in
       let same : loads s f past + loaded_by f e r ≡ loads s f past = omega (arith, none) in
@@ -134,9 +134,9 @@ loaded_waits s past g p reply =
     omega (arith, is.some, shown, length-drop (loads s g past) (accepted s g past))
 
 -- the rows of a feeder among the one that is loaded
-row_from : (f g : ℕ) (found : Option Entries) (row : Entries) → found ≡ Some row
-    → rows_from f (option_to_list (option_map (λ x. (g, x)) found)) ≡ cond (nat_eq g f) (row ∷ []) []
-row_from f g found row is =
+row_from : (f g : ℕ) (selection : Option Entries) (row : Entries) → selection ≡ Some row
+    → rows_from f (option_to_list (option_map (λ x. (g, x)) selection)) ≡ cond (nat_eq g f) (row ∷ []) []
+row_from f g selection row is =
     ap (λ o. rows_from f (option_to_list (option_map (λ x. (g, x)) o))) is
     ∙ elim (nat_eq g f) as (λ b. filter_map (λ o. o) (cond b (Some row) None ∷ []) ≡ cond b (row ∷ []) []) [ true ↦ refl | false ↦ refl ]
 
@@ -151,27 +151,27 @@ load_step s f past before g p reply =
           moved s f past before (Load g) (Loaded (Ok p)) (ap (λ b. cond b 1 0) same) refl
           (subst (λ h. loads s h past < length (accepted s h past)) is waits)
           (row ∙ ap (λ b. cond b (get_or (accepted s g past) (loads s g past) [] ∷ []) []) same ∙ ap (λ h. get_or (accepted s h past) (loads s h past) [] ∷ []) is)
-      | inr other ↦ kept s f past before (Load g) (Loaded (Ok p)) (ap (λ b. cond b 1 0) other) (row ∙ ap (λ b. cond b (get_or (accepted s g past) (loads s g past) [] ∷ []) []) other)
+      | inr other ↦ unaffected s f past before (Load g) (Loaded (Ok p)) (ap (λ b. cond b 1 0) other) (row ∙ ap (λ b. cond b (get_or (accepted s g past) (loads s g past) [] ∷ []) []) other)
     ]
 
 step : (s : Shown) (f : ℕ) (past : List Done) → IsBalanced s f past → (e : Event) (r : Reply) → IsLawful (shown_after s past) e r → IsBalanced s f ((e, r) ∷ past)
-step s f past before (Submit g row) (Submitted reply) lawful = kept s f past before (Submit g row) (Submitted reply) refl refl
+step s f past before (Submit g row) (Submitted reply) lawful = unaffected s f past before (Submit g row) (Submitted reply) refl refl
 step s f past before (Submit g row) (Loaded reply) lawful = absurd lawful
 step s f past before (Submit g row) (Closed reply) lawful = absurd lawful
 step s f past before (Submit g row) (Answered reply) lawful = absurd lawful
 step s f past before (Load g) (Submitted reply) lawful = absurd lawful
 step s f past before (Load g) (Loaded (Ok p)) lawful = load_step s f past before g p lawful
-step s f past before (Load g) (Loaded (Err e)) lawful = kept s f past before (Load g) (Loaded (Err e)) refl refl
+step s f past before (Load g) (Loaded (Err e)) lawful = unaffected s f past before (Load g) (Loaded (Err e)) refl refl
 step s f past before (Load g) (Closed reply) lawful = absurd lawful
 step s f past before (Load g) (Answered reply) lawful = absurd lawful
 step s f past before (Close g) (Submitted reply) lawful = absurd lawful
 step s f past before (Close g) (Loaded reply) lawful = absurd lawful
-step s f past before (Close g) (Closed reply) lawful = kept s f past before (Close g) (Closed reply) refl refl
+step s f past before (Close g) (Closed reply) lawful = unaffected s f past before (Close g) (Closed reply) refl refl
 step s f past before (Close g) (Answered reply) lawful = absurd lawful
 step s f past before (Ask query) (Submitted reply) lawful = absurd lawful
 step s f past before (Ask query) (Loaded reply) lawful = absurd lawful
 step s f past before (Ask query) (Closed reply) lawful = absurd lawful
-step s f past before (Ask query) (Answered reply) lawful = kept s f past before (Ask query) (Answered reply) refl refl
+step s f past before (Ask query) (Answered reply) lawful = unaffected s f past before (Ask query) (Answered reply) refl refl
 
 pub balanced : (s : Shown) (f : ℕ) (past : List Done) → AreLawful s past → IsBalanced s f past
 unfolding AreLawful

@@ -6,8 +6,8 @@ use Rattle.std.proofs.lemmas.Bool.Decides.{nat_tests}
 use Rattle.std.proofs.lemmas.Int.{ints}
 use Rattle.std.proofs.lemmas.List.{nil_from_length}
 use Rattle.std.proofs.lemmas.List.Sums.{sum_by-cons, count_by-le-length}
-use Rattle.bsi_orders.specs.WholeNumbers.{IsSignedMedianOf}
-use Rattle.bsi_orders.specs.Ranks.{IsSignedRanked, IsSignedRankOf}
+use Rattle.bsi_digits.specs.WholeNumbers.{IsSignedMedianOf}
+use Rattle.bsi_digits.specs.Ranks.{IsSignedRanked, IsSignedRankOf}
 
 neither_way : (x y : ℤ) → int_lt x y ≡ false → int_lt y x ≡ false → x ≡ y
 neither_way x y below above = grind (arith, ints, nat_tests)
@@ -54,9 +54,9 @@ member m [] more = absurd (omega (arith, more))
 member m (n ∷ numbers) more = elim (cases_Bool (int_le n m && int_le m n)) [
   | inl same ↦ (0, omega arith, is_same n m same)
   | inr other ↦
-      let found = member m numbers
+      let selection = member m numbers
       (omega (arith, more, is_below n m other, sum_by-cons (λ n. cond (int_le n m) 1 0) n numbers, sum_by-cons (λ n. cond (int_lt n m) 1 0) n numbers)) in
-      (suc found.0, omega (arith, found.1), found.2)
+      (suc selection.0, omega (arith, selection.1), selection.2)
 ]
 
 module _ (numbers : List ℤ) where

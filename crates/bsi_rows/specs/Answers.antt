@@ -1,8 +1,8 @@
--- What the answer to a query is.
+-- The right answer to a query (`IsAnswer`), and the reply: the answer, or the first missing column (`IsReply`).
 use Rattle.std.specs.Prelude.{◌≡◌, ℕ, List, [], ◌∷◌, ◌++◌, Option, Some, None, Result, Ok, Err, length, find, nat_le, ℤ}
-use Rattle.bsi_rows.specs.Numbering.{numbered_at, Place}
-use Rattle.bsi_orders.specs.Ranks.{IsSignedRankOf}
-use Rattle.bsi_orders.specs.WholeNumbers.{signed_sum, IsSignedLeastOf, IsSignedGreatestOf, IsSignedMedianOf}
+use Rattle.bsi_rows.specs.Numbering.{numbered_at, Origin}
+use Rattle.bsi_digits.specs.Ranks.{IsSignedRankOf}
+use Rattle.bsi_digits.specs.WholeNumbers.{signed_sum, IsSignedLeastOf, IsSignedGreatestOf, IsSignedMedianOf}
 use Rattle.bsi_rows.specs.declared.errors.AskError.{AskError}
 use Rattle.bsi_rows.specs.declared.errors.AskError.TheVariants.{BadColumn, NoMemory}
 use Rattle.bsi_rows.specs.declared.query.Answer.{Answer}
@@ -12,20 +12,20 @@ use Rattle.bsi_rows.specs.declared.query.Query.{Query}
 use Rattle.bsi_rows.specs.declared.query.Total.{Total}
 use Rattle.bsi_rows.specs.declared.query.Total.TheVariants.{Count, Sum, Least, Greatest, Median, Rank, Rows}
 use Rattle.bsi_schema.specs.Columns.{Declared}
-use Rattle.bsi_rows.specs.Rows.{FedRow, feeders_of, selected, values}
+use Rattle.bsi_rows.specs.Rows.{SourcedRow, feeders_of, selected, values}
 
--- the answer is a number or none, and this is so of it
+-- the answer is a number or none, as `Is` describes
 abbrev pub IsValue : (Option ℤ → Type 0) → Answer → Type 0
 IsValue Is (value_answer number) = Is number
 IsValue Is answer = ⊥
 
--- the answer is this list of the places of rows
-abbrev pub IsRows : List Place → Answer → Type 0
+-- the answer is the list of the origins of rows
+abbrev pub IsRows : List Origin → Answer → Type 0
 IsRows places (rows_answer listed) = listed.items ≡ places
 IsRows places answer = ⊥
 
 -- the answer is the total of the rows that the predicate selects
-abbrev pub IsTotal : Total → Pred → List FedRow → Answer → Type 0
+abbrev pub IsTotal : Total → Pred → List SourcedRow → Answer → Type 0
 IsTotal Count pred rows answer = answer ≡ count_answer (length (selected pred rows))
 IsTotal (Sum c) pred rows answer = answer ≡ sum_answer (signed_sum (values c pred rows))
 IsTotal (Least c) pred rows answer = IsValue (IsSignedLeastOf (values c pred rows)) answer
@@ -34,7 +34,8 @@ IsTotal (Median c) pred rows answer = IsValue (IsSignedMedianOf (values c pred r
 IsTotal (Rank c rank) pred rows answer = IsValue (IsSignedRankOf rank (values c pred rows)) answer
 IsTotal Rows pred rows answer = IsRows (numbered_at (feeders_of rows) (selected pred rows)) answer
 
-abbrev pub IsAnswer : Query → List FedRow → Answer → Type 0
+-- the answer is that to the query
+abbrev pub IsAnswer : Query → List SourcedRow → Answer → Type 0
 IsAnswer query rows answer = IsTotal query.total query.pred rows answer
 
 -- the predicate has no `or` and no `not`
@@ -47,7 +48,7 @@ IsConjunction (Both' p first q second) = IsConjunction first × IsConjunction se
 IsConjunction (Either' p first q second) = ⊥
 IsConjunction (Not' p pred) = ⊥
 
--- the query is answered without memory: it counts the rows of a conjunction
+-- the query counts the rows of a conjunction, which takes no memory
 abbrev pub CountsConjunction : Query → Type 0
 CountsConjunction query = (query.total ≡ Count) × IsConjunction query.pred
 
@@ -71,21 +72,20 @@ columns_of_pred (Both' p first q second) = columns_of_pred first ++ columns_of_p
 columns_of_pred (Either' p first q second) = columns_of_pred first ++ columns_of_pred second
 columns_of_pred (Not' p pred) = columns_of_pred pred
 
--- the first of these columns that is none of the first `count`
+-- the first listed column that is not below `count`
 abbrev pub missing_of : ℕ → List ℕ → Option ℕ
 missing_of count columns = find (λ c. nat_le count c) columns
 
--- each column that a predicate reads is one of the first `count`
+-- each column that a predicate reads is below `count`
 abbrev pub ReadsAmong : ℕ → Pred → Type 0
 ReadsAmong count pred = missing_of count (columns_of_pred pred) ≡ None
 
--- the first column that a query reads and that is not there: its total's, else the first of its predicate
+-- the first missing column of a query: that of its total, or else the first of its predicate
 abbrev pub missing_column : ℕ → Query → Option ℕ
 missing_column count query = missing_of count (columns_of_total query.total ++ columns_of_pred query.pred)
 
--- the reply to a query over rows of a schema: the first column that is not there, else the answer, or that memory was
--- refused
-abbrev pub IsReply : Declared → List FedRow → Query → Result Answer AskError → Type 0
+-- the reply to a query over rows of a schema: the first missing column; or the answer; or that memory was refused
+abbrev pub IsReply : Declared → List SourcedRow → Query → Result Answer AskError → Type 0
 IsReply schema rows query (Ok answer) =
     (missing_column (length schema.columns) query ≡ None) × IsAnswer query rows answer
 IsReply schema rows query (Err (BadColumn c)) = missing_column (length schema.columns) query ≡ Some c

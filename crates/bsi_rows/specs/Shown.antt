@@ -1,4 +1,4 @@
--- What a contract sees of a step machine, and the reply that it owes to an event.
+-- What a contract sees of a step machine, and its lawful reply to an event.
 use Rattle.std.specs.Prelude.{◌≡◌, ℕ, ◌≤◌, All, IsTrue, Bool, false, not, List, [], Option, Some, None, Result, Ok, Err, ◌⊎◌, MatchOption, length, nat_le, ◌==◌, if◌then◌else◌, slice_index_or}
 use Rattle.bsi_rows.specs.declared.errors.AppendError.{AppendError}
 use Rattle.bsi_rows.specs.declared.errors.AppendError.TheVariants as append
@@ -17,29 +17,29 @@ use Rattle.bsi_rows.specs.declared.event.Reply.TheVariants.{Submitted, Loaded, C
 use Rattle.bsi_rows.specs.declared.event.SubmitRefused.{SubmitRefused}
 use Rattle.bsi_rows.specs.declared.event.SubmitRefused.TheVariants as submit
 
--- what is seen of a feeder: its waiting rows in order, whether it was closed, and how many rows may wait
+-- what a contract sees of a feeder: its waiting rows in order, whether the feeder is closed, and how many rows may wait
 pub record Waiting : Type 0 where
   pub rows : List Entries
   pub closed : Bool
   pub capacity : ℕ
 
--- what is seen of a machine: the index, and each feeder
+-- what a contract sees of a machine: the index, and each feeder
 pub record Shown : Type 0 where
   pub index : Table
   pub feeders : List Waiting
 
--- what a list of feeders has past its end
+-- the feeder that is read past the end of a list of feeders
 abbrev pub no_feeder : Waiting
 no_feeder = record { rows = []; closed = false; capacity = 0 }
 
 abbrev pub feeder_at : Shown → ℕ → Waiting
 feeder_at s f = slice_index_or s.feeders f no_feeder
 
--- there is no such feeder
+-- there is no feeder of this number
 abbrev pub is_unknown : Shown → ℕ → Bool
 is_unknown s f = nat_le (length s.feeders) f
 
--- the reply to a submission: the first refusal that applies, with the row, or that it is accepted
+-- the reply to a submission: the first refusal that applies, with the row, or that the row is accepted
 abbrev pub submit_reply : Shown → ℕ → Entries → Result (Unit {0}) SubmitRefused
 submit_reply s f row =
     if is_unknown s f then Err (submit.UnknownFeeder row)
@@ -61,7 +61,7 @@ load_refusal s f =
     else (if length s.index.rows == s.index.limit then Some load.IndexFull
     else None))
 
--- the reply to a load: that refusal, or the position of the row, or that there is no memory
+-- the reply to a load: the first refusal, or the position of the row, or that memory was refused
 abbrev pub IsLoadReply : Shown → ℕ → Result ℕ LoadRefused → Type 0
 IsLoadReply s f reply =
     MatchOption (load_refusal s f) ((reply ≡ Ok (length s.index.rows)) ⊎ (reply ≡ Err load.NoMemory))
@@ -74,7 +74,7 @@ close_reply s f =
     else (if (feeder_at s f).closed then Err close.AlreadyClosed
     else Ok tt)
 
--- the reply is one that the machine may give to the event
+-- the reply is lawful: the machine may give the reply to the event
 abbrev pub IsLawful : Shown → Event → Reply → Type 0
 IsLawful s (Submit f row) (Submitted reply) = reply ≡ submit_reply s f row
 IsLawful s (Load f) (Loaded reply) = IsLoadReply s f reply
@@ -82,15 +82,21 @@ IsLawful s (Close f) (Closed reply) = reply ≡ close_reply s f
 IsLawful s (Ask query) (Answered reply) = IsReply s.index.schema s.index.rows query reply
 IsLawful s event reply = ⊥
 
--- at most so many rows of a feeder wait
+-- the most waiting rows of a feeder
 abbrev pub max_waiting : ℕ
 max_waiting = 65536
 
--- there are from 1 to 64 feeders, no more rows of each wait than may, and those that wait fit the schema
+-- a valid state of a machine
 pub record IsMachine (index : Table) (feeders : List Waiting) : Type 0 where
+  -- the index and the machine have as many feeders
   pub as_many : index.feeders ≡ length feeders
+  -- there is at least one feeder
   pub some : 1 ≤ length feeders
+  -- there are at most 64 feeders
   pub few : length feeders ≤ max_feeders
+  -- no more rows of a feeder wait than its capacity
   pub bounded : All (λ w. length w.rows ≤ w.capacity) feeders
+  -- each capacity is at most 65,536 rows
   pub small : All (λ w. w.capacity ≤ max_waiting) feeders
+  -- the waiting rows fit the schema
   pub fitting : All (λ w. All (λ row. IsTrue (fits index.schema.columns row)) w.rows) feeders

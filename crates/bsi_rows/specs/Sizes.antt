@@ -1,4 +1,4 @@
--- Which sizes a machine may have, and a machine as it is made.
+-- The valid sizes of a machine, and a new machine.
 use Rattle.std.specs.Prelude.{ℕ, Bool, false, ◌||◌, List, [], Option, Some, length, map, position, nat_eq, nat_lt, option_map, if◌then◌else◌}
 use Rattle.std.specs.Option.{option_or}
 use Rattle.bsi_rows.specs.declared.errors.IndexError.{IndexError}
@@ -25,7 +25,7 @@ sizes_refusal schema capacities limit =
     else (if nat_lt max_feeders (length capacities) then Some TooManyFeeders
     else option_or (capacities_refusal capacities) (option_map Index (index_refusal schema limit)))
 
--- the refusal of a machine where its index is refused
+-- the refusal of a machine whose index is refused
 abbrev pub refusal_of_index : IndexError → MakeError
 refusal_of_index index.NoColumns = Index index.NoColumns
 refusal_of_index index.LimitOutOfRange = Index index.LimitOutOfRange

@@ -2,57 +2,57 @@
 use Rattle.std.specs.Prelude.{◌≡◌, ℕ, ◌^◌, ◌<◌, List, [], ◌∷◌, ◌++◌, All, map, ℤ, IsTrue}
 use Rattle.bsi_schema.specs.declared.form.Form.{Form}
 use Rattle.bsi_schema.specs.Columns.{fits, Declared, NamedColumn}
-use Rattle.bsi_rows.specs.Rows.{row_entries, row_feeder, Entries, FedRow}
+use Rattle.bsi_rows.specs.Rows.{row_entries, row_feeder, Entries, SourcedRow}
 
--- at most so many feeders have rows in one index
+-- the most feeders of one index
 abbrev pub max_feeders : ℕ
 max_feeders = 64
 
--- at most so many rows of an index
+-- the most rows of an index
 abbrev pub max_rows : ℕ
 max_rows = 2 ^ 32
 
--- what each number of 32 bits is below
+-- one more than the greatest number of 32 bits
 abbrev pub end_of_u32 : ℕ
 end_of_u32 = 2 ^ 32
 
--- what each number of 64 bits is below
-abbrev pub end_of_u64 : ℕ
-end_of_u64 = 2 ^ 64
-
--- what a contract sees of an index: its schema, how many feeders there are, the most rows, and the rows
+-- what a contract sees of an index
 pub record Table : Type 0 where
+  -- the columns of the rows
   pub schema : Declared
+  -- the number of feeders
   pub feeders : ℕ
+  -- the most rows that the index takes
   pub limit : ℕ
-  pub rows : List FedRow
+  -- the rows in order, each with its feeder
+  pub rows : List SourcedRow
 
-abbrev pub table : Declared → ℕ → ℕ → List FedRow → Table
+abbrev pub table : Declared → ℕ → ℕ → List SourcedRow → Table
 table schema feeders limit rows = record { schema = schema; feeders = feeders; limit = limit; rows = rows }
 
 abbrev pub no_rows : Declared → ℕ → ℕ → Table
 no_rows schema feeders limit = table schema feeders limit []
 
--- these rows stand last, in their order
-abbrev pub with_rows : Table → List FedRow → Table
+-- the table with more rows, the last, in their order
+abbrev pub with_rows : Table → List SourcedRow → Table
 with_rows table rows = record table { rows = table.rows ++ rows }
 
--- one more row stands last
+-- the table with one more row, the last
 abbrev pub with_row : Table → ℕ → Entries → Table
 with_row table feeder row = with_rows table ((feeder, row) ∷ [])
 
 -- each row fits the columns
-abbrev pub AreFitting : List NamedColumn → List FedRow → Type 0
+abbrev pub AreFitting : List NamedColumn → List SourcedRow → Type 0
 AreFitting columns rows = All (λ row. IsTrue (fits columns (row_entries row))) rows
 
--- each row came from one of the first so many feeders
-abbrev pub AreFrom : ℕ → List FedRow → Type 0
+-- each row came from a feeder whose number is below `feeders`
+abbrev pub AreFrom : ℕ → List SourcedRow → Type 0
 AreFrom feeders rows = All (λ row. row_feeder row < feeders) rows
 
--- how a column is kept: in which form, and from which number on
-abbrev pub kept_as : NamedColumn → Form × ℤ
-kept_as column = (column.form, column.offset)
+-- the encoding of a column: its form and its offset
+abbrev pub encoded_as : NamedColumn → Form × ℤ
+encoded_as column = (column.form, column.offset)
 
--- the columns of two schemas are kept alike
-abbrev pub AreKeptAlike : Declared → Declared → Type 0
-AreKeptAlike first second = map kept_as first.columns ≡ map kept_as second.columns
+-- the columns of two schemas are encoded alike
+abbrev pub AreEncodedAlike : Declared → Declared → Type 0
+AreEncodedAlike first second = map encoded_as first.columns ≡ map encoded_as second.columns

@@ -1,23 +1,23 @@
-//! A block of rows of one schema, kept column by column.
+//! A block of rows of one schema, stored column by column.
 //!
-//! The numbers of column `c` stand in 64 places from place `64 * c` on, so a row is written without moving another, and
+//! The numbers of column `c` are in 64 slots from slot `64 * c` on, so a row is written without moving another, and
 //! a column is written and lent as one slice.
 //!
 //! A block carries the feeder of each row, so one block serves all feeders. It holds its schema by an `Arc`, where a
 //! ghost snapshot would do for the proofs: what has a snapshot can't be shown to go to another thread.
 
 ghost use Rattle.std.specs.Prelude.{◌≡◌, ◌↔◌, [], ◌+◌, ◌++◌, ◌^◌, ◌<◌, ◌≤◌, All, Some, IfOk, IsTrue, length, replicate, slice_get, vec_capacity, true, false};
-ghost use Rattle.bsi_orders.specs.Blocks.{offset_entries, value_entries, IsNumberBlock};
-ghost use Rattle.bsi_schema.specs.Columns.{column_at, fits, is_taken_by};
+ghost use Rattle.bsi_digits.specs.Blocks.{offset_entries, value_entries, IsNumberBlock};
+ghost use Rattle.bsi_schema.specs.Columns.{column_at, fits, is_accepted_by};
 ghost use Rattle.bsi_rows.specs.RowBlocks.{emptied_block, entries_of, max_block_rows, no_block_rows, with_block_row, with_null_rows, HasColumn, HaveSameLimits};
 ghost use Rattle.bsi_rows.specs.Rows.{column_of, feeders_of};
 ghost use Rattle.bsi_rows.specs.Table.{AreFitting, AreFrom};
 
 use crate::cells::{
-    has_no_bit_past, read_row, takes_values, write_entries, write_nulls, write_row, write_values,
+    accepts_values, has_no_bit_past, read_row, write_entries, write_nulls, write_row, write_values,
 };
 use crate::{NoMemory, Row, Schema};
-use bsi_schema::{Limits, have_same_limits, take_each};
+use bsi_schema::{Limits, accepts_row, have_same_limits};
 use std::alloc::Global;
 use std::marker::Model;
 use std::sync::Arc;
@@ -30,12 +30,12 @@ pub const MAX_BLOCK_ROWS: usize = 64;
 /// column, and 4 bytes for its feeder.
 pub struct Block {
     schema: Arc<Schema, Global>,
-    // What each column takes, beside the shared schema, so that a row is tested without it.
+    // What each column accepts, beside the shared schema, so that a row is tested without it.
     limits: Vec<Limits>,
     feeders: u32,
     // The feeder of each row.
     row_feeders: Vec<u32>,
-    // 64 a column, each less the least number that the column takes; 0 for a null.
+    // 64 a column, each less the least number that the column accepts; 0 for a null.
     numbers: Vec<u64>,
     // A word a column, of which entries are numbers.
     not_null: Vec<u64>,
@@ -45,7 +45,7 @@ pub struct Block {
 /// number `r` and the offset.
 #[derive(Clone, Copy)]
 pub struct BlockColumn<'a> {
-    /// The least number that the column takes.
+    /// The least number that the column accepts.
     pub offset: i64,
     /// The numbers less the offset, in order of the rows.
     pub numbers: &'a [u64],
@@ -134,7 +134,7 @@ impl Block {
         self.feeders
     }
 
-    /// Takes all rows out of the block. It keeps the room.
+    /// Removes all rows. It keeps the room.
     pub fn clear(&mut self)
         ensures { self.new ≡ emptied_block self.old }
     {
@@ -148,9 +148,9 @@ impl Block {
         requires feeder { feeder < self.old.feeders }
         ensures fits { result ≡ fits self.old.schema.columns row.now }
         ensures added { result ≡ true → self.new ≡ with_block_row self.old feeder row.now }
-        ensures kept { result ≡ false → self.new ≡ self.old }
+        ensures unchanged { result ≡ false → self.new ≡ self.old }
     {
-        if !take_each(&self.limits, row) {
+        if !accepts_row(&self.limits, row) {
             return false;
         }
         let at = self.row_feeders.len();
@@ -194,25 +194,25 @@ impl Block {
         push_feeder(&mut self.row_feeders, feeder, rows);
     }
 
-    /// Returns whether at most 64 entries may be written in column `c`: it takes each, and `not_null` has no bit past the
-    /// last.
-    pub fn takes_column(&self, c: usize, values: &[i64], not_null: u64) -> bool
+    /// Returns whether at most 64 entries may be written in column `c`: it accepts each, and `not_null` has no bit past
+    /// the last.
+    pub fn accepts_column(&self, c: usize, values: &[i64], not_null: u64) -> bool
         requires within { c < length self.now.schema.columns }
         requires few { length values.now ≤ max_block_rows }
         ensures { IsTrue result ↔ (not_null < 2 ^ length values.now)
-            × All (λ entry. is_taken_by (column_at self.now.schema.columns c) entry ≡ true)
+            × All (λ entry. is_accepted_by (column_at self.now.schema.columns c) entry ≡ true)
             (value_entries values.now not_null) }
     {
-        has_no_bit_past(not_null, values.len()) && takes_values(self.limits[c], values, not_null)
+        has_no_bit_past(not_null, values.len()) && accepts_values(self.limits[c], values, not_null)
     }
 
     /// Writes the entries of column `c` in all rows at once: value `r` where bit `r` of `not_null` is set, and a null
-    /// elsewhere. The column takes each, and no bit past the last entry is set.
+    /// elsewhere. The column accepts each, and no bit past the last entry is set.
     pub fn write_column(&mut self, c: usize, values: &[i64], not_null: u64)
         requires within { c < length self.old.schema.columns }
         requires long { length values.now ≡ length self.old.rows }
         requires clear { not_null < 2 ^ length values.now }
-        requires taken { All (λ entry. is_taken_by (column_at self.old.schema.columns c) entry ≡ true)
+        requires accepted { All (λ entry. is_accepted_by (column_at self.old.schema.columns c) entry ≡ true)
             (value_entries values.now not_null) }
         ensures column { HasColumn self.old self.new c (value_entries values.now not_null) }
         ensures fitting { AreFitting self.new.schema.columns self.new.rows }
@@ -221,8 +221,8 @@ impl Block {
         self.not_null[c] = not_null;
     }
 
-    /// Returns whether the columns of a schema take the same numbers as those that the block was made for. It takes no
-    /// memory.
+    /// Returns whether the columns of a schema accept the same numbers as those that the block was made for. It takes
+    /// no memory.
     pub fn has_limits_of(&self, schema: &Schema) -> bool
         ensures alike { IsTrue result ↔ HaveSameLimits self.now.schema schema.now }
         ensures fits { IsTrue result → AreFitting schema.now.columns self.now.rows }

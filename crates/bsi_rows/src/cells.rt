@@ -1,12 +1,13 @@
-//! The entries of the rows of a block, column by column. The numbers of column `c` stand in 64 places from place
-//! `64 * c` on, each less the least number that the column takes, and bit `r` of word `c` tells whether entry `r` is one.
+//! Writes and reads the entries of a block, row by row or column by column. The numbers of column `c` are in 64 slots
+//! from slot `64 * c` on, each less the least number that the column accepts, and bit `r` of word `c` tells whether
+//! entry `r` is one.
 
 ghost use Rattle.std.specs.Prelude.{◌≡◌, ◌≢◌, ◌↔◌, ℕ, ◌+◌, ◌*◌, ◌^◌, ◌<◌, ◌≤◌, All, IfOk, IsTrue, Some, length, slice_index, true, false};
-ghost use Rattle.bsi_orders.specs.Blocks.{value_entries, value_entry};
-ghost use Rattle.bsi_orders.specs.Offsets.{number_of, IsInRange};
+ghost use Rattle.bsi_digits.specs.Blocks.{value_entries, value_entry};
+ghost use Rattle.bsi_digits.specs.Offsets.{number_of, IsInRange};
 ghost use Rattle.bsi_schema.specs.Columns.{entry_at, is_between};
-ghost use Rattle.bsi_rows.specs.RowBlocks.{least_at, max_block_rows, placed_entry, placed_row, IsSameCell, IsValueAt, IsWritten};
-ghost use Rattle.bsi_rows.specs.Table.{end_of_u64};
+ghost use Rattle.bsi_rows.specs.RowBlocks.{least_at, max_block_rows, cell_entry, row_of_cells, IsSameCell, IsValueAt, IsWrittenEntry};
+ghost use Rattle.bsi_bits.specs.Packed.{end_of_u64};
 
 use crate::NoMemory;
 use crate::block::MAX_BLOCK_ROWS;
@@ -21,7 +22,7 @@ fn distance(least: i64, number: i128) -> u64
     (number - i128::from(least)) as u64
 }
 
-/// Writes entry `r` of column `c`, of which there is none yet: a null, or a number that the column takes.
+/// Writes entry `r` of column `c`, of which there is none yet: a null, or a number that the column accepts.
 fn write_entry(
     limits: &[Limits],
     entry: Option<i128>,
@@ -33,12 +34,12 @@ fn write_entry(
     requires within { c < length limits.now }
     requires long { length numbers.old ≡ max_block_rows * length limits.now }
     requires words { length not_null.old ≡ length limits.now }
-    requires place { r < max_block_rows }
+    requires slot { r < max_block_rows }
     requires range { IsInRange (least_at limits.now c) end_of_u64 entry }
     requires clear { slice_index not_null.old c < 2 ^ r }
     ensures long { length numbers.new ≡ length numbers.old }
     ensures words { length not_null.new ≡ length not_null.old }
-    ensures written { IsWritten limits.now numbers.new not_null.new c r entry }
+    ensures written { IsWrittenEntry limits.now numbers.new not_null.new c r entry }
     ensures other_rows { (k s : ℕ) → s < max_block_rows → s ≢ r →
         IsSameCell numbers.old not_null.old numbers.new not_null.new k s }
     ensures other_columns { (k : ℕ) → k ≢ c →
@@ -53,7 +54,7 @@ fn write_entry(
     not_null[c] |= 1 << r;
 }
 
-/// Writes the entries of row `r`, of which there is none yet, and each of which its column takes.
+/// Writes the entries of row `r`, of which there is none yet, and each of which its column accepts.
 pub(crate) fn write_row(
     limits: &[Limits],
     entries: &[Option<i128>],
@@ -64,14 +65,14 @@ pub(crate) fn write_row(
     requires wide { length entries.now ≡ length limits.now }
     requires long { length numbers.old ≡ max_block_rows * length limits.now }
     requires words { length not_null.old ≡ length limits.now }
-    requires place { r < max_block_rows }
+    requires slot { r < max_block_rows }
     requires range { (c : ℕ) → c < length limits.now →
         IsInRange (least_at limits.now c) end_of_u64 (entry_at entries.now c) }
     requires clear { (c : ℕ) → slice_index not_null.old c < 2 ^ r }
     ensures long { length numbers.new ≡ length numbers.old }
     ensures words { length not_null.new ≡ length not_null.old }
     ensures written { (c : ℕ) → c < length limits.now →
-        IsWritten limits.now numbers.new not_null.new c r (entry_at entries.now c) }
+        IsWrittenEntry limits.now numbers.new not_null.new c r (entry_at entries.now c) }
     ensures other_rows { (c s : ℕ) → s < max_block_rows → s ≢ r →
         IsSameCell numbers.old not_null.old numbers.new not_null.new c s }
 {
@@ -91,14 +92,14 @@ pub(crate) fn write_entries(
     requires wide { length entries.now ≡ length limits.now }
     requires long { length numbers.old ≡ max_block_rows * length limits.now }
     requires words { length not_null.old ≡ length limits.now }
-    requires place { r < max_block_rows }
+    requires slot { r < max_block_rows }
     requires range { (c : ℕ) → c < length limits.now →
         IsInRange (least_at limits.now c) end_of_u64 (entry_at entries.now c) }
     requires clear { (c : ℕ) → slice_index not_null.old c < 2 ^ r }
     ensures long { length numbers.new ≡ length numbers.old }
     ensures words { length not_null.new ≡ length not_null.old }
     ensures written { (c : ℕ) → c < length limits.now →
-        IsWritten limits.now numbers.new not_null.new c r (entry_at entries.now c) }
+        IsWrittenEntry limits.now numbers.new not_null.new c r (entry_at entries.now c) }
     ensures other_rows { (c s : ℕ) → s < max_block_rows → s ≢ r →
         IsSameCell numbers.old not_null.old numbers.new not_null.new c s }
 {
@@ -117,9 +118,9 @@ pub(crate) fn read_row(
 ) -> Result<Vec<Option<i128>>, NoMemory>
     requires long { length numbers.now ≡ max_block_rows * length limits.now }
     requires words { length not_null.now ≡ length limits.now }
-    requires place { r < max_block_rows }
+    requires slot { r < max_block_rows }
     ensures { IfOk result (λ entries. entries.items
-        ≡ placed_row (length limits.now) (placed_entry limits.now numbers.now not_null.now) r) }
+        ≡ row_of_cells (length limits.now) (cell_entry limits.now numbers.now not_null.now) r) }
 {
     let mut entries = Vec::with_capacity(alloc, limits.len())?;
     'columns: for c in 0..limits.len() {
@@ -139,8 +140,8 @@ fn read_entry(
     requires within { c < length limits.now }
     requires long { length numbers.now ≡ max_block_rows * length limits.now }
     requires words { length not_null.now ≡ length limits.now }
-    requires place { r < max_block_rows }
-    ensures { result ≡ placed_entry limits.now numbers.now not_null.now c r }
+    requires slot { r < max_block_rows }
+    ensures { result ≡ cell_entry limits.now numbers.now not_null.now c r }
 {
     if not_null[c] >> r & 1 == 0 {
         return None;
@@ -169,13 +170,13 @@ pub(crate) fn has_no_bit_past(word: u64, rows: usize) -> bool
 }
 
 /// Returns whether each entry of a column of values is a null or one of these numbers.
-pub(crate) fn takes_values(limits: Limits, values: &[i64], not_null: u64) -> bool
+pub(crate) fn accepts_values(limits: Limits, values: &[i64], not_null: u64) -> bool
     requires { length values.now ≤ max_block_rows }
     ensures { IsTrue result ↔ All (λ entry. is_between limits.least limits.size entry ≡ true)
         (value_entries values.now not_null) }
 {
     'rows: for r in 0..values.len() {
-        if !limits.takes(value_at(values, not_null, r)) {
+        if !limits.accepts(value_at(values, not_null, r)) {
             return false;
         }
     }
@@ -195,7 +196,7 @@ fn stored(least: i64, value: i64, is_number: bool) -> u64
     }
 }
 
-/// Writes the values of column `c`, each less the least number that it takes, and a 0 for each null.
+/// Writes the values of column `c`, each less the least number that it accepts, and a 0 for each null.
 pub(crate) fn write_values(
     limits: &[Limits],
     values: &[i64],
@@ -222,7 +223,7 @@ pub(crate) fn write_values(
     }
 }
 
-/// Writes a 0 in places `from` to `end` of each of so many columns. It keeps those before.
+/// Writes a 0 in slots `from` to `end` of each of `columns` columns. It leaves the slots before.
 pub(crate) fn write_nulls(columns: usize, from: usize, end: usize, numbers: &mut [u64])
     requires long { length numbers.old ≡ max_block_rows * columns }
     requires within { (from ≤ end) × (end ≤ max_block_rows) }

@@ -1,4 +1,4 @@
-//! Why a call of an index is refused.
+//! Why an index is not made (`IndexError`), appends no row (`AppendError`) or answers no query (`AskError`).
 
 ghost use Rattle.std.specs.Prelude.{◌≡◌};
 

@@ -1,4 +1,4 @@
-//! What is asked of a step machine, and what it replies.
+//! The events of a step machine (`Event`) and its replies (`Reply`), with the refusals of a row, a load and a closing.
 
 ghost use Rattle.std.specs.Prelude.{◌≡◌};
 
@@ -32,7 +32,7 @@ pub enum SubmitRefused {
 
 /// Why no row is loaded, in the order of the checks. A running system answers the same, where the rows of a feeder wait
 /// in a ring: there `Empty` says that no row is seen, and `Ended` that the feeder is settled and all its rows are
-/// taken.
+/// loaded.
 #[derive(Clone, Copy, Debug, PartialEq, Eq)]
 pub enum LoadRefused {
     /// There is no such feeder.

@@ -1,11 +1,11 @@
-//! What follows for every lawful run, and of medians, as contracts of functions that do nothing: a law is then checked
-//! as any contract is.
+//! Laws of lawful runs: nothing is lost, runs compose, and a closed feeder stays closed; and the rank of a median. Each
+//! is the contract of a function that does nothing, so that it is checked as any contract is.
 
 ghost use Rattle.std.specs.Prelude.{◌≡◌, ◌↔◌, ◌-◌, ◌/◌, ℤ, List, [], ◌∷◌, Option, length};
-ghost use Rattle.bsi_orders.specs.WholeNumbers.{IsSignedMedianOf};
+ghost use Rattle.bsi_digits.specs.WholeNumbers.{IsSignedMedianOf};
 ghost use Rattle.bsi_rows.specs.declared.event.Event.{Event};
 ghost use Rattle.bsi_rows.specs.declared.event.Reply.{Reply};
-ghost use Rattle.bsi_orders.specs.Ranks.{IsSignedRankOf};
+ghost use Rattle.bsi_digits.specs.Ranks.{IsSignedRankOf};
 ghost use Rattle.bsi_rows.specs.Shown.{Shown, IsLawful};
 ghost use Rattle.bsi_rows.specs.Runs.{Done, AreLawful, IsConserved, StaysClosed, past_of, shown_after};
 

@@ -13,11 +13,11 @@ mod sizes;
 
 pub use arranging::arrange;
 pub use block::{Block, BlockColumn, MAX_BLOCK_ROWS};
-pub use bsi_orders::Op;
+pub use bsi_digits::{Extreme, Op};
 pub use bsi_schema::{ColumnSpec, Form, MAX_SLICES, Row, Schema, SchemaError};
 pub use errors::{AppendError, AskError, IndexError};
 pub use event::{CloseRefused, Event, LoadRefused, Reply, RunRefused, SubmitRefused};
 pub use query::{Answer, Pred, Query, Total};
-pub use question::{End, Question, Share};
+pub use question::{Question, Share};
 pub use sizes::{MAX_FEEDERS, MAX_ROWS, MAX_WAITING, MakeError, check_sizes, check_table};
 pub use std::alloc::AllocError as NoMemory;

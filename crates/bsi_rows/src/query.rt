@@ -1,12 +1,12 @@
-//! Queries of an index, and their answers.
+//! Queries of an index (`Query`), each a total of the rows that a predicate selects (`Pred`), and their answers.
 
 ghost use Rattle.std.specs.Prelude.{◌≡◌};
 ghost use Rattle.bsi_rows.specs.Answers.{columns_of_pred, columns_of_total, missing_column, missing_of};
 
-use bsi_orders::Op;
+use bsi_digits::Op;
 
-/// A condition on a row. Columns go by their places, from 0. Each function over a predicate calls itself for its parts,
-/// so the stack bounds the depth of a predicate.
+/// A condition on a row. Columns go by their indices, from 0. Each function over a predicate calls itself for its
+/// operands, so the stack bounds the depth of a predicate.
 #[derive(Debug, Drop)]
 pub enum Pred {
     /// Holds of every row.

@@ -1,4 +1,4 @@
-//! The sizes that an index and a machine may have.
+//! The most feeders, rows and waiting rows of an index and a step machine, and the checks of these sizes.
 
 ghost use Rattle.std.specs.Prelude.{◌≡◌, ◌≤◌, length, position};
 ghost use Rattle.std.specs.Result.{result_err};

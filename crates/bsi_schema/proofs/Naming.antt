@@ -10,7 +10,7 @@ use Rattle.indexmap.proofs.MapLemmas.{some_index}
 use Rattle.indexmap.proofs.CallerLemmas.{insert_entry-new}
 use Rattle.indexmap.specs.IndexMap.{IndexMap, get, insert_entry}
 use Rattle.bsi_schema.specs.Columns.{column_at, named, no_column, position_of}
-use Rattle.bsi_schema.specs.declared.form.Kind.{Kind}
+use Rattle.bsi_schema.specs.declared.form.Layout.{Layout}
 
 module _ {X Y : Type 0} (f : X → Y) (p : Y → Bool) where
   pub prefix_len-map : (xs : List X) → prefix_len p (map f xs) ≡ prefix_len (λ x. p (f x)) xs
@@ -25,13 +25,13 @@ module _ {X Y : Type 0} (f : X → Y) (p : Y → Bool) where
 
 module _ {Z : Type 0} (name : List ℕ) where
   -- the place of a name among the columns is that among the keys
-  pub position-named : (es : List (String Z × Kind))
+  pub position-named : (es : List (String Z × Layout))
       → position (λ column. bytes_eq name column.name) (map named es) ≡ position (λ key. bytes_eq name (string_bytes key)) (keys_of es)
   position-named es =
       position-map named (λ column. bytes_eq name column.name) es ∙ sym (position-map (λ e. e.0) (λ key. bytes_eq name (string_bytes key)) es)
 
 -- a clone of each entry shows the same columns
-pub named-cloned : {Z : Type 0} (es fs : List (String Z × Kind))
+pub named-cloned : {Z : Type 0} (es fs : List (String Z × Layout))
     → AllZip (λ p q. (string_bytes q.0 ≡ string_bytes p.0) × (q.1 ≡ p.1)) es fs → map named fs ≡ map named es
 named-cloned [] [] all = refl
 named-cloned [] (f ∷ fs) all = absurd all
@@ -40,22 +40,22 @@ named-cloned {Z} (e ∷ es) (f ∷ fs) all =
     let same : named {Z = Z} f ≡ named {Z = Z} e = λ i. record { name = all.0.0 i; form = (all.0.1 i).form; offset = (all.0.1 i).offset } in
     ap₂ (λ c cs. c ∷ cs) same (named-cloned es fs all.1)
 
-module _ {Z S : Type 0} (m : IndexMap (String Z) Kind S) (key : String Z) (kind : Kind) where
+module _ {Z S : Type 0} (m : IndexMap (String Z) Layout S) (key : String Z) (layout : Layout) where
   -- a name that is no column's goes last
   pub named-insert : (name : List ℕ) → string_bytes key ≡ name → position_of (map named m.entries) name ≡ None
-      → map named (insert_entry string_eq m.entries key kind) ≡ map named m.entries ++ record { name = name; form = kind.form; offset = kind.offset } ∷ []
+      → map named (insert_entry string_eq m.entries key layout) ≡ map named m.entries ++ record { name = name; form = layout.form; offset = layout.offset } ∷ []
   named-insert name spelled fresh =
       let none : is_some (get string_eq m key) ≡ false =
       sym (some_index (string_eq key) m.entries) ∙ ap is_some (sym (position-named (string_bytes key) m.entries) ∙ ap (position_of (map named m.entries)) spelled ∙ fresh) in
-      ap (λ es. map named es) (insert_entry-new string_eq m key kind (absent (get string_eq m key) none)) ∙ map-append named m.entries ((key, kind) ∷ [])
-      ∙ ap (λ bytes. map named m.entries ++ record { name = bytes; form = kind.form; offset = kind.offset } ∷ []) spelled
+      ap (λ es. map named es) (insert_entry-new string_eq m key layout (absent (get string_eq m key) none)) ∙ map-append named m.entries ((key, layout) ∷ [])
+      ∙ ap (λ bytes. map named m.entries ++ record { name = bytes; form = layout.form; offset = layout.offset } ∷ []) spelled
     where
-      absent : (o : Option Kind) → is_some o ≡ false → o ≡ None
+      absent : (o : Option Layout) → is_some o ≡ false → o ≡ None
       absent None e = refl
       absent (Some x) e = cc
 
-module _ {Z : Type 0} (es : List (String Z × Kind)) (c : ℕ) where
+module _ {Z : Type 0} (es : List (String Z × Layout)) (c : ℕ) where
   -- column c is the entry there
-  pub column_named : (entry : String Z × Kind) → slice_get es c ≡ Some entry → column_at (map named es) c ≡ named entry
+  pub column_named : (entry : String Z × Layout) → slice_get es c ≡ Some entry → column_at (map named es) c ≡ named entry
   column_named entry at =
       get_or_from_slice_get (map named es) c (named entry) no_column (slice_get-map named es c ∙ ap (option_map named) at)

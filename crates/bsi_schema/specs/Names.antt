@@ -19,7 +19,7 @@ is_word text =
     bytes_eq text (codes "all") || bytes_eq text (codes "null") || bytes_eq text (codes "and")
     || bytes_eq text (codes "or") || bytes_eq text (codes "not")
 
--- at most so many bytes of a name
+-- the most bytes of a name
 abbrev pub max_name_bytes : ℕ
 max_name_bytes = 32
 

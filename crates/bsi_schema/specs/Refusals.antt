@@ -1,4 +1,4 @@
--- Which refusal of a further column comes first.
+-- Why a schema refuses to add a column: which refusal comes first.
 use Rattle.std.specs.Prelude.{ℕ, not, ◌+ℤ◌, ℤ, pos, int_lt, List, length, Option, Some, None, is_some, option_map, nat_eq, nat_lt, nat_le, if◌then◌else◌}
 use Rattle.std.specs.Option.{option_or}
 use Rattle.bsi_digits.specs.Digits.{max_end}
@@ -13,11 +13,11 @@ use Rattle.bsi_schema.specs.declared.schema_error.SchemaError.TheVariants.{BadNa
 use Rattle.bsi_schema.specs.Columns.{max_columns, max_slices, Declared, position_of, form_of, size_in}
 use Rattle.bsi_schema.specs.Names.{is_name}
 
--- the first refusal of so many slices
+-- the first refusal of w slices
 abbrev pub slices_refusal : ℕ → Option BasesError
 slices_refusal w = if nat_eq w 0 then Some Empty else (if nat_lt max_slices w then Some TooMany else None)
 
--- the first refusal of a form that is asked for
+-- the first refusal of a column specification
 abbrev pub form_refusal : ColumnSpec → Option BasesError
 form_refusal (Slices w) = slices_refusal w
 form_refusal (Equality bases) = refusal bases.items
@@ -30,7 +30,7 @@ name_refusal schema name =
     else (if is_some (position_of schema.columns name) then Some NameTaken
     else (if nat_le max_columns (length schema.columns) then Some TooManyColumns else None))
 
--- the refusal of an offset beside a form
+-- the refusal of an offset with a form
 abbrev pub offset_refusal : ℤ → ColumnSpec → Option SchemaError
 offset_refusal offset spec =
     if int_lt (pos max_end) (offset +ℤ pos (size_in (form_of spec))) then Some BadOffset else None

@@ -1,4 +1,4 @@
-//! The form in which a column stores its numbers.
+//! The form in which a column stores its numbers: as it is asked for (`ColumnSpec`), and once it is accepted (`Form`).
 
 ghost use Rattle.std.specs.Prelude.{◌≡◌, ◌↔◌, ◌≤◌, IfOk, IsTrue};
 ghost use Rattle.std.specs.Result.{result_err};
@@ -32,9 +32,9 @@ pub enum Form {
     Range(Bases),
 }
 
-/// What a schema keeps of a column beside its name: its form, and the least number that it takes.
+/// What a schema stores of a column beside its name: its form, and the least number that it accepts.
 #[derive(Debug, Drop)]
-pub(crate) struct Kind {
+pub(crate) struct Layout {
     pub(crate) form: Form,
     pub(crate) offset: i64,
 }
@@ -95,11 +95,11 @@ impl Form {
     }
 }
 
-impl Clone for Kind {
-    ghost is_clone = { λ kind made. made ≡ kind };
+impl Clone for Layout {
+    ghost is_clone = { λ layout made. made ≡ layout };
 
-    fn clone(&self) -> Result<Kind, NoMemory> {
-        Ok(Kind {
+    fn clone(&self) -> Result<Layout, NoMemory> {
+        Ok(Layout {
             form: self.form.copy()?,
             offset: self.offset,
         })

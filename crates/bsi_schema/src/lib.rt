@@ -1,4 +1,4 @@
-//! What a schema is, and which rows fit it: named columns, each with its form and the least number that it takes.
+//! What a schema is, and which rows fit it: named columns, each with its form and the least number that it accepts.
 #![tactic(auto)]
 
 mod form;
@@ -9,7 +9,8 @@ mod schema;
 mod schema_error;
 
 pub use form::{ColumnSpec, Form, MAX_SLICES};
-pub use limits::{Limits, have_same_limits, take_each, to_i64};
+pub use limits::{Limits, accepts_row, have_same_limits, to_i64};
+pub use name::is_word;
 pub use row::Row;
 pub use schema::{MAX_COLUMNS, Schema};
 pub use schema_error::SchemaError;

@@ -1,4 +1,4 @@
-//! The numbers that a column takes.
+//! The range of numbers that a column accepts (`Limits`), and tests of entries and of rows against it.
 
 ghost use Rattle.std.specs.Prelude.{◌≡◌, ◌↔◌, IsTrue, List, map};
 ghost use Rattle.bsi_digits.specs.Signed.{IsI64};
@@ -6,7 +6,7 @@ ghost use Rattle.bsi_schema.specs.Columns.{fits, is_between, size_in, IsForm, Na
 ghost use Rattle.bsi_schema.specs.Limits.{limits_of};
 
 use crate::Row;
-use crate::form::Kind;
+use crate::form::Layout;
 
 /// This many numbers, from the least one up.
 #[derive(Clone, Copy, PartialEq, Eq)]
@@ -16,14 +16,14 @@ pub struct Limits {
 }
 
 impl Limits {
-    /// Returns the numbers that a column of this kind takes.
-    pub(crate) fn of(kind: &Kind) -> Limits
-        requires { IsForm kind.now.form }
-        ensures { result ≡ record { least = kind.now.offset; size = size_in kind.now.form } }
+    /// Returns the numbers that a column of this layout accepts.
+    pub(crate) fn of(layout: &Layout) -> Limits
+        requires { IsForm layout.now.form }
+        ensures { result ≡ record { least = layout.now.offset; size = size_in layout.now.form } }
     {
         Limits {
-            least: kind.offset,
-            size: kind.form.size(),
+            least: layout.offset,
+            size: layout.form.size(),
         }
     }
 
@@ -35,7 +35,7 @@ impl Limits {
     }
 
     /// Returns whether an entry is a null or one of these numbers.
-    pub fn takes(self, entry: Option<i128>) -> bool
+    pub fn accepts(self, entry: Option<i128>) -> bool
         ensures { result ≡ is_between self.least self.size entry }
     {
         let Some(number) = entry else {
@@ -55,8 +55,8 @@ pub fn to_i64(entry: Option<i128>) -> Option<i64>
     Some(number as i64)
 }
 
-/// Returns whether a row has one entry for each of these columns, each a null or a number that its column takes.
-pub fn take_each(limits: &[Limits], row: &Row) -> bool
+/// Returns whether a row has one entry for each of these columns, each a null or a number that its column accepts.
+pub fn accepts_row(limits: &[Limits], row: &Row) -> bool
     ensures { (columns : List NamedColumn) → limits.now ≡ map limits_of columns →
         result ≡ fits columns row.now }
 {
@@ -65,10 +65,10 @@ pub fn take_each(limits: &[Limits], row: &Row) -> bool
         && limits
             .iter()
             .zip(values)
-            .all(|(limits, entry)| limits.takes(*entry))
+            .all(|(limits, entry)| limits.accepts(*entry))
 }
 
-/// Returns whether two lists of columns take the same numbers.
+/// Returns whether two lists of columns accept the same numbers.
 // It is a function because its clause says what `==` of two such lists means.
 pub fn have_same_limits(first: &[Limits], second: &[Limits]) -> bool
     ensures { IsTrue result ↔ (first.now ≡ second.now) }

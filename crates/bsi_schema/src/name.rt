@@ -1,4 +1,4 @@
-//! The texts that are names of columns.
+//! Tests whether a text may be the name of a column (`is_name`), or is a word of predicates (`is_word`).
 
 ghost use Rattle.std.specs.Prelude.{◌≡◌};
 ghost use Rattle.std.specs.List.{list_all};
@@ -40,7 +40,7 @@ fn is_name_byte(byte: u8) -> bool
 }
 
 /// Returns whether the text is one of the words that predicates are written with.
-fn is_word(text: &[u8]) -> bool
+pub fn is_word(text: &[u8]) -> bool
     ensures { result ≡ is_word text.now }
 {
     text == b"all".as_slice()

@@ -8,8 +8,8 @@ ghost use Rattle.bsi_schema.specs.Limits.{limits_of};
 ghost use Rattle.bsi_schema.specs.Names.{is_name};
 ghost use Rattle.bsi_schema.specs.Refusals.{column_refusal, name_refusal, signed_refusal, IsFirstOr};
 
-use crate::form::{ColumnSpec, Form, Kind};
-use crate::limits::{Limits, take_each};
+use crate::form::{ColumnSpec, Form, Layout};
+use crate::limits::{Limits, accepts_row};
 use crate::name::is_name;
 use crate::{NoMemory, Row, SchemaError};
 use indexmap::IndexMap;
@@ -25,8 +25,8 @@ const MAX_END: i128 = 1 << 63;
 
 /// A list of at most 64 named columns, in order of declaration.
 pub struct Schema {
-    columns: IndexMap<String, Kind>,
-    // What each column takes, beside the map, so that a row is tested without it.
+    columns: IndexMap<String, Layout>,
+    // What each column accepts, beside the map, so that a row is tested without it.
     limits: Vec<Limits>,
     signed: bool,
 }
@@ -85,14 +85,14 @@ impl Schema {
         self.signed
     }
 
-    /// Returns the place of the column of this name, or none if there is no such column.
+    /// Returns the index of the column of this name, or none if there is no such column.
     pub fn position(&self, name: &str) -> Option<u32>
         ensures { result ≡ position_of self.now.columns name.now }
     {
         Some(self.columns.get_index_of(name)? as u32)
     }
 
-    /// Returns the place of the column whose name has these bytes, or none if there is no such column.
+    /// Returns the index of the column whose name has these bytes, or none if there is no such column.
     pub fn find(&self, name: &[u8]) -> Option<u32>
         ensures { result ≡ position_of self.now.columns name.now }
     {
@@ -119,7 +119,7 @@ impl Schema {
         ensures form { result.now ≡ (column_at self.now.columns c).form }
         ensures valid { IsForm result.now }
     {
-        &self.kind(c).form
+        &self.layout(c).form
     }
 
     /// Returns how many numbers column `c` tells apart, at most 2^63.
@@ -131,35 +131,35 @@ impl Schema {
         self.form(c).size()
     }
 
-    /// Returns the least number that column `c` takes.
+    /// Returns the least number that column `c` accepts.
     pub fn offset(&self, c: u32) -> i64
         requires { c < length self.now.columns }
         ensures offset { result ≡ (column_at self.now.columns c).offset }
         ensures below { (result +ℤ pos (size_in (column_at self.now.columns c).form))
             ≤ℤ pos max_end }
     {
-        self.kind(c).offset
+        self.layout(c).offset
     }
 
     /// Lends the form and the offset of column `c`.
-    fn kind(&self, c: u32) -> &Kind
+    fn layout(&self, c: u32) -> &Layout
         requires { c < length self.now.columns }
         ensures form { result.now.form ≡ (column_at self.now.columns c).form }
         ensures offset { result.now.offset ≡ (column_at self.now.columns c).offset }
         ensures valid { IsColumn (column_at self.now.columns c) }
     {
-        let (_, kind) = self.columns.get_index(c as usize).unwrap();
-        kind
+        let (_, layout) = self.columns.get_index(c as usize).unwrap();
+        layout
     }
 
-    /// Returns whether a row has one entry for each column, each a null or a number that its column takes.
+    /// Returns whether a row has one entry for each column, each a null or a number that its column accepts.
     pub fn fits(&self, row: &Row) -> bool
         ensures { result ≡ fits self.now.columns row.now }
     {
-        take_each(&self.limits, row)
+        accepts_row(&self.limits, row)
     }
 
-    /// Lends the numbers that each column takes, in order of declaration.
+    /// Lends the numbers that each column accepts, in order of declaration.
     pub fn limits(&self) -> &[Limits]
         ensures limits { result.now ≡ map limits_of self.now.columns }
         ensures columns { All IsColumn self.now.columns }
@@ -173,13 +173,13 @@ impl Schema {
     pub fn add(&mut self, name: &str, spec: ColumnSpec) -> Result<(), SchemaError>
         ensures added { OnOk result (self.new
             ≡ with_column self.old (named_column name.now (form_of spec) (pos 0)) false) }
-        ensures taken { OnOk result (column_refusal self.old name.now spec ≡ None) }
+        ensures accepted { OnOk result (column_refusal self.old name.now spec ≡ None) }
         ensures refused { IfErr result
             (IsFirstOr SchemaError.NoMemory (column_refusal self.old name.now spec)) }
-        ensures kept { OnErr result (self.new ≡ self.old) }
+        ensures unchanged { OnErr result (self.new ≡ self.old) }
     {
         let form = self.checked(name, spec)?;
-        self.push(name, Kind { form, offset: 0 }, false)?;
+        self.push(name, Layout { form, offset: 0 }, false)?;
         Ok(())
     }
 
@@ -193,16 +193,16 @@ impl Schema {
     ) -> Result<(), SchemaError>
         ensures added { OnOk result (self.new
             ≡ with_column self.old (named_column name.now (form_of spec) offset) true) }
-        ensures taken { OnOk result (signed_refusal self.old name.now spec offset ≡ None) }
+        ensures accepted { OnOk result (signed_refusal self.old name.now spec offset ≡ None) }
         ensures refused { IfErr result
             (IsFirstOr SchemaError.NoMemory (signed_refusal self.old name.now spec offset)) }
-        ensures kept { OnErr result (self.new ≡ self.old) }
+        ensures unchanged { OnErr result (self.new ≡ self.old) }
     {
         let form = self.checked(name, spec)?;
         if i128::from(offset) + i128::from(form.size()) > MAX_END {
             return Err(SchemaError::BadOffset);
         }
-        self.push(name, Kind { form, offset }, true)?;
+        self.push(name, Layout { form, offset }, true)?;
         Ok(())
     }
 
@@ -234,21 +234,21 @@ impl Schema {
     }
 
     /// Adds a column after the others, under a name that is not taken.
-    fn push(&mut self, name: &str, kind: Kind, signed: bool) -> Result<(), NoMemory>
+    fn push(&mut self, name: &str, layout: Layout, signed: bool) -> Result<(), NoMemory>
         requires fresh { position_of self.old.columns name.now ≡ None }
         requires name { IsTrue (is_name name.now) }
         requires few { length self.old.columns < max_columns }
-        requires form { IsForm kind.form }
-        requires below { (kind.offset +ℤ pos (size_in kind.form)) ≤ℤ pos max_end }
-        requires from_zero { signed ≡ false → kind.offset ≡ pos 0 }
+        requires form { IsForm layout.form }
+        requires below { (layout.offset +ℤ pos (size_in layout.form)) ≤ℤ pos max_end }
+        requires from_zero { signed ≡ false → layout.offset ≡ pos 0 }
         ensures ok { OnOk result (self.new
-            ≡ with_column self.old (named_column name.now kind.form kind.offset) signed) }
+            ≡ with_column self.old (named_column name.now layout.form layout.offset) signed) }
         ensures err { OnErr result (self.new ≡ self.old) }
     {
         let key = String::from_str(*self.columns.allocator(), name)?;
-        let limits = Limits::of(&kind);
+        let limits = Limits::of(&layout);
         self.limits.reserve(1)?;
-        self.columns.insert(key, kind)?;
+        self.columns.insert(key, layout)?;
         self.limits.push_reserved(limits);
         self.signed |= signed;
         Ok(())

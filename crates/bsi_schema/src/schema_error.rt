@@ -1,4 +1,4 @@
-//! Why a further column is refused.
+//! Why a schema refuses to add a column (`SchemaError`).
 
 ghost use Rattle.std.specs.Prelude.{◌≡◌};
 

@@ -1,26 +1,27 @@
--- A line that was written whole, or in part.
-use Rattle.std.proofs.Common.{ℕ, List, ◌++◌, Option, Some, None, Result, Ok, Err, ap, append_assoc, ◌∙◌}
+-- A line that was written whole, or in prefix.
+use Rattle.std.proofs.Common.{ℕ, List, ◌++◌, Some, None, Result, Ok, Err, ap, append_assoc, ◌∙◌}
 use Rattle.std.specs.Io.KnownBytes.{Appends}
 use Rattle.std.specs.Prelude.{IsErr, OnErr, OnOk}
-use Rattle.bsi_shell.specs.FaultLines.{IsTold}
-use Rattle.bsi_reading.specs.Waiting.{IsCut}
-use Rattle.bsi_reading.specs.declared.writing.WriteFault.{WriteFault}
+use Rattle.bsi_shell.specs.FaultLines.{IsLineWritten}
+use Rattle.bsi_input.specs.Waiting.{AppendsPrefix}
+use Rattle.bsi_input.specs.declared.writing.WriteFault.{WriteFault}
+use Rattle.bsi_syntax.specs.Bytes.{KnownBytes}
 
-pub told_by : (r : Result Unit WriteFault) (before after : Option (List ℕ)) (line : List ℕ) → OnOk r (Appends before after line) → OnErr r (IsCut before after line) → IsTold r before after line
-told_by (Ok x) before after line whole part = whole
-told_by (Err e) before after line whole part = part
+pub written_by : (r : Result Unit WriteFault) (before after : KnownBytes) (line : List ℕ) → OnOk r (Appends before after line) → OnErr r (AppendsPrefix before after line) → IsLineWritten r before after line
+written_by (Ok x) before after line whole prefix = whole
+written_by (Err e) before after line whole prefix = prefix
 
-pub told_failed : (r : Result Unit WriteFault) (before after : Option (List ℕ)) (line : List ℕ) → IsErr r → IsCut before after line → IsTold r before after line
-told_failed (Ok x) before after line failed part = cc failed
-told_failed (Err e) before after line failed part = part
+pub written_failed : (r : Result Unit WriteFault) (before after : KnownBytes) (line : List ℕ) → IsErr r → AppendsPrefix before after line → IsLineWritten r before after line
+written_failed (Ok x) before after line failed prefix = cc failed
+written_failed (Err e) before after line failed prefix = prefix
 
-pub told_from : {P Q : Type 0} (r : Result Unit WriteFault) (before after : Option (List ℕ)) (line : List ℕ) → OnOk r P → OnErr r Q → (P → Appends before after line) → (Q → IsCut before after line)
-    → IsTold r before after line
-told_from (Ok x) before after line p q whole part = whole p
-told_from (Err e) before after line p q whole part = part q
+pub written_from : {P Q : Type 0} (r : Result Unit WriteFault) (before after : KnownBytes) (line : List ℕ) → OnOk r P → OnErr r Q → (P → Appends before after line) → (Q → AppendsPrefix before after line)
+    → IsLineWritten r before after line
+written_from (Ok x) before after line p q whole prefix = whole p
+written_from (Err e) before after line p q whole prefix = prefix q
 
 -- two texts that were written one after the other
-pub appends_both : (before middle after : Option (List ℕ)) (first last : List ℕ) → Appends before middle first → Appends middle after last → Appends before after (first ++ last)
+pub appends_both : (before middle after : KnownBytes) (first last : List ℕ) → Appends before middle first → Appends middle after last → Appends before after (first ++ last)
 appends_both None middle after first last p q = tt
 appends_both (Some xs) None after first last p q = absurd p
 appends_both (Some xs) (Some ys) None first last p q = absurd q

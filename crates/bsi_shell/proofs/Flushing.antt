@@ -1,13 +1,14 @@
 -- What holds of a command that met no fault, and of one that did.
-use Rattle.std.proofs.Common.{◌≡◌, ℕ, List, Option, Result, Ok, Err, inl, inr, subst}
+use Rattle.std.proofs.Common.{◌≡◌, ℕ, List, Result, Ok, Err, inl, inr, subst}
 use Rattle.std.specs.Borrow.{Bor}
 use Rattle.std.specs.Io.KnownBytes.{Keeps}
 use Rattle.std.specs.Prelude.{◌⊎◌, IfErr, IsOk, OnOk}
-use Rattle.bsi_reading.specs.declared.writing.WriteFault.{WriteFault}
-use Rattle.bsi_shell.specs.Kept.{HasEnded, HasToldStore, IsFlushed}
-use Rattle.bsi_store.specs.Faults.{Names}
+use Rattle.bsi_input.specs.declared.writing.WriteFault.{WriteFault}
+use Rattle.bsi_shell.specs.StoreRuns.{EndedByFault, HasFailedStore, IsFlushed}
+use Rattle.bsi_store.specs.Faults.{NamesPath}
 use Rattle.bsi_store.specs.declared.fault.StoreFault.{StoreFault}
 use Rattle.bsi_store.specs.declared.fault.StoreFault.TheVariants.{CannotOpen, CannotWrite, Unusable, Run}
+use Rattle.bsi_syntax.specs.Bytes.{KnownBytes}
 
 on_ok_is : {T E P : Type 0} (r : Result T E) → OnOk r P → IsOk r → P
 on_ok_is (Ok x) holds ok = holds
@@ -22,24 +23,24 @@ left_of L (Err e) fault failed done (inl is) = let same : e ≡ fault = cc is in
 left_of L (Err e) fault failed done (inr is) = cc is.0
 
 -- a command that met no fault, whose output was flushed
-pub flushed : {T E : Type 0} {D : Option (List ℕ) → Option (List ℕ) → Type 0} (run : Result T E) (before middle after : Option (List ℕ)) → OnOk run (D before middle)
+pub flushed : {T E : Type 0} {D : KnownBytes → KnownBytes → Type 0} (run : Result T E) (before middle after : KnownBytes) → OnOk run (D before middle)
     → IsOk run → Keeps middle after → IsFlushed D before after
-flushed run before middle after done ok kept = record { middle = middle; is = on_ok_is run done ok; kept = kept }
+flushed run before middle after done ok flushed = record { middle = middle; is = on_ok_is run done ok; flushed = keeps }
 
 -- and one that met a fault, or could not flush
-pub told_end : {L : StoreFault → Option (List ℕ) → Option (List ℕ) → Type 0} {D : Option (List ℕ) → Option (List ℕ) → Type 0} (run : Result (Unit {0}) StoreFault)
-    (before middle after : Option (List ℕ)) (told : Result (Unit {0}) WriteFault) (said now : Option (List ℕ)) → IfErr run (λ fault. L fault before middle)
-    → OnOk run (D before middle) → HasEnded run told said now → Keeps middle after → HasToldStore L D before after told said now
-told_end {L} run before middle after told said now failed done ended kept = record {
+pub reported_end : {L : StoreFault → KnownBytes → KnownBytes → Type 0} {D : KnownBytes → KnownBytes → Type 0} (run : Result (Unit {0}) StoreFault)
+    (before middle after : KnownBytes) (reported : Result (Unit {0}) WriteFault) (said now : KnownBytes) → IfErr run (λ fault. L fault before middle)
+    → OnOk run (D before middle) → EndedByFault run reported said now → Keeps middle after → HasFailedStore L D before after reported said now
+reported_end {L} run before middle after reported said now failed done ended flushed = record {
   fault = ended.fault;
   middle = middle;
   left = left_of (λ fault. L fault before middle) run ended.fault failed done ended.is;
-  kept = kept;
+  flushed = keeps;
   line = ended.line;
 }
 
 -- a fault names one of more paths
-pub names_more : {P Q : Bor (List ℕ) → Type 0} (fault : StoreFault) → ((path : Bor (List ℕ)) → P path → Q path) → Names P fault → Names Q fault
+pub names_more : {P Q : Bor (List ℕ) → Type 0} (fault : StoreFault) → ((path : Bor (List ℕ)) → P path → Q path) → NamesPath P fault → NamesPath Q fault
 names_more (CannotOpen path) follows is = follows path is
 names_more (CannotWrite path) follows is = follows path is
 names_more (Unusable path why) follows is = follows path is

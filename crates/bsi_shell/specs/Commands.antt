@@ -1,12 +1,13 @@
--- What the words after the program's name ask for.
-use Rattle.std.specs.Prelude.{ℕ, List, Option, Some, None, String, codes, if◌then◌else◌, option_map, slice_get, string_bytes}
+-- Which command the first word names (`subcommand_of`); a word that names no other stands for a script.
+use Rattle.std.specs.Prelude.{List, Some, None, String, codes, if◌then◌else◌, option_map, slice_get, string_bytes}
 use Rattle.std.specs.Str.{bytes_eq}
 use Rattle.std.specs.declared.alloc.Global.{Global}
 use Rattle.bsi_shell.specs.declared.request.Subcommand.{Subcommand}
 use Rattle.bsi_shell.specs.declared.request.Subcommand.TheVariants.{Script, Files, Check, Save, Add, Ask, Show}
+use Rattle.bsi_syntax.specs.Bytes.{KnownBytes}
 
--- the command that a word names; a word that names no other stands for a script
-abbrev pub named_by : Option (List ℕ) → Subcommand
+-- The command that a word names. A word that names no other stands for a script.
+abbrev pub named_by : KnownBytes → Subcommand
 named_by None = Script
 named_by (Some word) =
     if bytes_eq word (codes "files") then Files
@@ -17,6 +18,6 @@ named_by (Some word) =
     else (if bytes_eq word (codes "show") then Show
     else Script)))))
 
--- the command that the first word names
+-- The command that the first word names.
 abbrev pub subcommand_of : List (String Global) → Subcommand
 subcommand_of words = named_by (option_map string_bytes (slice_get words 0))

@@ -2,6 +2,6 @@ pub mod Checks
 pub mod Commands
 pub mod FaultLines
 pub mod FileRuns
-pub mod Kept
+pub mod StoreRuns
 pub mod Requests
 pub mod ScriptRuns

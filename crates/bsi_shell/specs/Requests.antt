@@ -5,7 +5,7 @@ use Rattle.bsi_shell.specs.declared.request.Request.TheVariants as request
 use Rattle.bsi_shell.specs.declared.request.Subcommand.{Subcommand}
 use Rattle.bsi_shell.specs.declared.request.Subcommand.TheVariants.{Script, Files, Check, Save, Add, Ask, Show}
 
--- a request that carries out a command is of this command
+-- The request is one of this command, if it carries out a command.
 abbrev pub IsRequestOf : Subcommand → Request → Type 0
 IsRequestOf command request.Script = command ≡ Script
 IsRequestOf command (request.Files paths) = command ≡ Files

@@ -1,9 +1,10 @@
-//! A check of files: it opens all files in the order of the words, and then reads them.
-ghost use Rattle.std.specs.Prelude.{IfErr, IfOk};
+//! Carries out `bsi check`: it opens all files in the order of the words, and then checks them.
+ghost use Rattle.std.specs.Prelude.{◌≡◌, map, option_map, IfErr, IfOk, Some};
+ghost use Rattle.std.specs.List.{Contains};
 ghost use Rattle.bsi_shell.specs.Checks.{HasReportedOver, LeavesCheck};
 ghost use Rattle.bsi_shell.specs.FileRuns.{IsOpenFault};
 
-use crate::files::{RunFault, open_one};
+use crate::files::{RunFault, open_file};
 use crate::paths::CheckPaths;
 use bsi_check::{CheckFault, NamedFile, check_files};
 use bsi_files::FilesFault;
@@ -26,15 +27,15 @@ impl From<CheckFault> for RunFault<'_> {
 }
 
 /// Opens the files, checks them, and flushes the output. It returns whether there was no reason.
-pub(crate) fn check_over<'a, R: AllocGlobal + Files<File = S>, S: Read + Drop, O: Write>(
+pub(crate) fn check_paths<'a, R: AllocGlobal + Files<File = S>, S: Read + Drop, O: Write>(
     rt: &R,
     paths: &CheckPaths<'a>,
     output: &mut O,
 ) -> Result<bool, RunFault<'a>>
     ensures reported { IfOk result
-        (HasReportedOver S.remaining (O.contents output.old) (O.contents output.new)) }
-    ensures left { IfErr result (λ fault.
-        LeavesCheck S.remaining fault (O.contents output.old) (O.contents output.new)) }
+        (HasReportedOver S.remaining paths.now (O.contents output.old) (O.contents output.new)) }
+    ensures after_fault { IfErr result (λ fault.
+        LeavesCheck S.remaining paths.now fault (O.contents output.old) (O.contents output.new)) }
 {
     let schema = open_named(rt, paths.schema)?;
     let asks = open_asks(rt, paths.asks)?;
@@ -51,9 +52,10 @@ fn open_named<'a, R: Files<File = S>, S: Read + Drop>(
     rt: &R,
     path: &'a str,
 ) -> Result<NamedFile<'a, S>, RunFault<'a>>
-    ensures { IfErr result IsOpenFault }
+    ensures opened { IfOk result (λ file. file.path ≡ path.entry) }
+    ensures failed { IfErr result (IsOpenFault (λ named. named ≡ path.entry)) }
 {
-    let reader = open_one(rt, path)?;
+    let reader = open_file(rt, path)?;
     Ok(NamedFile { path, reader })
 }
 
@@ -62,7 +64,8 @@ fn open_asks<'a, R: Files<File = S>, S: Read + Drop>(
     rt: &R,
     path: Option<&'a str>,
 ) -> Result<Option<NamedFile<'a, S>>, RunFault<'a>>
-    ensures { IfErr result IsOpenFault }
+    ensures opened { IfOk result (λ file. option_map (λ f. f.path) file ≡ path) }
+    ensures failed { IfErr result (IsOpenFault (λ named. Some named ≡ path)) }
 {
     match path {
         Some(path) => Ok(Some(open_named(rt, path)?)),
@@ -75,10 +78,11 @@ fn open_rows<'a, R: AllocGlobal + Files<File = S>, S: Read + Drop>(
     rt: &R,
     paths: &[&'a str],
 ) -> Result<Vec<NamedFile<'a, S>>, RunFault<'a>>
-    ensures { IfErr result IsOpenFault }
+    ensures opened { IfOk result (λ files. map (λ f. f.path) files.items ≡ paths.now) }
+    ensures failed { IfErr result (IsOpenFault (Contains paths.now)) }
 {
     let mut rows = Vec::with_capacity(rt.alloc(), paths.len())?;
-    for path in paths {
+    'rows: for path in paths {
         let file = open_named(rt, path)?;
         rows.push(file).map_err(|_| FilesFault::NoMemory)?;
     }

@@ -1,6 +1,6 @@
-//! A run over files: it opens all files in the order of the words, and then reads them.
+//! Carries out `bsi files`: it opens all files in the order of the words, and then runs over them.
 ghost use Rattle.std.specs.Prelude.{◌≡◌, ◌<◌, IfErr, IfOk, OnOk, false, length};
-ghost use Rattle.bsi_shell.specs.FileRuns.{HasEndedEarly, HasFailedOver, HasRunOver, IsOpenFault};
+ghost use Rattle.bsi_shell.specs.FileRuns.{HasEndedEarly, HasFailedRunOver, HasRunOver, IsOpenFault, IsPathOf};
 
 use crate::paths::Paths;
 use bsi_files::{FilesFault, Gate, Stopping, run_files};
@@ -33,7 +33,7 @@ impl From<FilesFault> for RunFault<'_> {
 
 impl From<AllocError> for RunFault<'_> {
     ghost use Rattle.std.specs.Prelude.{◌≡◌};
-    ghost use Rattle.bsi_asks.specs.declared.faults.FilesFault.TheVariants.{NoMemory};
+    ghost use Rattle.bsi_answers.specs.declared.faults.FilesFault.TheVariants.{NoMemory};
     ghost use Rattle.bsi_shell.specs.declared.files.RunFault.TheVariants.{Run};
 
     ghost from_gives = { λ _ fault. fault ≡ Run NoMemory };
@@ -51,7 +51,7 @@ struct OpenFiles<S: Read + Drop> {
 }
 
 /// Opens the files, and runs over them.
-pub(crate) fn run_over<
+pub(crate) fn run_paths<
     'a,
     R: AllocGlobal + Files<File = S> + Threads + Wait + Sync,
     S: Read + Drop + Send,
@@ -61,7 +61,7 @@ pub(crate) fn run_over<
     requires { G.STOPS ≡ false }
     ensures ran { OnOk result
         (HasRunOver S.remaining (O.contents output.old) (O.contents output.new)) }
-    ensures failed { IfErr result (HasEndedEarly S.remaining (O.contents output.old) (O.contents output.new)) }
+    ensures failed { IfErr result (HasEndedEarly S.remaining paths.now (O.contents output.old) (O.contents output.new)) }
 {
     let opened = open_all(rt, paths)?;
     run_opened(rt, opened, output, gate)?;
@@ -81,7 +81,7 @@ fn run_opened<
     ensures ran { OnOk result
         (HasRunOver S.remaining (O.contents output.old) (O.contents output.new)) }
     ensures failed { IfErr result (λ fault.
-        HasFailedOver S.remaining fault (O.contents output.old) (O.contents output.new)) }
+        HasFailedRunOver S.remaining fault (O.contents output.old) (O.contents output.new)) }
 {
     let OpenFiles { schema, asks, rows } = opened;
     let run = run_files(rt, schema, asks, rows, output, gate);
@@ -95,24 +95,24 @@ fn open_all<'a, R: AllocGlobal + Files<File = S>, S: Read + Drop>(
     paths: &Paths<'a>,
 ) -> Result<OpenFiles<S>, RunFault<'a>>
     ensures opened { IfOk result (λ opened. length opened.rows.items ≡ length paths.now.rows.items) }
-    ensures failed { IfErr result IsOpenFault }
+    ensures failed { IfErr result (IsOpenFault (IsPathOf paths.now)) }
 {
-    let schema = open_one(rt, paths.schema)?;
-    let asks = open_one(rt, paths.asks)?;
+    let schema = open_file(rt, paths.schema)?;
+    let asks = open_file(rt, paths.asks)?;
     let mut rows = Vec::with_capacity(rt.alloc(), paths.rows.len())?;
     for path in &paths.rows {
-        let file = open_one(rt, path)?;
+        let file = open_file(rt, path)?;
         rows.push(file).map_err(|_| FilesFault::NoMemory)?;
     }
     Ok(OpenFiles { schema, asks, rows })
 }
 
 /// Opens one file for reading.
-pub(crate) fn open_one<'a, R: Files<File = S>, S: Read + Drop>(
+pub(crate) fn open_file<'a, R: Files<File = S>, S: Read + Drop>(
     rt: &R,
     path: &'a str,
 ) -> Result<S, RunFault<'a>>
-    ensures { IfErr result IsOpenFault }
+    ensures { IfErr result (IsOpenFault (λ named. named ≡ path.entry)) }
 {
     fs::open(rt, path).map_err(|_| RunFault::CannotOpen(path))
 }

@@ -1,4 +1,4 @@
-//! The paths that the words name.
+//! The paths that the words of `bsi files` and `bsi check` name (`Paths`, `CheckPaths`).
 ghost use Rattle.std.specs.Prelude.{◌<◌, length};
 
 /// The paths of a run over files, each as it was written.
@@ -16,4 +16,5 @@ pub(crate) struct CheckPaths<'a> {
     pub(crate) schema: &'a str,
     pub(crate) asks: Option<&'a str>,
     pub(crate) rows: Vec<&'a str>,
+    ghost some: { 0 < length rows.items },
 }

@@ -1,4 +1,4 @@
-//! What the words after the program's name ask for.
+//! Parses the words after the program's name into the command and the paths that they ask for (`Request`).
 //!
 //! A further command is a variant of `Subcommand` and of `Request`, a line of `COMMANDS`, `subcommand_of` and
 //! `parse_words`, and one function of `words.rt`.
@@ -7,8 +7,7 @@ ghost use Rattle.bsi_shell.specs.Commands.{subcommand_of};
 ghost use Rattle.bsi_shell.specs.Requests.{IsRequestOf};
 
 use crate::paths::{CheckPaths, Paths};
-use bsi_adding::{AddPaths, SavePaths};
-use bsi_store::AskPaths;
+use bsi_store::{AddPaths, AskPaths, SavePaths};
 use clap::error::ErrorKind;
 use clap::{Arg, ArgAction, ArgMatches, Command, Error};
 use std::alloc::{AllocError, Global};
@@ -20,15 +19,15 @@ pub(crate) enum Subcommand {
     Script,
     /// Runs over files.
     Files,
-    /// Says what a run over files would not take.
+    /// Says what a run over files would not accept.
     Check,
-    /// Keeps the rows of files in a file.
+    /// Saves the rows of files in a file.
     Save,
-    /// Adds rows to a kept index.
+    /// Adds rows to a saved index.
     Add,
-    /// Answers questions over a kept index.
+    /// Answers questions over a saved index.
     Ask,
-    /// Says what a kept index is.
+    /// Says what a saved index is.
     Show,
 }
 
@@ -41,13 +40,13 @@ enum Argument {
     Asks,
     /// That file, which may be left out.
     AsksIfGiven,
-    /// The file that is to keep the rows.
+    /// The file that is to get the rows.
     To,
-    /// The file that keeps an index.
-    Kept,
-    /// Whether a file that is not whole is taken as far as it goes.
+    /// The file of an index.
+    Index,
+    /// Whether a file that is not whole is read as far as it goes.
     SoFar,
-    /// Whether a file that keeps no index is replaced.
+    /// Whether a file that is no index is replaced.
     Force,
     /// The row files, one or more.
     Rows,
@@ -70,12 +69,12 @@ const COMMANDS: [(&str, &[Argument]); 7] = [
             Argument::Rows,
         ],
     ),
-    ("add", &[Argument::SoFar, Argument::Kept, Argument::Rows]),
+    ("add", &[Argument::SoFar, Argument::Index, Argument::Rows]),
     (
         "ask",
-        &[Argument::SoFar, Argument::Kept, Argument::AsksIfGiven],
+        &[Argument::SoFar, Argument::Index, Argument::AsksIfGiven],
     ),
-    ("show", &[Argument::Kept]),
+    ("show", &[Argument::Index]),
 ];
 
 impl Argument {
@@ -86,7 +85,7 @@ impl Argument {
             Argument::Asks => option(alloc, "asks").required(true),
             Argument::AsksIfGiven => option(alloc, "asks"),
             Argument::To => option(alloc, "to").required(true),
-            Argument::Kept => Arg::new(alloc, "kept").required(true),
+            Argument::Index => Arg::new(alloc, "index").required(true),
             Argument::SoFar => option(alloc, "so-far").action(ArgAction::SetTrue),
             Argument::Force => option(alloc, "force").action(ArgAction::SetTrue),
             Argument::Rows => Arg::new(alloc, "rows")
@@ -109,15 +108,15 @@ pub(crate) enum Request<'a> {
     Script,
     /// Run over files.
     Files(Paths<'a>),
-    /// Say what a run over files would not take.
+    /// Say what a run over files would not accept.
     Check(CheckPaths<'a>),
-    /// Keep the rows of files in a file.
+    /// Save the rows of files in a file.
     Save(SavePaths<'a>),
-    /// Add rows to a kept index.
+    /// Add rows to a saved index.
     Add(AddPaths<'a>),
-    /// Answer questions over a kept index.
+    /// Answer questions over a saved index.
     Ask(AskPaths<'a>),
-    /// Say what the kept index of this path is.
+    /// Say what the saved index of this path is.
     Show(&'a str),
     /// The words are not a command.
     Wrong,
@@ -206,7 +205,7 @@ fn command_of<'a>(
     Ok(command)
 }
 
-/// Takes the paths from the matches of the command `files`.
+/// Reads the paths from the matches of the command `files`.
 fn read_paths<'a>(alloc: Global, files: &ArgMatches<'a>) -> Result<Request<'a>, AllocError>
     ensures { IfOk result (IsRequestOf Subcommand.Files) }
 {
@@ -224,19 +223,22 @@ fn read_paths<'a>(alloc: Global, files: &ArgMatches<'a>) -> Result<Request<'a>, 
     Ok(Request::Files(Paths { schema, asks, rows }))
 }
 
-/// Takes the paths from the matches of the command `check`.
+/// Reads the paths from the matches of the command `check`.
 fn read_check_paths<'a>(alloc: Global, files: &ArgMatches<'a>) -> Result<Request<'a>, AllocError>
     ensures { IfOk result (IsRequestOf Subcommand.Check) }
 {
     let (Some(schema), Some(rows)) = (files.get_str("schema"), files.get_strs("rows")) else {
         return Ok(Request::Wrong);
     };
+    if rows.is_empty() {
+        return Ok(Request::Wrong);
+    }
     let asks = files.get_str("asks");
     let rows = rows.to_vec(alloc)?;
     Ok(Request::Check(CheckPaths { schema, asks, rows }))
 }
 
-/// Takes the paths from the matches of the command `save`.
+/// Reads the paths from the matches of the command `save`.
 fn read_save_paths<'a>(alloc: Global, given: &ArgMatches<'a>) -> Result<Request<'a>, AllocError>
     ensures { IfOk result (IsRequestOf Subcommand.Save) }
 {
@@ -260,11 +262,11 @@ fn read_save_paths<'a>(alloc: Global, given: &ArgMatches<'a>) -> Result<Request<
     }))
 }
 
-/// Takes the paths from the matches of the command `add`.
+/// Reads the paths from the matches of the command `add`.
 fn read_add_paths<'a>(alloc: Global, given: &ArgMatches<'a>) -> Result<Request<'a>, AllocError>
     ensures { IfOk result (IsRequestOf Subcommand.Add) }
 {
-    let (Some(kept), Some(rows)) = (given.get_str("kept"), given.get_strs("rows")) else {
+    let (Some(index), Some(rows)) = (given.get_str("index"), given.get_strs("rows")) else {
         return Ok(Request::Wrong);
     };
     if rows.is_empty() {
@@ -272,27 +274,35 @@ fn read_add_paths<'a>(alloc: Global, given: &ArgMatches<'a>) -> Result<Request<'
     }
     let rows = rows.to_vec(alloc)?;
     let so_far = given.get_flag("so-far");
-    Ok(Request::Add(AddPaths { kept, rows, so_far }))
+    Ok(Request::Add(AddPaths {
+        index,
+        rows,
+        so_far,
+    }))
 }
 
-/// Takes the paths from the matches of the command `ask`.
+/// Reads the paths from the matches of the command `ask`.
 fn read_ask_paths<'a>(given: &ArgMatches<'a>) -> Request<'a>
     ensures { IsRequestOf Subcommand.Ask result }
 {
-    let Some(kept) = given.get_str("kept") else {
+    let Some(index) = given.get_str("index") else {
         return Request::Wrong;
     };
     let asks = given.get_str("asks");
     let so_far = given.get_flag("so-far");
-    Request::Ask(AskPaths { kept, asks, so_far })
+    Request::Ask(AskPaths {
+        index,
+        asks,
+        so_far,
+    })
 }
 
-/// Takes the path from the matches of the command `show`.
+/// Reads the paths from the matches of the command `show`.
 fn read_show_path<'a>(given: &ArgMatches<'a>) -> Request<'a>
     ensures { IsRequestOf Subcommand.Show result }
 {
-    match given.get_str("kept") {
-        Some(kept) => Request::Show(kept),
+    match given.get_str("index") {
+        Some(index) => Request::Show(index),
         None => Request::Wrong,
     }
 }

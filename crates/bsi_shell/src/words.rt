@@ -1,20 +1,20 @@
-//! The command line: the words after the program's name, and the status that they end with.
+//! Runs a command line (`run_words`): carries out what its words ask for, and returns the status to end with.
 ghost use Rattle.std.specs.Prelude.{◌≡◌, ◌≤◌, IfErr, OnErr, OnOk, false};
-ghost use Rattle.bsi_shell.specs.Checks.{HasChecked, HasToldCheck};
+ghost use Rattle.bsi_shell.specs.Checks.{HasChecked, HasFailedCheck, HasFailedCheckOf, HasReportedOver};
 ghost use Rattle.bsi_shell.specs.Commands.{subcommand_of};
-ghost use Rattle.bsi_shell.specs.FaultLines.{usage_of, IsTold};
-ghost use Rattle.bsi_shell.specs.FileRuns.{HasRunOver, HasToldFault};
-ghost use Rattle.bsi_shell.specs.Kept.{HasAddedRows, HasAskedEither, HasDone, HasFailedAdd, HasFailedAsk, HasFailedSave, HasFailedShow, HasSavedRows, IsFlushed};
+ghost use Rattle.bsi_shell.specs.FaultLines.{usage_of, IsLineWritten};
+ghost use Rattle.bsi_shell.specs.FileRuns.{HasFailedFiles, HasFailedRun, HasRunOver};
+ghost use Rattle.bsi_shell.specs.StoreRuns.{HasAddedRows, HasAskedEither, HasDone, HasFailedAdd, HasFailedAsk, HasFailedSave, HasFailedShow, HasSavedRows, IsFlushed};
 ghost use Rattle.bsi_store.specs.Asked.{HasShown};
-ghost use Rattle.bsi_shell.specs.ScriptRuns.{HasToldScript, LeavesScript};
-ghost use Rattle.bsi_reading.specs.Texts.{IfKnown, IsAnswered, IsBegun};
+ghost use Rattle.bsi_shell.specs.ScriptRuns.{HasFailedScript, LeavesScript};
+ghost use Rattle.bsi_input.specs.Texts.{IfBytesKnown, IsAnswered, WrotePrefix};
 
-use crate::check::check_over;
-use crate::files::{RunFault, run_over};
-use crate::kept::{answer_add, answer_ask, answer_save, answer_show};
+use crate::check::check_paths;
+use crate::fault_lines::{write_fault, write_run_fault, write_usage};
+use crate::files::{RunFault, run_paths};
 use crate::paths::{CheckPaths, Paths};
 use crate::request::{Request, Subcommand, read_request, subcommand_of};
-use crate::telling::{tell_fault, tell_run_fault, tell_usage};
+use crate::store_commands::{answer_add, answer_ask, answer_save, answer_show};
 use bsi_files::{FilesFault, Gate, Stopping};
 use bsi_store::LockFile;
 use bsi_text::{ScriptFault, WriteFault, run_script};
@@ -31,23 +31,23 @@ use std::time::Clock;
 pub struct CommandEnd {
     /// The status that the program ends with.
     pub status: u8,
-    /// Whether the line that tells of a fault or of wrong words, if there is one, was written whole.
-    pub told: Result<(), WriteFault>,
+    /// Whether the line of a fault or of wrong words, if there is one, was written whole.
+    pub reported: Result<(), WriteFault>,
 }
 
 impl CommandEnd {
-    pub(crate) fn by(status: u8, told: Result<(), WriteFault>) -> CommandEnd
+    pub(crate) fn by(status: u8, reported: Result<(), WriteFault>) -> CommandEnd
         ensures status { result.status ≡ status }
-        ensures told { result.told ≡ told }
+        ensures reported { result.reported ≡ reported }
     {
-        CommandEnd { status, told }
+        CommandEnd { status, reported }
     }
 }
 
-/// Carries out what the words after the program's name ask for. The status is 0, or 1 with one line on `faults` that
-/// tells which fault was met, or 2 with the usage line for words that are not a command. A check ends with status 1 and
-/// no such line where it has written reasons. The status does not depend on whether the line can be written. Where rows
-/// are read from files, the feeders call the gate.
+/// Carries out what the words after the program's name ask for. The status is 0, or 1 with one line on `stderr` for
+/// the fault that was met, or 2 with the usage line for words that are not a command. A check ends with status 1 and
+/// no such line where it has written reasons. The status does not depend on whether the line can be written. Where
+/// rows are read from files, the feeders call the gate.
 pub fn run_words<
     R: AllocGlobal + Clock + Files<File = S> + Threads + Wait + Sync,
     S: Read + Write + OpenFile + LockFile + Drop + Send,
@@ -55,39 +55,39 @@ pub fn run_words<
     O: Write,
     F: Write,
     G: Gate + Stopping + Sync,
->(rt: &R, words: Vec<String>, input: I, output: &mut O, faults: &mut F, gate: &G) -> CommandEnd
+>(rt: &R, words: Vec<String>, input: I, output: &mut O, stderr: &mut F, gate: &G) -> CommandEnd
     requires { G.STOPS ≡ false }
     ensures status { result.status ≤ 2 }
 
-    // Where the first word names no other command, a run with no fault has answered the whole input. After status 1 the
-    // output has what the fault leaves: a first part of the lines that answer the whole input. Then `faults` has the
-    // line of this fault, or a first part of it where `told` says that the writer refused.
+    // Where the first word names no other command, a run with no fault has answered the whole input. After status 1
+    // the output has what the fault leaves: a prefix of the lines that answer the whole input. Then `stderr` has the
+    // line of this fault, or a prefix of it where `reported` says that the writer refused.
     ensures answered { result.status ≡ 0 → subcommand_of words.items ≡ Subcommand.Script →
-        IfKnown (I.remaining input) IsAnswered (O.contents output.old) (O.contents output.new) }
+        IfBytesKnown (I.remaining input) IsAnswered (O.contents output.old) (O.contents output.new) }
     ensures begun { result.status ≡ 1 → subcommand_of words.items ≡ Subcommand.Script →
-        IfKnown (I.remaining input) IsBegun (O.contents output.old) (O.contents output.new) }
-    ensures said { result.status ≡ 1 → subcommand_of words.items ≡ Subcommand.Script →
-        HasToldScript (I.remaining input) (O.contents output.old) (O.contents output.new) result.told
-        (F.contents faults.old) (F.contents faults.new) }
+        IfBytesKnown (I.remaining input) WrotePrefix (O.contents output.old) (O.contents output.new) }
+    ensures script_reported { result.status ≡ 1 → subcommand_of words.items ≡ Subcommand.Script →
+        HasFailedScript (I.remaining input) (O.contents output.old) (O.contents output.new) result.reported
+        (F.contents stderr.old) (F.contents stderr.new) }
 
     // Where it is `files`, a run with no fault has answered all asks over the files that were opened. After status 1
-    // the output has what a fault of these files leaves, and `faults` the line of this fault, as above.
+    // the output has what a fault of these files leaves, and `stderr` the line of this fault, as above.
     ensures ran { result.status ≡ 0 → subcommand_of words.items ≡ Subcommand.Files →
         HasRunOver S.remaining (O.contents output.old) (O.contents output.new) }
-    ensures told { result.status ≡ 1 → subcommand_of words.items ≡ Subcommand.Files →
-        HasToldFault S.remaining (O.contents output.old) (O.contents output.new) result.told
-        (F.contents faults.old) (F.contents faults.new) }
+    ensures files_reported { result.status ≡ 1 → subcommand_of words.items ≡ Subcommand.Files →
+        HasFailedRun S.remaining (O.contents output.old) (O.contents output.new) result.reported
+        (F.contents stderr.old) (F.contents stderr.new) }
 
     // Where it is `check`, all is good after status 0, and no reason was written. After status 1 there are reasons on
-    // the output, or `faults` has the line of a fault, as above.
+    // the output, or `stderr` has the line of a fault, as above.
     ensures checked { result.status ≡ 0 → subcommand_of words.items ≡ Subcommand.Check →
         HasChecked S.remaining (O.contents output.old) (O.contents output.new) }
     ensures reasons { result.status ≡ 1 → subcommand_of words.items ≡ Subcommand.Check →
-        HasToldCheck S.remaining (O.contents output.old) (O.contents output.new) result.told
-        (F.contents faults.old) (F.contents faults.new) }
+        HasFailedCheck S.remaining (O.contents output.old) (O.contents output.new) result.reported
+        (F.contents stderr.old) (F.contents stderr.new) }
 
-    // Where it is a command over a kept index, it has done this by some paths after status 0. After status 1 `faults` has
-    // the line of a fault, as above: which fault of which of these paths, and which first part of the lines is out.
+    // Where it is a command over a saved index, it has done this by some paths after status 0. After status 1 `stderr`
+    // has the line of a fault, as above: which fault of which of these paths, and which first lines were written.
     ensures saved { result.status ≡ 0 → subcommand_of words.items ≡ Subcommand.Save →
         HasDone (HasSavedRows S.remaining S.contents) (O.contents output.old) (O.contents output.new) }
     ensures added { result.status ≡ 0 → subcommand_of words.items ≡ Subcommand.Add →
@@ -99,38 +99,38 @@ pub fn run_words<
         IsFlushed (HasShown S.remaining) (O.contents output.old) (O.contents output.new) }
     ensures unsaved { result.status ≡ 1 → subcommand_of words.items ≡ Subcommand.Save →
         HasFailedSave S.remaining S.contents (O.contents output.old) (O.contents output.new)
-        result.told (F.contents faults.old) (F.contents faults.new) }
+        result.reported (F.contents stderr.old) (F.contents stderr.new) }
     ensures unadded { result.status ≡ 1 → subcommand_of words.items ≡ Subcommand.Add →
         HasFailedAdd S.remaining S.contents (O.contents output.old) (O.contents output.new)
-        result.told (F.contents faults.old) (F.contents faults.new) }
+        result.reported (F.contents stderr.old) (F.contents stderr.new) }
     ensures unasked { result.status ≡ 1 → subcommand_of words.items ≡ Subcommand.Ask →
         HasFailedAsk S.remaining (I.remaining input) (O.contents output.old) (O.contents output.new)
-        result.told (F.contents faults.old) (F.contents faults.new) }
+        result.reported (F.contents stderr.old) (F.contents stderr.new) }
     ensures unshown { result.status ≡ 1 → subcommand_of words.items ≡ Subcommand.Show →
         HasFailedShow S.remaining (O.contents output.old) (O.contents output.new)
-        result.told (F.contents faults.old) (F.contents faults.new) }
+        result.reported (F.contents stderr.old) (F.contents stderr.new) }
 
-    // In each case: a run with no fault says nothing. After status 2 nothing was written, and `faults` has the usage
+    // In each case: a run with no fault says nothing. After status 2 nothing was written, and `stderr` has the usage
     // line, as above.
-    ensures quiet { result.status ≡ 0 → F.contents faults.new ≡ F.contents faults.old }
+    ensures stderr_unchanged { result.status ≡ 0 → F.contents stderr.new ≡ F.contents stderr.old }
     ensures wrong { result.status ≡ 2 → O.contents output.new ≡ O.contents output.old }
     ensures usage { result.status ≡ 2 →
-        IsTold result.told (F.contents faults.old) (F.contents faults.new)
+        IsLineWritten result.reported (F.contents stderr.old) (F.contents stderr.new)
         (usage_of (subcommand_of words.items)) }
 {
     match read_request(rt.alloc(), &words) {
-        Request::Script => answer_script(rt.alloc(), input, output, faults),
-        Request::Files(paths) => answer_files(rt, &paths, output, faults, gate),
-        Request::Check(paths) => answer_check(rt, &paths, output, faults),
-        Request::Save(paths) => answer_save(rt, &paths, output, faults, gate),
-        Request::Add(paths) => answer_add(rt, &paths, output, faults, gate),
-        Request::Ask(paths) => answer_ask(rt, &paths, input, output, faults),
-        Request::Show(path) => answer_show(rt, path, output, faults),
-        Request::Wrong => CommandEnd::by(2, tell_usage(subcommand_of(&words), faults)),
+        Request::Script => answer_script(rt.alloc(), input, output, stderr),
+        Request::Files(paths) => answer_files(rt, &paths, output, stderr, gate),
+        Request::Check(paths) => answer_check(rt, &paths, output, stderr),
+        Request::Save(paths) => answer_save(rt, &paths, output, stderr, gate),
+        Request::Add(paths) => answer_add(rt, &paths, output, stderr, gate),
+        Request::Ask(paths) => answer_ask(rt, &paths, input, output, stderr),
+        Request::Show(path) => answer_show(rt, path, output, stderr),
+        Request::Wrong => CommandEnd::by(2, write_usage(subcommand_of(&words), stderr)),
         Request::NoMemory => {
             CommandEnd::by(
                 1,
-                tell_run_fault(RunFault::Run(FilesFault::NoMemory), faults),
+                write_run_fault(RunFault::Run(FilesFault::NoMemory), stderr),
             )
         }
     }
@@ -141,21 +141,21 @@ fn answer_script<I: Read + Drop, O: Write, F: Write>(
     alloc: Global,
     input: I,
     output: &mut O,
-    faults: &mut F,
+    stderr: &mut F,
 ) -> CommandEnd
     ensures status { result.status ≤ 1 }
     ensures answered { result.status ≡ 0 →
-        IfKnown (I.remaining input) IsAnswered (O.contents output.old) (O.contents output.new) }
+        IfBytesKnown (I.remaining input) IsAnswered (O.contents output.old) (O.contents output.new) }
     ensures begun { result.status ≡ 1 →
-        IfKnown (I.remaining input) IsBegun (O.contents output.old) (O.contents output.new) }
-    ensures said { result.status ≡ 1 →
-        HasToldScript (I.remaining input) (O.contents output.old) (O.contents output.new) result.told
-        (F.contents faults.old) (F.contents faults.new) }
-    ensures quiet { result.status ≡ 0 → F.contents faults.new ≡ F.contents faults.old }
+        IfBytesKnown (I.remaining input) WrotePrefix (O.contents output.old) (O.contents output.new) }
+    ensures script_reported { result.status ≡ 1 →
+        HasFailedScript (I.remaining input) (O.contents output.old) (O.contents output.new) result.reported
+        (F.contents stderr.old) (F.contents stderr.new) }
+    ensures stderr_unchanged { result.status ≡ 0 → F.contents stderr.new ≡ F.contents stderr.old }
 {
     match run_to_end(alloc, input, output) {
         Ok(()) => CommandEnd::by(0, Ok(())),
-        Err(fault) => CommandEnd::by(1, tell_fault(fault.text(), faults)),
+        Err(fault) => CommandEnd::by(1, write_fault(fault.text(), stderr)),
     }
 }
 
@@ -167,19 +167,19 @@ fn answer_files<
     O: Write,
     F: Write,
     G: Gate + Stopping + Sync,
->(rt: &R, paths: &Paths<'a>, output: &mut O, faults: &mut F, gate: &G) -> CommandEnd
+>(rt: &R, paths: &Paths<'a>, output: &mut O, stderr: &mut F, gate: &G) -> CommandEnd
     requires { G.STOPS ≡ false }
     ensures status { result.status ≤ 1 }
     ensures ran { result.status ≡ 0 →
         HasRunOver S.remaining (O.contents output.old) (O.contents output.new) }
-    ensures told { result.status ≡ 1 →
-        HasToldFault S.remaining (O.contents output.old) (O.contents output.new) result.told
-        (F.contents faults.old) (F.contents faults.new) }
-    ensures quiet { result.status ≡ 0 → F.contents faults.new ≡ F.contents faults.old }
+    ensures reported { result.status ≡ 1 →
+        HasFailedFiles S.remaining paths.now (O.contents output.old) (O.contents output.new) result.reported
+        (F.contents stderr.old) (F.contents stderr.new) }
+    ensures stderr_unchanged { result.status ≡ 0 → F.contents stderr.new ≡ F.contents stderr.old }
 {
-    match run_over(rt, paths, output, gate) {
+    match run_paths(rt, paths, output, gate) {
         Ok(()) => CommandEnd::by(0, Ok(())),
-        Err(fault) => CommandEnd::by(1, tell_run_fault(fault, faults)),
+        Err(fault) => CommandEnd::by(1, write_run_fault(fault, stderr)),
     }
 }
 
@@ -188,20 +188,20 @@ fn answer_check<'a, R: AllocGlobal + Files<File = S>, S: Read + Drop, O: Write, 
     rt: &R,
     paths: &CheckPaths<'a>,
     output: &mut O,
-    faults: &mut F,
+    stderr: &mut F,
 ) -> CommandEnd
     ensures status { result.status ≤ 1 }
     ensures checked { result.status ≡ 0 →
-        HasChecked S.remaining (O.contents output.old) (O.contents output.new) }
+        HasReportedOver S.remaining paths.now (O.contents output.old) (O.contents output.new) true }
     ensures reasons { result.status ≡ 1 →
-        HasToldCheck S.remaining (O.contents output.old) (O.contents output.new) result.told
-        (F.contents faults.old) (F.contents faults.new) }
-    ensures quiet { result.status ≡ 0 → F.contents faults.new ≡ F.contents faults.old }
+        HasFailedCheckOf S.remaining paths.now (O.contents output.old) (O.contents output.new) result.reported
+        (F.contents stderr.old) (F.contents stderr.new) }
+    ensures stderr_unchanged { result.status ≡ 0 → F.contents stderr.new ≡ F.contents stderr.old }
 {
-    match check_over(rt, paths, output) {
+    match check_paths(rt, paths, output) {
         Ok(true) => CommandEnd::by(0, Ok(())),
         Ok(false) => CommandEnd::by(1, Ok(())),
-        Err(fault) => CommandEnd::by(1, tell_run_fault(fault, faults)),
+        Err(fault) => CommandEnd::by(1, write_run_fault(fault, stderr)),
     }
 }
 
@@ -212,10 +212,10 @@ fn run_to_end<I: Read + Drop, O: Write>(
     output: &mut O,
 ) -> Result<(), ScriptFault>
     ensures ok { OnOk result
-        (IfKnown (I.remaining input) IsAnswered (O.contents output.old) (O.contents output.new)) }
+        (IfBytesKnown (I.remaining input) IsAnswered (O.contents output.old) (O.contents output.new)) }
     ensures fault { OnErr result
-        (IfKnown (I.remaining input) IsBegun (O.contents output.old) (O.contents output.new)) }
-    ensures left { IfErr result (λ fault.
+        (IfBytesKnown (I.remaining input) WrotePrefix (O.contents output.old) (O.contents output.new)) }
+    ensures after_fault { IfErr result (λ fault.
         LeavesScript (I.remaining input) fault (O.contents output.old) (O.contents output.new)) }
 {
     let run = run_script(alloc, input, output);

@@ -8,12 +8,12 @@ use mir.Syntax.{w64, w128}
 use mir.Val.{SFits}
 use Rattle.std.proofs.lemmas.Bool.Decides.{nat_tests}
 use Rattle.std.proofs.lemmas.Int.{ints}
-use Rattle.bsi_orders.specs.Offsets.{number_of}
-use Rattle.bsi_orders.specs.Orders.{compares_by}
-use Rattle.bsi_orders.specs.Rows.{number_order}
-use Rattle.bsi_orders.specs.WholeNumbers.{signed_order}
-use Rattle.bsi_orders.specs.declared.op.Op.{Op}
-use Rattle.bsi_orders.specs.declared.op.Op.TheVariants.{Eq, Ne, Lt, Le, Gt, Ge}
+use Rattle.bsi_digits.specs.Offsets.{number_of}
+use Rattle.bsi_digits.specs.Orders.{compares_by}
+use Rattle.bsi_digits.specs.Comparisons.{number_order}
+use Rattle.bsi_digits.specs.WholeNumbers.{signed_order}
+use Rattle.bsi_digits.specs.declared.op.Op.{Op}
+use Rattle.bsi_digits.specs.declared.op.Op.TheVariants.{Eq, Ne, Lt, Le, Gt, Ge}
 
 -- the constant less the offset is k
 pub compared_exactly : (op : Op) (offset constant : ℤ) (n k : ℕ) → offset +ℤ pos k ≡ constant → compares_by number_order op n k ≡ compares_by signed_order op (number_of offset n) constant

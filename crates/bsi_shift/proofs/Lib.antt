@@ -1,5 +1,5 @@
 pub mod Comparing
 pub mod Moving
-pub mod Relating
+pub mod ColumnComparisons
 pub mod Shifting
 pub mod Totals

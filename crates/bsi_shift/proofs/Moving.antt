@@ -6,9 +6,9 @@ use Rattle.std.specs.Option.{option_map}
 use Rattle.std.proofs.lemmas.Bool.{cases_eq}
 use Rattle.std.proofs.lemmas.Bool.Decides.{nat_tests}
 use Rattle.std.proofs.lemmas.List.{get_or-set_same, get_or-set_other, get_or_default, same_lists}
-use Rattle.bsi_orders.specs.Blocks.{block_entry, offset_entries}
-use Rattle.bsi_orders.specs.Offsets.{number_of, IsInRange}
-use Rattle.bsi_orders.proofs.BlockEntries.{length-offset_entries, get_or-offset_entries}
+use Rattle.bsi_digits.specs.Blocks.{block_entry, offset_entries}
+use Rattle.bsi_digits.specs.Offsets.{number_of, IsInRange}
+use Rattle.bsi_digits.proofs.BlockEntries.{length-offset_entries, get_or-offset_entries}
 use Rattle.bsi_shift.proofs.Shifting.{entry_in_range}
 
 -- the first n numbers that are there are the same, and the others are 0

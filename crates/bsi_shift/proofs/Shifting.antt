@@ -6,15 +6,15 @@ use Rattle.std.proofs.lemmas.Int.{ints}
 use Rattle.std.proofs.lemmas.List.{length-map, map-append}
 use Rattle.std.proofs.lemmas.List.Elements.{All-head, All-tail, All-map, All-weaker, All-append, All-get_or, All-from_get_or}
 use Rattle.bsi_columns.specs.declared.any.AnyColumn.{AnyColumn}
-use Rattle.bsi_columns.specs.AnyRows.{any_entries, any_form, any_size, size_in_form}
+use Rattle.bsi_columns.specs.AnyColumns.{any_entries, any_form, any_size, size_in_form}
 use Rattle.bsi_columns.proofs.EntryReads.{map_read}
-use Rattle.bsi_orders.specs.Blocks.{block_entries, block_entry, offset_entries, IsNumberBlock}
-use Rattle.bsi_orders.specs.Offsets.{number_of, IsInRange}
-use Rattle.bsi_orders.specs.Orders.{compares_by, values_at}
-use Rattle.bsi_orders.specs.Rows.{number_or_zero, number_order, selects}
-use Rattle.bsi_orders.specs.WholeNumbers.{signed_order, signed_selects}
-use Rattle.bsi_orders.specs.declared.op.Op.{Op}
-use Rattle.bsi_orders.proofs.BlockEntries.{length-offset_entries, get_or-offset_entries, number-block_entry}
+use Rattle.bsi_digits.specs.Blocks.{block_entries, block_entry, offset_entries, IsNumberBlock}
+use Rattle.bsi_digits.specs.Offsets.{number_of, IsInRange}
+use Rattle.bsi_digits.specs.Orders.{compares_by, values_at}
+use Rattle.bsi_digits.specs.Comparisons.{number_or_zero, number_order, selects}
+use Rattle.bsi_digits.specs.WholeNumbers.{signed_order, signed_selects}
+use Rattle.bsi_digits.specs.declared.op.Op.{Op}
+use Rattle.bsi_digits.proofs.BlockEntries.{length-offset_entries, get_or-offset_entries, number-block_entry}
 use Rattle.bsi_slices.proofs.BlockWords.{small-block_entries}
 use Rattle.bsi_shift.specs.Shifted.{OffsetColumn, shifted_entries, IsShifted}
 
@@ -36,13 +36,13 @@ not_null_from offset [] = refl
 not_null_from offset (None ∷ stored) = ap (λ bits. false ∷ bits) (not_null_from offset stored)
 not_null_from offset (Some n ∷ stored) = ap (λ bits. true ∷ bits) (not_null_from offset stored)
 
--- the numbers that a found set has are those of the stored ones
-pub values_from : (offset : ℤ) (found : List Bool) (stored : List (Option ℕ)) → values_at found (entries_from offset stored) ≡ map (number_of offset) (values_at found stored)
+-- the numbers that a selection has are those of the stored ones
+pub values_from : (offset : ℤ) (selection : List Bool) (stored : List (Option ℕ)) → values_at selection (entries_from offset stored) ≡ map (number_of offset) (values_at selection stored)
 values_from offset [] stored = refl
-values_from offset (f ∷ found) [] = refl
-values_from offset (false ∷ found) (e ∷ stored) = values_from offset found stored
-values_from offset (true ∷ found) (None ∷ stored) = values_from offset found stored
-values_from offset (true ∷ found) (Some n ∷ stored) = ap (λ values. number_of offset n ∷ values) (values_from offset found stored)
+values_from offset (f ∷ selection) [] = refl
+values_from offset (false ∷ selection) (e ∷ stored) = values_from offset selection stored
+values_from offset (true ∷ selection) (None ∷ stored) = values_from offset selection stored
+values_from offset (true ∷ selection) (Some n ∷ stored) = ap (λ values. number_of offset n ∷ values) (values_from offset selection stored)
 
 -- stored numbers below the size stand for numbers in range
 pub in_range_from : (offset : ℤ) (size : ℕ) (stored : List (Option ℕ)) → All (λ e. number_or_zero e < size) stored → All (IsInRange offset size) (entries_from offset stored)
@@ -74,9 +74,9 @@ length-shifted_entries c = ap length (shifted_entries-is c) ∙ length-map (any_
 pub entries_from-push : (offset : ℤ) (stored : List (Option ℕ)) (entry : Option ℕ) → entries_from offset (stored ++ entry ∷ []) ≡ entries_from offset stored ++ option_map (number_of offset) entry ∷ []
 entries_from-push offset stored entry = map-append (option_map (number_of offset)) stored (entry ∷ [])
 
--- the numbers that a found set has
-pub values_at-shifted_entries : (c : OffsetColumn) (found : List Bool) → values_at found (shifted_entries c) ≡ map (number_of c.offset) (values_at found (any_entries c.stored))
-values_at-shifted_entries c found = ap (values_at found) (shifted_entries-is c) ∙ values_from c.offset found (any_entries c.stored)
+-- the numbers that a selection has
+pub values_at-shifted_entries : (c : OffsetColumn) (selection : List Bool) → values_at selection (shifted_entries c) ≡ map (number_of c.offset) (values_at selection (any_entries c.stored))
+values_at-shifted_entries c selection = ap (values_at selection) (shifted_entries-is c) ∙ values_from c.offset selection (any_entries c.stored)
 
 -- a stored number below the size stands for one below 2^63
 pub fits : (offset : ℤ) (size : ℕ) → size ≤ 2 ^ 63 → (offset +ℤ pos size) ≤ℤ pos (2 ^ 63) → (answer : Option ℕ) → IfSome answer (λ n. n < size)

@@ -12,13 +12,13 @@ use mir.Syntax.{w64}
 use mir.Val.{SFits}
 use Rattle.bsi_slices.proofs.CallerLemmas.{count_cons}
 use Rattle.bsi_slices.proofs.Ranking.{count_split, member_from_count}
-use Rattle.bsi_orders.specs.Offsets.{number_of}
-use Rattle.bsi_orders.specs.Orders.{values_at}
-use Rattle.bsi_orders.specs.Ranks.{IsSignedRanked}
-use Rattle.bsi_orders.specs.Rows.{number_or_zero}
-use Rattle.bsi_orders.specs.Totals.{IsLeastOf, IsGreatestOf, IsMedianOf, IsRanked}
-use Rattle.bsi_orders.specs.WholeNumbers.{signed_sum, IsSignedLeastOf, IsSignedGreatestOf, IsSignedMedianOf}
-use Rattle.bsi_columns.specs.AnyRows.{any_entries}
+use Rattle.bsi_digits.specs.Offsets.{number_of}
+use Rattle.bsi_digits.specs.Orders.{values_at}
+use Rattle.bsi_digits.specs.Ranks.{IsSignedRanked}
+use Rattle.bsi_digits.specs.Comparisons.{number_or_zero}
+use Rattle.bsi_digits.specs.Totals.{IsLeastOf, IsGreatestOf, IsMedianOf, IsRanked}
+use Rattle.bsi_digits.specs.WholeNumbers.{signed_sum, IsSignedLeastOf, IsSignedGreatestOf, IsSignedMedianOf}
+use Rattle.bsi_columns.specs.AnyColumns.{any_entries}
 use Rattle.bsi_columns.specs.declared.any.AnyColumn.{AnyColumn}
 use Rattle.bsi_shift.specs.Shifted.{shifted_entries, OffsetColumn}
 use Rattle.bsi_shift.proofs.Shifting.{values_at-shifted_entries}
@@ -55,10 +55,10 @@ module _ (offset : ℤ) where
   below_from n m = grind (arith, ints, nat_tests)
 
   member_from : (numbers : List ℕ) (m : ℕ) → Contains numbers m → Contains (map (number_of offset) numbers) (number_of offset m)
-  member_from numbers m found = (
-    found.0,
-    omega (arith, found.1, length-map numbers (number_of offset)),
-    get_or-map (number_of offset) numbers found.0 m (number_of offset m) found.1 ∙ ap (number_of offset) found.2,
+  member_from numbers m selection = (
+    selection.0,
+    omega (arith, selection.1, length-map numbers (number_of offset)),
+    get_or-map (number_of offset) numbers selection.0 m (number_of offset m) selection.1 ∙ ap (number_of offset) selection.2,
   )
 
   -- as many numbers pass a test as stored ones pass theirs
@@ -116,53 +116,53 @@ ranked_member numbers rank m is =
     below_or_same n = grind (arith, nat_tests)
 
 module _ (size : ℕ) where
-  numbers_below : (found : List Bool) (stored : List (Option ℕ)) → All (λ e. number_or_zero e < size) stored → All (λ n. n < size) (values_at found stored)
+  numbers_below : (selection : List Bool) (stored : List (Option ℕ)) → All (λ e. number_or_zero e < size) stored → All (λ n. n < size) (values_at selection stored)
   numbers_below [] stored below = All-nil (λ n. n < size)
-  numbers_below (f ∷ found) [] below = All-nil (λ n. n < size)
-  numbers_below (false ∷ found) (e ∷ stored) below = numbers_below found stored (All-tail (λ e. number_or_zero e < size) e stored below)
-  numbers_below (true ∷ found) (None ∷ stored) below = numbers_below found stored (All-tail (λ e. number_or_zero e < size) None stored below)
-  numbers_below (true ∷ found) (Some n ∷ stored) below =
-      All-cons (λ n. n < size) n (values_at found stored) (All-head (λ e. number_or_zero e < size) (Some n) stored below)
-      (numbers_below found stored (All-tail (λ e. number_or_zero e < size) (Some n) stored below))
+  numbers_below (f ∷ selection) [] below = All-nil (λ n. n < size)
+  numbers_below (false ∷ selection) (e ∷ stored) below = numbers_below selection stored (All-tail (λ e. number_or_zero e < size) e stored below)
+  numbers_below (true ∷ selection) (None ∷ stored) below = numbers_below selection stored (All-tail (λ e. number_or_zero e < size) None stored below)
+  numbers_below (true ∷ selection) (Some n ∷ stored) below =
+      All-cons (λ n. n < size) n (values_at selection stored) (All-head (λ e. number_or_zero e < size) (Some n) stored below)
+      (numbers_below selection stored (All-tail (λ e. number_or_zero e < size) (Some n) stored below))
 
-  module _ (found : List Bool) (stored : List (Option ℕ)) (below : All (λ e. number_or_zero e < size) stored) where
-    member_below : (m : ℕ) → Contains (values_at found stored) m → m < size
-    member_below m there = All-contains (λ n. n < size) (values_at found stored) m (numbers_below found stored below) there
+  module _ (selection : List Bool) (stored : List (Option ℕ)) (below : All (λ e. number_or_zero e < size) stored) where
+    member_below : (m : ℕ) → Contains (values_at selection stored) m → m < size
+    member_below m there = All-contains (λ n. n < size) (values_at selection stored) m (numbers_below selection stored below) there
 
-    pub least_below : (answer : Option ℕ) → IsLeastOf (values_at found stored) answer → IfSome answer (λ m. m < size)
+    pub least_below : (answer : Option ℕ) → IsLeastOf (values_at selection stored) answer → IfSome answer (λ m. m < size)
     least_below None none = tt
     least_below (Some m) is = member_below m is.member
 
-    pub greatest_below : (answer : Option ℕ) → IsGreatestOf (values_at found stored) answer → IfSome answer (λ m. m < size)
+    pub greatest_below : (answer : Option ℕ) → IsGreatestOf (values_at selection stored) answer → IfSome answer (λ m. m < size)
     greatest_below None none = tt
     greatest_below (Some m) is = member_below m is.member
 
-    pub median_below : (answer : Option ℕ) → IsMedianOf (values_at found stored) answer → IfSome answer (λ m. m < size)
+    pub median_below : (answer : Option ℕ) → IsMedianOf (values_at selection stored) answer → IfSome answer (λ m. m < size)
     median_below None none = tt
     median_below (Some m) is = member_below m is.member
 
-    pub ranked_below : (rank m : ℕ) → IsRanked (values_at found stored) rank m → m < size
-    ranked_below rank m is = member_below m (ranked_member (values_at found stored) rank m is)
+    pub ranked_below : (rank m : ℕ) → IsRanked (values_at selection stored) rank m → m < size
+    ranked_below rank m is = member_below m (ranked_member (values_at selection stored) rank m is)
 
 -- ---- the answer of a column, from that of the stored one
 
-pub answer_from : (Is : List ℤ → Option ℤ → Type 0) (offset : ℤ) (stored : AnyColumn) (view : OffsetColumn) (found : List Bool) (entry : Option ℕ) (answer : Option ℤ)
+pub answer_from : (Is : List ℤ → Option ℤ → Type 0) (offset : ℤ) (stored : AnyColumn) (view : OffsetColumn) (selection : List Bool) (entry : Option ℕ) (answer : Option ℤ)
     → record { stored = stored; offset = offset } ≡ view → answer ≡ option_map (number_of offset) entry
-    → Is (map (number_of offset) (values_at found (any_entries stored))) (option_map (number_of offset) entry) → Is (values_at found (shifted_entries view)) answer
-answer_from Is offset stored view found entry answer view_is answer_is moved =
-    subst (λ v. Is (values_at found (shifted_entries v)) answer) view_is
-    (subst (λ values. Is values answer) (sym (values_at-shifted_entries _ found)) (subst (Is _) (sym answer_is) moved))
+    → Is (map (number_of offset) (values_at selection (any_entries stored))) (option_map (number_of offset) entry) → Is (values_at selection (shifted_entries view)) answer
+answer_from Is offset stored view selection entry answer view_is answer_is moved =
+    subst (λ v. Is (values_at selection (shifted_entries v)) answer) view_is
+    (subst (λ values. Is values answer) (sym (values_at-shifted_entries _ selection)) (subst (Is _) (sym answer_is) moved))
 
 -- ---- a sum of at most 2^32 numbers of 64 bits
 
-pub sum_within : (offset : ℤ) (size : ℕ) (found : List Bool) (stored : List (Option ℕ)) → SFits w64 offset → (offset +ℤ pos size) ≤ℤ pos (2 ^ 63)
-    → All (λ e. number_or_zero e < size) stored → length (values_at found stored) ≤ 2 ^ 32
-    → (neg_ℤ (pos (2 ^ 95)) ≤ℤ signed_sum (map (number_of offset) (values_at found stored))) × (signed_sum (map (number_of offset) (values_at found stored)) <ℤ pos (2 ^ 95))
-sum_within offset size found stored fits within below few =
-    let numbers = values_at found stored in
+pub sum_within : (offset : ℤ) (size : ℕ) (selection : List Bool) (stored : List (Option ℕ)) → SFits w64 offset → (offset +ℤ pos size) ≤ℤ pos (2 ^ 63)
+    → All (λ e. number_or_zero e < size) stored → length (values_at selection stored) ≤ 2 ^ 32
+    → (neg_ℤ (pos (2 ^ 95)) ≤ℤ signed_sum (map (number_of offset) (values_at selection stored))) × (signed_sum (map (number_of offset) (values_at selection stored)) <ℤ pos (2 ^ 95))
+sum_within offset size selection stored fits within below few =
+    let numbers = values_at selection stored in
     let each = All-map (λ x. (neg_ℤ (pos (2 ^ 63)) ≤ℤ x) × (x <ℤ pos (2 ^ 63))) (number_of offset) numbers
     (All-weaker (λ n. n < size) (λ n. (neg_ℤ (pos (2 ^ 63)) ≤ℤ number_of offset n) × (number_of offset n <ℤ pos (2 ^ 63)))
-    (λ n small. (omega (arith, ints, fits), omega (arith, ints, small, within))) numbers (numbers_below size found stored below)) in
+    (λ n small. (omega (arith, ints, fits), omega (arith, ints, small, within))) numbers (numbers_below size selection stored below)) in
     let sum = signed_sum_within (map (number_of offset) numbers) each in
     let many = length-map numbers (number_of offset) in
     (omega (arith, ints, sum.0, many, few), omega (arith, ints, sum.1, many, few))

@@ -4,9 +4,9 @@ ghost use Rattle.std.specs.Prelude.{◌≡◌, ℕ, pos, ◌+ℤ◌, ◌≤ℤ�
 ghost use Rattle.std.specs.Option.{option_map};
 ghost use Rattle.bsi_digits.specs.Digits.{max_end, max_size};
 ghost use Rattle.bsi_bits.specs.BitList.{max_block, max_len};
-ghost use Rattle.bsi_columns.specs.AnyRows.{any_entries, any_size};
-ghost use Rattle.bsi_orders.specs.Blocks.{offset_entries, IsNumberBlock};
-ghost use Rattle.bsi_orders.specs.Offsets.{number_of, IsInRange};
+ghost use Rattle.bsi_columns.specs.AnyColumns.{any_entries, any_size};
+ghost use Rattle.bsi_digits.specs.Blocks.{offset_entries, IsNumberBlock};
+ghost use Rattle.bsi_digits.specs.Offsets.{number_of, IsInRange};
 ghost use Rattle.bsi_shift.specs.Shifted.{shifted_entries, shifted_size, shifted_room, IsAlike};
 
 use crate::NoMemory;
@@ -107,7 +107,7 @@ impl Shifted {
         ensures entries { shifted_entries self.new ≡ shifted_entries self.old }
         ensures alike { IsAlike self.old self.new }
         ensures ok { OnOk result (more ≤ shifted_room self.new) }
-        ensures kept { shifted_room self.old ≤ shifted_room self.new }
+        ensures no_less { shifted_room self.old ≤ shifted_room self.new }
         ensures err { OnErr result (shifted_room self.new ≡ shifted_room self.old) }
         ensures refused { OnErr result (shifted_room self.new < more) }
         ensures succeeds { more ≤ shifted_room self.old → IsOk result }
@@ -138,7 +138,7 @@ impl Shifted {
         ensures entries { shifted_entries self.new ≡ shifted_entries self.old }
         ensures alike { IsAlike self.old self.new }
         ensures ok { OnOk result (0 < shifted_room self.new) }
-        ensures kept { shifted_room self.old ≤ shifted_room self.new }
+        ensures no_less { shifted_room self.old ≤ shifted_room self.new }
         ensures err { OnErr result (shifted_room self.new ≡ shifted_room self.old) }
         ensures succeeds { 0 < shifted_room self.old → IsOk result }
     {

@@ -10,7 +10,7 @@ use Rattle.std.proofs.lemmas.Bool.Decides.{nat_tests}
 use Rattle.bsi_bits.specs.BitList.{BitList}
 use Rattle.bsi_bits.specs.BitLists.{bits_at}
 use Rattle.bsi_bits.specs.Packed.{bit_of}
-use Rattle.bsi_orders.specs.Rows.{number_or_zero}
+use Rattle.bsi_digits.specs.Comparisons.{number_or_zero}
 use Rattle.bsi_slices.specs.Slices.{entries_in, number, IsSliced}
 use Rattle.bsi_slices.proofs.SliceEntries.{get_or-entries_in}
 use Rattle.bsi_slices.proofs.SliceNumbers.{number_below, number_place}
@@ -67,7 +67,7 @@ gathered_numbers slices at words numbers r few near fits turned gathered =
 -- the number in the slices of a row is that of its entry
 pub entry_number : (not_null : List Bool) (slices : List BitList) (r : ℕ) → IsSliced not_null slices → r < length not_null
     → number slices r ≡ number_or_zero (get_or (entries_in not_null slices) r None)
-entry_number not_null slices r kept within = by (get_or not_null r false) (kept.clear r within) ∙ sym (ap number_or_zero (get_or-entries_in not_null slices r None within))
+entry_number not_null slices r tested within = by (get_or not_null r false) (tested.clear r within) ∙ sym (ap number_or_zero (get_or-entries_in not_null slices r None within))
   where
     by : (there : Bool) → (there ≡ false → number slices r ≡ 0) → number slices r ≡ number_or_zero (if there then Some (number slices r) else None)
     by true clear = refl

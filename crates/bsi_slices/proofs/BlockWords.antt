@@ -10,10 +10,10 @@ use Rattle.std.proofs.lemmas.Bool.{cases_lt}
 use Rattle.bsi_bits.specs.Packed.{bits_of}
 use Rattle.bsi_bits.proofs.Reading.{bits_are}
 use Rattle.bsi_bits.proofs.Splicing.{below_power, one_word}
-use Rattle.bsi_words.proofs.MarkBits.{zeros}
-use Rattle.bsi_orders.specs.Blocks.{block_entries, IsNumberBlock}
-use Rattle.bsi_orders.specs.Rows.{number_or_zero}
-use Rattle.bsi_orders.proofs.BlockEntries.{length-block_entries, get_or-block_entries, All-block_entries, there-block_entry, number-block_entry}
+use Rattle.bsi_kernels.proofs.MarkBits.{zeros}
+use Rattle.bsi_digits.specs.Blocks.{block_entries, IsNumberBlock}
+use Rattle.bsi_digits.specs.Comparisons.{number_or_zero}
+use Rattle.bsi_digits.proofs.BlockEntries.{length-block_entries, get_or-block_entries, All-block_entries, there-block_entry, number-block_entry}
 
 module _ (numbers : List ℕ) (not_null : ℕ) (block : IsNumberBlock numbers not_null) where
   -- the number of each entry, and 0 past the last
@@ -40,9 +40,9 @@ module _ (numbers : List ℕ) (not_null : ℕ) (block : IsNumberBlock numbers no
       ∙ sym (one_word not_null r (omega arith))))
 
 -- one entry more, as its bit and its number tell it
-pub taken_more : (numbers : List ℕ) (not_null r : ℕ) → r < length numbers
+pub prefix_more : (numbers : List ℕ) (not_null r : ℕ) → r < length numbers
     → take (r + 1) (block_entries numbers not_null) ≡ take r (block_entries numbers not_null) ++ then_some (bit_and (not_null / 2 ^ r) 1 == 1) (get_or numbers r 0) ∷ []
-taken_more numbers not_null r within =
+prefix_more numbers not_null r within =
     take_more (block_entries numbers not_null) r None (omega (arith, within, length-block_entries numbers not_null))
     ∙ ap (λ e. take r (block_entries numbers not_null) ++ e ∷ [])
     (get_or-block_entries numbers not_null r within ∙ some_if (bit_at not_null r == 1) ∙ ap (λ b. then_some (b == 1) (get_or numbers r 0)) (sym (shr_and_one not_null r)))

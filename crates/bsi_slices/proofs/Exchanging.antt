@@ -67,7 +67,7 @@ pub record Run (s from k : ℕ) (old now : List ℕ) : Type 0 where
       bit_at (get_or now (from + s + q) 0) r ≡ bit_at (get_or old (from + q + s * (r / s % 2)) 0) (r - s * (r / s % 2) + s)
   pub before : (j : ℕ) → j < from → get_or now j 0 ≡ get_or old j 0
   pub middle : (j : ℕ) → k ≤ j → j < from + s → get_or now j 0 ≡ get_or old j 0
-  pub behind : (j : ℕ) → k + s ≤ j → get_or now j 0 ≡ get_or old j 0
+  pub after : (j : ℕ) → k + s ≤ j → get_or now j 0 ≡ get_or old j 0
 
 pub run_none : (s from : ℕ) (old : List ℕ) → length old ≡ 64 → Run s from from old old
 run_none s from old long = record {
@@ -76,7 +76,7 @@ run_none s from old long = record {
   second = λ q r below near. absurd (omega arith);
   before = λ j below. refl;
   middle = λ j least most. refl;
-  behind = λ j past. refl;
+  after = λ j past. refl;
 }
 
 module _ (s low from k : ℕ) (old now : List ℕ) (some : 1 ≤ s) (within : from + 2 * s ≤ 64) (marks : IsLow s low) (least : from ≤ k) (most : k < from + s)
@@ -100,7 +100,7 @@ module _ (s low from k : ℕ) (old now : List ℕ) (some : 1 ≤ s) (within : fr
   is_a = run.middle k (omega arith) most
 
   is_b : b ≡ get_or old (k + s) 0
-  is_b = run.behind (k + s) (omega arith)
+  is_b = run.after (k + s) (omega arith)
 
   at_first : get_or new k 0 ≡ one
   at_first = get_or-set_other (set now k one) (k + s) k two 0 (omega arith) ∙ get_or-set_same now k one 0 (omega (arith, run.long))
@@ -172,7 +172,7 @@ module _ (s low from k : ℕ) (old now : List ℕ) (some : 1 ≤ s) (within : fr
     ];
     before = λ j below. at_other j (omega arith) (omega arith) ∙ run.before j below;
     middle = λ j past inside. at_other j (omega arith) (omega arith) ∙ run.middle j (omega arith) inside;
-    behind = λ j past. at_other j (omega arith) (omega arith) ∙ run.behind j (omega arith);
+    after = λ j past. at_other j (omega arith) (omega arith) ∙ run.after j (omega arith);
   }
 
 -- the runs before the one of number p have exchanged their bits
@@ -239,5 +239,5 @@ module _ (s p : ℕ) (old mid new : List ℕ) (some : 1 ≤ s) (runs : Runs s p 
         | inr past ↦ done_second k r past (omega (arith, next)) near
       ]
     ];
-    rest = λ k past. run.behind k (omega (arith, next)) ∙ runs.rest k (omega (arith, next));
+    rest = λ k past. run.after k (omega (arith, next)) ∙ runs.rest k (omega (arith, next));
   }

@@ -2,7 +2,7 @@ pub mod Adding
 pub mod BlockNumbers
 pub mod BlockWords
 pub mod CallerLemmas
-pub mod EndRows
+pub mod ExtremeRows
 pub mod Exchanging
 pub mod FromPlaces
 pub mod Ranking
@@ -15,5 +15,5 @@ pub mod SliceSpans
 pub mod StateWords
 pub mod Turning
 pub mod WholeRanks
-pub use Rattle.bsi_words.proofs.EndSpans
-pub use Rattle.bsi_words.proofs.WordSpans
+pub use Rattle.bsi_kernels.proofs.ExtremeSpans
+pub use Rattle.bsi_kernels.proofs.WordSpans

@@ -1,4 +1,4 @@
--- The number of a given rank in a found set, by its digits from the most significant down.
+-- The number of a given rank in a selection, by its digits from the most significant down.
 use Rattle.std.proofs.Common.{◌≡◌, ℕ, ◌+◌, ◌-◌, ◌*◌, ◌/◌, ◌%◌, ◌<◌, suc, Bool, true, false, cond, List, [], ◌∷◌, Option, Some, None, length, get_or, map, inl, inr, ap, ap₂, sym, ◌∙◌, refl, arith}
 use Rattle.std.specs.Prelude.{All, Contains, count_by, is_some, nat_eq, nat_lt, nat_le, not, ◌&&◌, ◌||◌}
 use Rattle.std.specs.Simd.Lanes.{zip2}
@@ -6,15 +6,15 @@ use Rattle.std.proofs.Math.Nat.{div-div-eq-div-mul}
 use Rattle.std.proofs.Math.Bool.{and-true, and-false}
 use Rattle.std.proofs.lemmas.Nat.{div-add-mod', mod_below}
 use Rattle.bsi_digits.proofs.CallerLemmas.{two_lt}
-pub use Rattle.bsi_words.proofs.EndSpans.{next_small, same_parts}
+pub use Rattle.bsi_kernels.proofs.ExtremeSpans.{next_small, same_parts}
 use Rattle.std.proofs.lemmas.Bool.{cases_Bool}
 use Rattle.std.proofs.lemmas.Bool.Decides.{nat_tests}
 use Rattle.std.proofs.lemmas.List.{nil_from_length}
 use Rattle.std.proofs.lemmas.List.Sums.{sum_by-cons, get_or-le-sum_by}
 use Rattle.std.proofs.lemmas.List.Elements.{All-from_get_or}
-use Rattle.bsi_orders.specs.Rows.{number_or_zero}
-use Rattle.bsi_orders.specs.Orders.{values_at}
-use Rattle.bsi_orders.specs.Totals.{IsRanked, IsLeast, IsGreatest, IsLowerMedian}
+use Rattle.bsi_digits.specs.Comparisons.{number_or_zero}
+use Rattle.bsi_digits.specs.Orders.{values_at}
+use Rattle.bsi_digits.specs.Totals.{IsRanked, IsLeast, IsGreatest, IsLowerMedian}
 
 -- ---- counts of numbers that pass a test
 
@@ -54,8 +54,8 @@ member_from_count m (x ∷ xs) some = elim (cases_Bool (nat_eq x m)) [
   | inl same ↦ (0, omega arith, grind (arith, nat_tests, same))
   | inr other ↦
       let later : 0 < count_by (λ n. nat_eq n m) xs = omega (arith, count_cons (λ n. nat_eq n m) x xs, ap {B = ℕ} (λ b. cond b 1 0) other) in
-      let found = member_from_count m xs later in
-      (suc found.0, omega (arith, found.1), found.2)
+      let selection = member_from_count m xs later in
+      (suc selection.0, omega (arith, selection.1), selection.2)
 ]
 
 -- a test that passes none
@@ -114,21 +114,21 @@ module _ (numbers : List ℕ) (k m : ℕ) (ranked : IsRanked numbers k m) where
     fewer_below = omega (arith, ranked.low, middle);
   }
 
--- ---- a found set narrowed to the rows whose number passes a test
+-- ---- a selection narrowed to the rows whose number passes a test
 
 abbrev pub narrowed : (ℕ → Bool) → List Bool → List (Option ℕ) → List Bool
-narrowed p found entries = zip2 (λ f e. f && (is_some e && p (number_or_zero e))) found entries
+narrowed p selection entries = zip2 (λ f e. f && (is_some e && p (number_or_zero e))) selection entries
 
 -- as many rows are left as numbers pass
-pub narrowed_count : (p : ℕ → Bool) (found : List Bool) (entries : List (Option ℕ)) → count_by (λ b. b) (narrowed p found entries) ≡ count_by p (values_at found entries)
+pub narrowed_count : (p : ℕ → Bool) (selection : List Bool) (entries : List (Option ℕ)) → count_by (λ b. b) (narrowed p selection entries) ≡ count_by p (values_at selection entries)
 narrowed_count p [] entries = refl
-narrowed_count p (f ∷ found) [] = refl
-narrowed_count p (false ∷ found) (e ∷ entries) =
-    count_cons (λ b. b) false (narrowed p found entries) ∙ omega (arith, narrowed_count p found entries)
-narrowed_count p (true ∷ found) (None ∷ entries) =
-    count_cons (λ b. b) false (narrowed p found entries) ∙ omega (arith, narrowed_count p found entries)
-narrowed_count p (true ∷ found) (Some n ∷ entries) =
-    count_cons (λ b. b) (p n) (narrowed p found entries) ∙ omega (arith, narrowed_count p found entries, count_cons p n (values_at found entries))
+narrowed_count p (f ∷ selection) [] = refl
+narrowed_count p (false ∷ selection) (e ∷ entries) =
+    count_cons (λ b. b) false (narrowed p selection entries) ∙ omega (arith, narrowed_count p selection entries)
+narrowed_count p (true ∷ selection) (None ∷ entries) =
+    count_cons (λ b. b) false (narrowed p selection entries) ∙ omega (arith, narrowed_count p selection entries)
+narrowed_count p (true ∷ selection) (Some n ∷ entries) =
+    count_cons (λ b. b) (p n) (narrowed p selection entries) ∙ omega (arith, narrowed_count p selection entries, count_cons p n (values_at selection entries))
 
 narrow_one : (p q r : ℕ → Bool) (g : ℕ → ℕ) → ((n : ℕ) → (p n && q (g n)) ≡ r n) → (f : Bool) (e : Option ℕ)
     → ((f && (is_some e && p (number_or_zero e))) && q (g (number_or_zero e))) ≡ (f && (is_some e && r (number_or_zero e)))
@@ -137,17 +137,17 @@ narrow_one p q r g both true None = refl
 narrow_one p q r g both true (Some n) = both n
 
 -- narrowed once more, by a function of the number
-pub narrowed_more : (p q r : ℕ → Bool) (g : ℕ → ℕ) → ((n : ℕ) → (p n && q (g n)) ≡ r n) → (found : List Bool) (entries : List (Option ℕ))
-    → zip2 (λ f v. f && q v) (narrowed p found entries) (map (λ e. g (number_or_zero e)) entries) ≡ narrowed r found entries
+pub narrowed_more : (p q r : ℕ → Bool) (g : ℕ → ℕ) → ((n : ℕ) → (p n && q (g n)) ≡ r n) → (selection : List Bool) (entries : List (Option ℕ))
+    → zip2 (λ f v. f && q v) (narrowed p selection entries) (map (λ e. g (number_or_zero e)) entries) ≡ narrowed r selection entries
 narrowed_more p q r g both [] entries = refl
-narrowed_more p q r g both (f ∷ found) [] = refl
-narrowed_more p q r g both (f ∷ found) (e ∷ entries) = ap₂ ◌∷◌ (narrow_one p q r g both f e) (narrowed_more p q r g both found entries)
+narrowed_more p q r g both (f ∷ selection) [] = refl
+narrowed_more p q r g both (f ∷ selection) (e ∷ entries) = ap₂ ◌∷◌ (narrow_one p q r g both f e) (narrowed_more p q r g both selection entries)
 
-pub narrowed_same : (p q : ℕ → Bool) → ((n : ℕ) → p n ≡ q n) → (found : List Bool) (entries : List (Option ℕ)) → narrowed p found entries ≡ narrowed q found entries
+pub narrowed_same : (p q : ℕ → Bool) → ((n : ℕ) → p n ≡ q n) → (selection : List Bool) (entries : List (Option ℕ)) → narrowed p selection entries ≡ narrowed q selection entries
 narrowed_same p q same [] entries = refl
-narrowed_same p q same (f ∷ found) [] = refl
-narrowed_same p q same (f ∷ found) (e ∷ entries) =
-    ap₂ ◌∷◌ (ap (λ b. f && (is_some e && b)) (same (number_or_zero e))) (narrowed_same p q same found entries)
+narrowed_same p q same (f ∷ selection) [] = refl
+narrowed_same p q same (f ∷ selection) (e ∷ entries) =
+    ap₂ ◌∷◌ (ap (λ b. f && (is_some e && b)) (same (number_or_zero e))) (narrowed_same p q same selection entries)
 
 -- how many of the chosen rows have a digit that passes
 abbrev pub count_where : (ℕ → Bool) → List Bool → List ℕ → ℕ
@@ -174,13 +174,13 @@ lower_parts x a b d below =
     ∙ apart (x / b) a (nat_lt (x % b) d)
 
 -- the rows that are left have this number above the weight, and the rank is that among them
-pub record IsNarrowed (weight : ℕ) (found : List Bool) (entries : List (Option ℕ)) (k number rank : ℕ) (chosen : List Bool) : Type 0 where
-  pub chosen_is : chosen ≡ narrowed (λ n. nat_eq (n / weight) number) found entries
-  pub rank_is : k ≡ count_by (λ n. nat_lt (n / weight) number) (values_at found entries) + rank
+pub record IsNarrowed (weight : ℕ) (selection : List Bool) (entries : List (Option ℕ)) (k number rank : ℕ) (chosen : List Bool) : Type 0 where
+  pub chosen_is : chosen ≡ narrowed (λ n. nat_eq (n / weight) number) selection entries
+  pub rank_is : k ≡ count_by (λ n. nat_lt (n / weight) number) (values_at selection entries) + rank
   pub there : rank < count_by (λ b. b) chosen
 
-module _ (weight base : ℕ) (found : List Bool) (entries : List (Option ℕ)) (k number rank : ℕ) (chosen : List Bool) (some : 0 < weight)
-    (state : IsNarrowed (weight * base) found entries k number rank chosen) where
+module _ (weight base : ℕ) (selection : List Bool) (entries : List (Option ℕ)) (k number rank : ℕ) (chosen : List Bool) (some : 0 < weight)
+    (state : IsNarrowed (weight * base) selection entries k number rank chosen) where
   -- a number's digit of this weight
   abbrev pub digit : ℕ → ℕ
   digit n = n / weight % base
@@ -190,20 +190,20 @@ module _ (weight base : ℕ) (found : List Bool) (entries : List (Option ℕ)) (
 
   -- how many of the rows that are left have a digit that passes
   pub count_where_digit : (t : ℕ → Bool) → count_where t chosen (map (λ e. digit (number_or_zero e)) entries)
-      ≡ count_by (λ n. nat_eq (n / (weight * base)) number && t (digit n)) (values_at found entries)
+      ≡ count_by (λ n. nat_eq (n / (weight * base)) number && t (digit n)) (values_at selection entries)
   count_where_digit t =
       ap (λ rows. count_where t rows (map (λ e. digit (number_or_zero e)) entries)) state.chosen_is
-      ∙ ap (count_by (λ b. b)) (narrowed_more (λ n. nat_eq (n / (weight * base)) number) t (λ n. nat_eq (n / (weight * base)) number && t (digit n)) digit (λ n. refl) found entries)
-      ∙ narrowed_count (λ n. nat_eq (n / (weight * base)) number && t (digit n)) found entries
+      ∙ ap (count_by (λ b. b)) (narrowed_more (λ n. nat_eq (n / (weight * base)) number) t (λ n. nat_eq (n / (weight * base)) number && t (digit n)) digit (λ n. refl) selection entries)
+      ∙ narrowed_count (λ n. nat_eq (n / (weight * base)) number && t (digit n)) selection entries
 
   -- the rows whose digit is that of the rank
   pub narrowed_step : (d rank' : ℕ) (chosen' : List Bool) → d < base
       → chosen' ≡ zip2 (λ f v. f && nat_eq v d) chosen (map (λ e. digit (number_or_zero e)) entries)
       → rank ≡ count_where (λ v. nat_lt v d) chosen (map (λ e. digit (number_or_zero e)) entries) + rank'
       → rank' < count_by (λ b. b) chosen'
-      → IsNarrowed weight found entries k (number * base + d) rank' chosen'
+      → IsNarrowed weight selection entries k (number * base + d) rank' chosen'
   narrowed_step d rank' chosen' below chosen_is rank_is there =
-      let numbers = values_at found entries in
+      let numbers = values_at selection entries in
       let one : (n : ℕ) → (nat_eq (n / (weight * base)) number && nat_eq (digit n) d) ≡ nat_eq (n / weight) (number * base + d) = λ n.
       ap (λ q. nat_eq q number && nat_eq (digit n) d) (sym (above n)) ∙ same_parts (n / weight) number base d below in
       let split = count_split
@@ -213,55 +213,55 @@ module _ (weight base : ℕ) (found : List Bool) (entries : List (Option ℕ)) (
       record {
         chosen_is = chosen_is
             ∙ ap (λ rows. zip2 (λ f v. f && nat_eq v d) rows (map (λ e. digit (number_or_zero e)) entries)) state.chosen_is
-            ∙ narrowed_more (λ n. nat_eq (n / (weight * base)) number) (λ v. nat_eq v d) (λ n. nat_eq (n / weight) (number * base + d)) digit one found entries;
+            ∙ narrowed_more (λ n. nat_eq (n / (weight * base)) number) (λ v. nat_eq v d) (λ n. nat_eq (n / weight) (number * base + d)) digit one selection entries;
         rank_is = omega (arith, state.rank_is, rank_is, count_where_digit (λ v. nat_lt v d), split);
         there = there;
       }
 
--- a test that each number passes leaves the found rows that have one
-start_narrowed : (p : ℕ → Bool) (found : List Bool) (entries : List (Option ℕ)) → All (λ e. p (number_or_zero e) ≡ true) entries
-    → zip2 ◌&&◌ found (map is_some entries) ≡ narrowed p found entries
+-- a test that each number passes leaves the selected rows that have one
+start_narrowed : (p : ℕ → Bool) (selection : List Bool) (entries : List (Option ℕ)) → All (λ e. p (number_or_zero e) ≡ true) entries
+    → zip2 ◌&&◌ selection (map is_some entries) ≡ narrowed p selection entries
 start_narrowed p [] entries all = refl
-start_narrowed p (f ∷ found) [] all = refl
-start_narrowed p (f ∷ found) (e ∷ entries) all =
+start_narrowed p (f ∷ selection) [] all = refl
+start_narrowed p (f ∷ selection) (e ∷ entries) all =
     ap₂ ◌∷◌
     (ap (λ b. f && b) (sym (and-true (is_some e)) ∙ ap (λ b. is_some e && b) (sym (all 0 e (omega arith)))))
-    (start_narrowed p found entries (λ i d within. all (suc i) d (omega arith)))
+    (start_narrowed p selection entries (λ i d within. all (suc i) d (omega arith)))
 
 equal_test : (n : ℕ) → n ≡ 0 → nat_eq n 0 ≡ true
 equal_test n zero_is = grind (arith, nat_tests)
 
--- the found rows that have a number are as many as the numbers
-pub count_numbers : (found : List Bool) (entries : List (Option ℕ)) → count_by (λ b. b) (zip2 ◌&&◌ found (map is_some entries)) ≡ length (values_at found entries)
-count_numbers found entries =
-    ap (count_by (λ b. b)) (start_narrowed (λ n. true) found entries (λ i d within. refl))
-    ∙ narrowed_count (λ n. true) found entries ∙ count_all (values_at found entries)
+-- the selected rows that have a number are as many as the numbers
+pub count_numbers : (selection : List Bool) (entries : List (Option ℕ)) → count_by (λ b. b) (zip2 ◌&&◌ selection (map is_some entries)) ≡ length (values_at selection entries)
+count_numbers selection entries =
+    ap (count_by (λ b. b)) (start_narrowed (λ n. true) selection entries (λ i d within. refl))
+    ∙ narrowed_count (λ n. true) selection entries ∙ count_all (values_at selection entries)
 
 pub no_numbers : (numbers : List ℕ) → length numbers ≡ 0 → numbers ≡ []
 no_numbers numbers none = nil_from_length numbers none
 
-module _ (found : List Bool) (entries : List (Option ℕ)) (k : ℕ) where
-  -- at first all found rows with a number are left
+module _ (selection : List Bool) (entries : List (Option ℕ)) (k : ℕ) where
+  -- at first all selected rows with a number are left
   pub narrowed_start : (size : ℕ) (chosen : List Bool) → All (λ e. number_or_zero e / size ≡ 0) entries
-      → chosen ≡ zip2 ◌&&◌ found (map is_some entries) → k < length (values_at found entries)
-      → IsNarrowed size found entries k 0 k chosen
+      → chosen ≡ zip2 ◌&&◌ selection (map is_some entries) → k < length (values_at selection entries)
+      → IsNarrowed size selection entries k 0 k chosen
   narrowed_start size chosen below chosen_is there =
-      let numbers = values_at found entries in
-      let counted = ap (count_by (λ b. b)) chosen_is ∙ count_numbers found entries in
+      let numbers = values_at selection entries in
+      let counted = ap (count_by (λ b. b)) chosen_is ∙ count_numbers selection entries in
       record {
-        chosen_is = chosen_is ∙ start_narrowed (λ n. nat_eq (n / size) 0) found entries (λ i d within. equal_test (number_or_zero (get_or entries i d) / size) (below i d within));
+        chosen_is = chosen_is ∙ start_narrowed (λ n. nat_eq (n / size) 0) selection entries (λ i d within. equal_test (number_or_zero (get_or entries i d) / size) (below i d within));
         rank_is = let none = count_none (λ n. nat_lt (n / size) 0) (λ n. not_below_zero (n / size)) numbers in omega (arith, none);
         there = omega (arith, there, counted);
       }
 
   -- in the end each row that is left has the number of the rank
-  pub narrowed_end : (number rank : ℕ) (chosen : List Bool) → IsNarrowed 1 found entries k number rank chosen → IsRanked (values_at found entries) k number
-  narrowed_end number rank chosen state =
-      let numbers = values_at found entries in
+  pub narrowed_extreme : (number rank : ℕ) (chosen : List Bool) → IsNarrowed 1 selection entries k number rank chosen → IsRanked (values_at selection entries) k number
+  narrowed_extreme number rank chosen state =
+      let numbers = values_at selection entries in
       let whole : (n : ℕ) → n / 1 ≡ n = λ n. omega arith in
       let below = count_same (λ n. nat_lt (n / 1) number) (λ n. nat_lt n number) (λ n. ap (λ q. nat_lt q number) (whole n)) numbers in
       let same = count_same (λ n. nat_eq (n / 1) number) (λ n. nat_eq n number) (λ n. ap (λ q. nat_eq q number) (whole n)) numbers in
-      let left = ap (count_by (λ b. b)) state.chosen_is ∙ narrowed_count (λ n. nat_eq (n / 1) number) found entries in
+      let left = ap (count_by (λ b. b)) state.chosen_is ∙ narrowed_count (λ n. nat_eq (n / 1) number) selection entries in
       let split = count_split (λ n. nat_lt n number) (λ n. nat_eq n number) (λ n. nat_le n number) (λ n. below_or_same n number) numbers in
       record {
         low = omega (arith, state.rank_is, below);

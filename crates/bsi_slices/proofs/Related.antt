@@ -11,23 +11,23 @@ use Rattle.std.proofs.lemmas.List.{get_or_past, take_all}
 use Rattle.std.proofs.Math.Nat.{mod-eq_of_lt}
 use Rattle.bsi_bits.specs.BitList.{differ, BitList}
 use Rattle.bsi_bits.specs.BitLists.{bits_at, no_bits}
-use Rattle.bsi_orders.specs.Rows.{compares}
-use Rattle.bsi_orders.specs.declared.op.Op.{Op}
-use Rattle.bsi_orders.specs.declared.op.Op.TheVariants.{Eq, Ne, Lt, Le, Gt, Ge}
-use Rattle.bsi_slices.specs.Related.{relates, relates_entries}
+use Rattle.bsi_digits.specs.Comparisons.{compares}
+use Rattle.bsi_digits.specs.declared.op.Op.{Op}
+use Rattle.bsi_digits.specs.declared.op.Op.TheVariants.{Eq, Ne, Lt, Le, Gt, Ge}
+use Rattle.bsi_slices.specs.Related.{compares_numbers, compares_entries}
 use Rattle.bsi_slices.specs.Slices.{bit_value, number}
-use Rattle.bsi_slices.specs.Standings.{stands, stepped}
-use Rattle.bsi_slices.specs.declared.slices.related.Relating.{Relating}
-use Rattle.bsi_slices.specs.declared.standing.Standing.{Standing}
-use Rattle.bsi_slices.specs.declared.standing.Standing.TheVariants.{Below, AtMost, Unlike}
+use Rattle.bsi_slices.specs.PairRelations.{relation_holds, relation_bit_step}
+use Rattle.bsi_slices.specs.declared.slices.related.ColumnComparison.{ColumnComparison}
+use Rattle.bsi_slices.specs.declared.pair_relation.PairRelation.{PairRelation}
+use Rattle.bsi_slices.specs.declared.pair_relation.PairRelation.TheVariants.{Below, AtMost, Unequal}
 use Rattle.bsi_slices.proofs.SliceNumbers.{number_below, number_more, number_none, places_more}
 
 -- how many binary places a number has
 pub places_enough : (a b : ℕ) → a ≤ b → b < 2 ^ 63 → (a < 2 ^ (64 - count_leading_zeros 64 b)) × (64 - count_leading_zeros 64 b ≤ 63)
 places_enough a b below small =
-    let found = leading_length 64 b (omega (arith, small)) in
-    let is : 64 - count_leading_zeros 64 b ≡ found.0 = omega (arith, found.1) in
-    (subst (λ m. a < 2 ^ m) (sym is) (omega (arith, below, found.2)), omega (arith, is, few found.0 found.3))
+    let selection = leading_length 64 b (omega (arith, small)) in
+    let is : 64 - count_leading_zeros 64 b ≡ selection.0 = omega (arith, selection.1) in
+    (subst (λ m. a < 2 ^ m) (sym is) (omega (arith, below, selection.2)), omega (arith, is, few selection.0 selection.3))
   where
     few : (m : ℕ) → 2 ^ m ≤ 2 * b + 1 → m ≤ 63
     few m most = elim (cases_lt 63 m) [
@@ -86,20 +86,20 @@ low_more s m a b some small = by a b (nat_le m s) refl (nat_le (2 * m) (s + bit_
     by false false false is false high = grind (arith, nat_tests)
 
 -- how two numbers stand by one more place of both
-pub stands_place : (standing : Standing) (x y m : ℕ) (a b : Bool) → x < m → y < m
-    → stepped standing a b (stands standing x y) ≡ stands standing (x + bit_value a * m) (y + bit_value b * m)
-stands_place Below x y m true true first second = grind (arith, nat_tests)
-stands_place Below x y m true false first second = grind (arith, nat_tests)
-stands_place Below x y m false true first second = grind (arith, nat_tests)
-stands_place Below x y m false false first second = grind (arith, nat_tests)
-stands_place AtMost x y m true true first second = grind (arith, nat_tests)
-stands_place AtMost x y m true false first second = grind (arith, nat_tests)
-stands_place AtMost x y m false true first second = grind (arith, nat_tests)
-stands_place AtMost x y m false false first second = grind (arith, nat_tests)
-stands_place Unlike x y m true true first second = grind (arith, nat_tests)
-stands_place Unlike x y m true false first second = grind (arith, nat_tests)
-stands_place Unlike x y m false true first second = grind (arith, nat_tests)
-stands_place Unlike x y m false false first second = grind (arith, nat_tests)
+pub relation_place : (relation : PairRelation) (x y m : ℕ) (a b : Bool) → x < m → y < m
+    → relation_bit_step relation a b (relation_holds relation x y) ≡ relation_holds relation (x + bit_value a * m) (y + bit_value b * m)
+relation_place Below x y m true true first second = grind (arith, nat_tests)
+relation_place Below x y m true false first second = grind (arith, nat_tests)
+relation_place Below x y m false true first second = grind (arith, nat_tests)
+relation_place Below x y m false false first second = grind (arith, nat_tests)
+relation_place AtMost x y m true true first second = grind (arith, nat_tests)
+relation_place AtMost x y m true false first second = grind (arith, nat_tests)
+relation_place AtMost x y m false true first second = grind (arith, nat_tests)
+relation_place AtMost x y m false false first second = grind (arith, nat_tests)
+relation_place Unequal x y m true true first second = grind (arith, nat_tests)
+relation_place Unequal x y m true false first second = grind (arith, nat_tests)
+relation_place Unequal x y m false true first second = grind (arith, nat_tests)
+relation_place Unequal x y m false false first second = grind (arith, nat_tests)
 
 -- the same added to both numbers
 pub compares_more : (op : Op) (x y more : ℕ) → compares op (x + more) (y + more) ≡ compares op x y
@@ -143,35 +143,35 @@ double : (i : ℕ) → 2 ^ (i + 1) ≡ 2 * 2 ^ i
 double i = omega (arith, pow-add 2 i 1)
 
 -- the carry out of place i
-pub carry_next : (slices : List BitList) (more r i : ℕ) (part carry : Bool) → part ≡ get_or (bits_at slices i) r false → carry ≡ nat_le (2 ^ i) (sum slices more r i)
-    → (if bit_at more i == 1 then part || carry else part && carry) ≡ nat_le (2 ^ (i + 1)) (sum slices more r (i + 1))
-carry_next slices more r i part carry part_is carry_is =
+pub carry_next : (slices : List BitList) (more r i : ℕ) (digits carry : Bool) → digits ≡ get_or (bits_at slices i) r false → carry ≡ nat_le (2 ^ i) (sum slices more r i)
+    → (if bit_at more i == 1 then digits || carry else digits && carry) ≡ nat_le (2 ^ (i + 1)) (sum slices more r (i + 1))
+carry_next slices more r i digits carry digits_are carry_is =
     let a = get_or (bits_at slices i) r false in
     let one = bit_at more i == 1 in
-    ap₂ (λ p k. if one then p || k else p && k) part_is carry_is
+    ap₂ (λ p k. if one then p || k else p && k) digits_are carry_is
     ∙ carry_more (sum slices more r i) (2 ^ i) a one (pow_pos i) (sum_small slices more r i)
     ∙ ap₂ nat_le (sym (double i)) (sym (sum_more slices more r i))
 
 -- how two numbers stand, by their place i and those below it
-pub stands_next : (standing : Standing) (slices others : List BitList) (r i : ℕ) (part other state : Bool)
-    → part ≡ get_or (bits_at slices i) r false → other ≡ get_or (bits_at others i) r false → state ≡ stands standing (number (take i slices) r) (number (take i others) r)
-    → stepped standing part other state ≡ stands standing (number (take (i + 1) slices) r) (number (take (i + 1) others) r)
-stands_next standing slices others r i part other state part_is other_is state_is =
-    ap₂ (λ a b. stepped standing a b state) part_is other_is
-    ∙ ap (stepped standing (get_or (bits_at slices i) r false) (get_or (bits_at others i) r false)) state_is
-    ∙ stands_place standing _ _ (2 ^ i) _ _ (upto_small slices r i) (upto_small others r i)
-    ∙ ap₂ (stands standing) (sym (upto_more slices 0 r i)) (sym (upto_more others 0 r i))
+pub relation_next : (relation : PairRelation) (slices others : List BitList) (r i : ℕ) (digits other state : Bool)
+    → digits ≡ get_or (bits_at slices i) r false → other ≡ get_or (bits_at others i) r false → state ≡ relation_holds relation (number (take i slices) r) (number (take i others) r)
+    → relation_bit_step relation digits other state ≡ relation_holds relation (number (take (i + 1) slices) r) (number (take (i + 1) others) r)
+relation_next relation slices others r i digits other state digits_are other_is state_is =
+    ap₂ (λ a b. relation_bit_step relation a b state) digits_are other_is
+    ∙ ap (relation_bit_step relation (get_or (bits_at slices i) r false) (get_or (bits_at others i) r false)) state_is
+    ∙ relation_place relation _ _ (2 ^ i) _ _ (upto_small slices r i) (upto_small others r i)
+    ∙ ap₂ (relation_holds relation) (sym (upto_more slices 0 r i)) (sym (upto_more others 0 r i))
 
 -- how a sum stands to a number
-pub sums_next : (standing : Standing) (slices others : List BitList) (more r i : ℕ) (part other state : Bool)
-    → part ≡ differ (differ (get_or (bits_at slices i) r false) (nat_le (2 ^ i) (sum slices more r i))) (bit_at more i == 1)
-    → other ≡ get_or (bits_at others i) r false → state ≡ stands standing (low (sum slices more r i) (2 ^ i)) (number (take i others) r)
-    → stepped standing part other state ≡ stands standing (low (sum slices more r (i + 1)) (2 ^ (i + 1))) (number (take (i + 1) others) r)
-sums_next standing slices others more r i part other state part_is other_is state_is =
-    ap₂ (λ a b. stepped standing a b state) part_is other_is
-    ∙ ap (stepped standing (differ (differ (get_or (bits_at slices i) r false) (nat_le (2 ^ i) (sum slices more r i))) (bit_at more i == 1)) (get_or (bits_at others i) r false)) state_is
-    ∙ stands_place standing _ _ (2 ^ i) _ _ (low_below (sum slices more r i) (2 ^ i) (pow_pos i) (sum_small slices more r i)) (upto_small others r i)
-    ∙ ap₂ (stands standing)
+pub sums_next : (relation : PairRelation) (slices others : List BitList) (more r i : ℕ) (digits other state : Bool)
+    → digits ≡ differ (differ (get_or (bits_at slices i) r false) (nat_le (2 ^ i) (sum slices more r i))) (bit_at more i == 1)
+    → other ≡ get_or (bits_at others i) r false → state ≡ relation_holds relation (low (sum slices more r i) (2 ^ i)) (number (take i others) r)
+    → relation_bit_step relation digits other state ≡ relation_holds relation (low (sum slices more r (i + 1)) (2 ^ (i + 1))) (number (take (i + 1) others) r)
+sums_next relation slices others more r i digits other state digits_are other_is state_is =
+    ap₂ (λ a b. relation_bit_step relation a b state) digits_are other_is
+    ∙ ap (relation_bit_step relation (differ (differ (get_or (bits_at slices i) r false) (nat_le (2 ^ i) (sum slices more r i))) (bit_at more i == 1)) (get_or (bits_at others i) r false)) state_is
+    ∙ relation_place relation _ _ (2 ^ i) _ _ (low_below (sum slices more r i) (2 ^ i) (pow_pos i) (sum_small slices more r i)) (upto_small others r i)
+    ∙ ap₂ (relation_holds relation)
     (sym (low_more (sum slices more r i) (2 ^ i) (get_or (bits_at slices i) r false) (bit_at more i == 1) (pow_pos i) (sum_small slices more r i))
     ∙ ap₂ low (sym (sum_more slices more r i)) (sym (double i)))
     (sym (upto_more others 0 r i))
@@ -185,10 +185,10 @@ pub none_yet : (slices : List BitList) (more r : ℕ) → sum slices more r 0 �
 none_yet slices more r = ap (λ n. n + more % 2 ^ 0) (number_none r) ∙ omega arith
 
 -- neither row is null
-pub both_there : (relating : Relating) (was first second : Bool) (x y : ℕ) → (((was && first) && second) && relates relating x y)
-    ≡ (was && relates_entries relating (if first then Some x else None) (if second then Some y else None))
-both_there relating true true true x y = refl
-both_there relating true true false x y = refl
-both_there relating true false true x y = refl
-both_there relating true false false x y = refl
-both_there relating false first second x y = refl
+pub both_there : (comparison : ColumnComparison) (was first second : Bool) (x y : ℕ) → (((was && first) && second) && compares_numbers comparison x y)
+    ≡ (was && compares_entries comparison (if first then Some x else None) (if second then Some y else None))
+both_there comparison true true true x y = refl
+both_there comparison true true false x y = refl
+both_there comparison true false true x y = refl
+both_there comparison true false false x y = refl
+both_there comparison false first second x y = refl

@@ -9,7 +9,7 @@ use Rattle.std.proofs.lemmas.List.{get_or_append_left, get_or_past, length-map, 
 use Rattle.std.proofs.lemmas.List.Elements.{All-from_get_or}
 use Rattle.std.proofs.lemmas.List.FromFn.{length-map-range_with_len, get_or-map-range_with_len, fill_by_all}
 use Rattle.bsi_bits.specs.BitList.{BitList}
-use Rattle.bsi_orders.specs.Rows.{number_or_zero}
+use Rattle.bsi_digits.specs.Comparisons.{number_or_zero}
 use Rattle.bsi_bits.specs.BitLists.{bits_at, no_bits}
 use Rattle.bsi_slices.specs.Slices.{bit_value, number, sliced_entry, entries_in, IsSliced}
 use Rattle.bsi_slices.proofs.SliceNumbers.{number_below, number_place}
@@ -27,8 +27,8 @@ slice_read (s ∷ slices) zero slice within is = ap (λ b. b.bits) is
 slice_read (s ∷ slices) (suc i) slice within is = slice_read slices i slice (omega arith) is
 
 -- one more slice after the others
-pub slice_behind : (slices : List BitList) (last : BitList) → bits_at (slices ++ last ∷ []) (length slices) ≡ last.bits
-slice_behind slices last = ap (λ s. s.bits) (get_or-append_seam slices last [] no_bits)
+pub slice_after : (slices : List BitList) (last : BitList) → bits_at (slices ++ last ∷ []) (length slices) ≡ last.bits
+slice_after slices last = ap (λ s. s.bits) (get_or-append_seam slices last [] no_bits)
 
 pub slice_before : (slices : List BitList) (last : BitList) (k : ℕ) → k < length slices → bits_at (slices ++ last ∷ []) k ≡ bits_at slices k
 slice_before slices last k below = ap (λ s. s.bits) (get_or_append_left slices (last ∷ []) no_bits k below)

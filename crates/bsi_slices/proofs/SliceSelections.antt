@@ -7,13 +7,13 @@ use Rattle.std.proofs.Math.Bool.{and-true, and-false}
 use Rattle.bsi_bits.specs.BitList.{BitList}
 use Rattle.bsi_bits.specs.Packed.{bit_of, bits_of}
 use Rattle.bsi_bits.proofs.Reading.{length-bits_of, get_or-bits_of}
-use Rattle.bsi_orders.specs.Rows.{compares, selects}
-use Rattle.bsi_orders.specs.declared.op.Op.{Op}
+use Rattle.bsi_digits.specs.Comparisons.{compares, selects}
+use Rattle.bsi_digits.specs.declared.op.Op.{Op}
 use Rattle.bsi_slices.specs.declared.decision.Test.{Test}
 use Rattle.bsi_slices.specs.declared.decision.Decision.{Decision}
 use Rattle.bsi_slices.specs.declared.decision.Decision.TheVariants.{Nothing, Everything, Tested}
 use Rattle.bsi_slices.specs.Slices.{number, entries_in}
-use Rattle.bsi_slices.specs.Spans.{IsKept}
+use Rattle.bsi_slices.specs.Spans.{IsIntersected}
 use Rattle.bsi_slices.specs.Decisions.{decides, passes}
 use Rattle.bsi_slices.proofs.SliceEntries.{by_entries, get_or-entries_in, length-entries_in}
 use Rattle.bsi_slices.proofs.SliceNumbers.{number_below}
@@ -44,19 +44,19 @@ module _ (not_null : List Bool) (slices : List BitList) (op : Op) (n size : ℕ)
 
   pub selected_tested : (test : Test) → choice ≡ Tested test
       → (bits : List Bool) (old new : List ℕ) (count : ℕ) → count ≡ length not_null → length old ≡ (length not_null + 63) / 64 → ((r : ℕ) → bit_of old r ≡ get_or not_null r false)
-      → IsKept (λ r. passes test (number slices (0 + r))) 0 (length old) old new → bits ≡ bits_of count new
+      → IsIntersected (λ r. passes test (number slices (0 + r))) 0 (length old) old new → bits ≡ bits_of count new
       → bits ≡ map (selects op n) (entries_in not_null slices)
-  selected_tested test is bits old new count long few places kept are =
+  selected_tested test is bits old new count long few places tested are =
       selected bits (ap length are ∙ length-bits_of count new ∙ long)
       (λ r below. ap (λ b. get_or b r false) are ∙ get_or-bits_of count new r false (omega arith)
-      ∙ kept.inside r (omega arith) (omega arith)
+      ∙ tested.inside r (omega arith) (omega arith)
       ∙ (λ j. places r j && passes test (number slices (zero-add r j)))
       ∙ sym (ap (λ s. get_or not_null r false && decides s (number slices r)) is))
 
   -- a row of a span that is there and decided for is one that the comparison selects; past the last row none is there
-  pub kept_decided : (was : Bool) (r : ℕ) → (was && (get_or not_null r false && decides choice (number slices r)))
+  pub tested_decided : (was : Bool) (r : ℕ) → (was && (get_or not_null r false && decides choice (number slices r)))
       ≡ (was && selects op n (get_or (entries_in not_null slices) r None))
-  kept_decided was r = ap (λ b. was && b) (elim (cases_lt r (length not_null)) [
+  tested_decided was r = ap (λ b. was && b) (elim (cases_lt r (length not_null)) [
     | inl below ↦
         of_mark (get_or not_null r false) (number slices r) (omega (arith, size_is, number_below slices r))
         ∙ ap (selects op n) (sym (get_or-entries_in not_null slices r None below))

@@ -12,7 +12,7 @@ use Rattle.bsi_bits.specs.BitList.{BitList}
 use Rattle.bsi_bits.specs.Packed.{bit_of}
 use Rattle.bsi_bits.specs.BitLists.{bits_at}
 use Rattle.bsi_slices.specs.Slices.{number}
-use Rattle.bsi_words.proofs.WordSpans.{bit_of-chunk, and_bit, or_bit, cut_bit, cut_long, turned}
+use Rattle.bsi_kernels.proofs.WordSpans.{bit_of-chunk, and_bit, or_bit, cut_bit, cut_long, turned}
 use Rattle.bsi_slices.proofs.SliceNumbers.{above_more, equal_more}
 
 -- a span of words below 2^64 is of such words
@@ -61,12 +61,12 @@ module _ (slices : List BitList) (c at n i : ℕ) (words : List ℕ) (within : i
   above_long above long new is = ap length is ∙ stepped_long n above (chunk at n words) long (length-chunk at n words enough) (bit_and (c / 2 ^ i) 1 == 1)
 
   -- the rows that are the constant by one more place
-  pub equal_step : ((k : ℕ) → get_or words k 0 < 2 ^ 64) → (found : List ℕ) → length found ≡ n → ((p : ℕ) → p < 64 * n → bit_of found p ≡ (c % 2 ^ i == number (take i slices) (64 * at + p)))
-      → (new : List ℕ) → new ≡ (if bit_and (c / 2 ^ i) 1 == 0 then zip2 bit_and found (map (bit_not w64) (chunk at n words)) else zip2 bit_and found (chunk at n words))
+  pub equal_step : ((k : ℕ) → get_or words k 0 < 2 ^ 64) → (selection : List ℕ) → length selection ≡ n → ((p : ℕ) → p < 64 * n → bit_of selection p ≡ (c % 2 ^ i == number (take i slices) (64 * at + p)))
+      → (new : List ℕ) → new ≡ (if bit_and (c / 2 ^ i) 1 == 0 then zip2 bit_and selection (map (bit_not w64) (chunk at n words)) else zip2 bit_and selection (chunk at n words))
       → (p : ℕ) → p < 64 * n → bit_of new p ≡ (c % 2 ^ (i + 1) == number (take (i + 1) slices) (64 * at + p))
-  equal_step fits found long before new is p below =
+  equal_step fits selection long before new is p below =
       ap (λ ws. bit_of ws p) is
-      ∙ cut_bit n found (chunk at n words) long (length-chunk at n words enough) (bit_and (c / 2 ^ i) 1 == 0) (chunk_fits at n words fits enough) p below
+      ∙ cut_bit n selection (chunk at n words) long (length-chunk at n words enough) (bit_and (c / 2 ^ i) 1 == 0) (chunk_fits at n words fits enough) p below
       ∙ (λ j. before p below j && turned (zero_read c i j) (lane p below j))
       ∙ ap (λ b. (c % 2 ^ i == number (take i slices) (64 * at + p)) && b) (of_one (bit_at c i == 1) (get_or (bits_at slices i) (64 * at + p) false))
       ∙ sym (equal_more slices c i (64 * at + p) within)
@@ -75,5 +75,5 @@ module _ (slices : List BitList) (c at n i : ℕ) (words : List ℕ) (within : i
       of_one true s = refl
       of_one false s = refl
 
-  pub equal_long : (found : List ℕ) → length found ≡ n → (new : List ℕ) → new ≡ (if bit_and (c / 2 ^ i) 1 == 0 then zip2 bit_and found (map (bit_not w64) (chunk at n words)) else zip2 bit_and found (chunk at n words)) → length new ≡ n
-  equal_long found long new is = ap length is ∙ cut_long n found (chunk at n words) long (length-chunk at n words enough) (bit_and (c / 2 ^ i) 1 == 0)
+  pub equal_long : (selection : List ℕ) → length selection ≡ n → (new : List ℕ) → new ≡ (if bit_and (c / 2 ^ i) 1 == 0 then zip2 bit_and selection (map (bit_not w64) (chunk at n words)) else zip2 bit_and selection (chunk at n words)) → length new ≡ n
+  equal_long selection long new is = ap length is ∙ cut_long n selection (chunk at n words) long (length-chunk at n words enough) (bit_and (c / 2 ^ i) 1 == 0)

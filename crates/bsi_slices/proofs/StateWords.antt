@@ -86,8 +86,8 @@ no_row n p = elim (cases_lt (p / 64) n) [
 ]
 
 -- and the first n of them
-pub no_row_taken : (n : ℕ) (words : List ℕ) → ((p : ℕ) → bit_of words p ≡ false) → (p : ℕ) → bit_of (take n words) p ≡ false
-no_row_taken n words none p = elim (cases_lt (p / 64) n) [
+pub no_row_in_prefix : (n : ℕ) (words : List ℕ) → ((p : ℕ) → bit_of words p ≡ false) → (p : ℕ) → bit_of (take n words) p ≡ false
+no_row_in_prefix n words none p = elim (cases_lt (p / 64) n) [
   | inl inside ↦ ap (λ w. bit_at w (p % 64) == 1) (get_or-take n words (p / 64) 0 inside) ∙ none p
   | inr past ↦ ap (λ w. bit_at w (p % 64) == 1) (get_or_past (take n words) (p / 64) 0 (omega (arith, past, length-take n words))) ∙ none_set (p % 64) (omega arith)
 ]

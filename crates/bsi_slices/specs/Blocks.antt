@@ -1,9 +1,9 @@
--- The numbers of 64 rows, read at once.
+-- The numbers of 64 rows of a column, read at once, with 0 for a null (`AreNumbersFrom`).
 use Rattle.std.specs.Prelude.{◌≡◌, ℕ, ◌+◌, ◌<◌, List, Option, None, length, slice_index, slice_index_or}
 use Rattle.bsi_bits.specs.BitList.{max_block}
-use Rattle.bsi_orders.specs.Rows.{number_or_zero}
+use Rattle.bsi_digits.specs.Comparisons.{number_or_zero}
 
--- these are the numbers of the rows from a first one on, as far as there are rows, and 0 for a null
+-- the numbers of the rows from a first row on, as far as there are rows, and 0 for a null
 abbrev pub AreNumbersFrom : List (Option ℕ) → ℕ → List ℕ → Type 0
 AreNumbersFrom entries first numbers =
     (r : ℕ) → r < max_block → first + r < length entries

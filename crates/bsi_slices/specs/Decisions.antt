@@ -11,21 +11,21 @@ abbrev pub relates : Relation → ℕ → ℕ → Bool
 relates Equal number constant = nat_eq number constant
 relates AtMost number constant = nat_le number constant
 
--- the answer, or its complement where the numbers that are not in the relation are wanted
-abbrev pub as_wanted : Bool → Bool → Bool
-as_wanted wanted answer = if wanted then answer else not answer
+-- the answer, or its complement if the relation is expected not to hold
+abbrev pub as_expected : Bool → Bool → Bool
+as_expected expected answer = if expected then answer else not answer
 
--- the test wants the number
+-- the number passes the test
 abbrev pub passes : Test → ℕ → Bool
-passes test number = as_wanted test.wanted (relates test.relation number test.constant)
+passes test number = as_expected test.expected (relates test.relation number test.constant)
 
--- what a decision says of a number
+-- the decision selects the number
 abbrev pub decides : Decision → ℕ → Bool
 decides Nothing number = false
 decides Everything number = true
 decides (Tested test) number = passes test number
 
--- a constant that is tested is below the size
+-- the constant of a test is below the size
 abbrev pub IsBelowSize : Decision → ℕ → Type 0
 IsBelowSize Nothing size = Unit {0}
 IsBelowSize Everything size = Unit {0}

@@ -1,9 +1,9 @@
 pub mod Blocks
 pub mod Spans
 pub mod Decisions
-pub mod Ends
+pub mod Extremes
 pub mod Exchanges
 pub mod NotNull
 pub mod Related
 pub mod Slices
-pub mod Standings
+pub mod PairRelations

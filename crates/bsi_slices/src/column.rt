@@ -1,4 +1,4 @@
-//! What a column is to an index: a list of optional numbers below its size.
+//! The trait of a column (`Column`): a list of optional numbers below its size that grows, and is compared and summed.
 //!
 //! Least, greatest and median are provided calls over one required call, `ranked`; forms have their own least and
 //! greatest. The form is the column's own type, because the trait can't name the encoding of a decomposed one.
@@ -6,10 +6,10 @@
 ghost use Rattle.std.specs.Prelude.{◌≡◌, ◌↔◌, ℕ, ◌^◌, ◌+◌, ◌≤◌, ◌<◌, List, Option, [], ◌∷◌, ◌++◌, All, length, map, is_some, is_none, nat_lt, sum, IfOk, OnOk, OnErr, IsOk, IsTrue};
 ghost use Rattle.bsi_digits.specs.Digits.{max_size};
 ghost use Rattle.bsi_bits.specs.BitList.{max_block, max_len, sum_end};
-ghost use Rattle.bsi_orders.specs.Blocks.{block_entries, IsNumberBlock};
-ghost use Rattle.bsi_orders.specs.Orders.{values_at};
-ghost use Rattle.bsi_orders.specs.Rows.{number_or_zero, selects};
-ghost use Rattle.bsi_orders.specs.Totals.{IsRanked, IsLeastOf, IsGreatestOf, IsMedianOf};
+ghost use Rattle.bsi_digits.specs.Blocks.{block_entries, IsNumberBlock};
+ghost use Rattle.bsi_digits.specs.Orders.{values_at};
+ghost use Rattle.bsi_digits.specs.Comparisons.{number_or_zero, selects};
+ghost use Rattle.bsi_digits.specs.Totals.{IsRanked, IsLeastOf, IsGreatestOf, IsMedianOf};
 
 use crate::{NoMemory, Op};
 use bsi_bits::Bits;
@@ -62,7 +62,7 @@ pub trait Column: Drop {
         ensures entries { entries self.new ≡ entries self.old }
         ensures form { form_of self.new ≡ form_of self.old }
         ensures ok { OnOk result (more ≤ room_of self.new) }
-        ensures kept { room_of self.old ≤ room_of self.new }
+        ensures no_less { room_of self.old ≤ room_of self.new }
         ensures err { OnErr result (room_of self.new ≡ room_of self.old) }
         ensures refused { OnErr result (room_of self.new < more) }
         ensures succeeds { more ≤ room_of self.old → IsOk result };
@@ -120,7 +120,7 @@ pub trait Column: Drop {
         ensures entries { entries self.new ≡ entries self.old }
         ensures form { form_of self.new ≡ form_of self.old }
         ensures ok { OnOk result (0 < room_of self.new) }
-        ensures kept { room_of self.old ≤ room_of self.new }
+        ensures no_less { room_of self.old ≤ room_of self.new }
         ensures err { OnErr result (room_of self.new ≡ room_of self.old) }
         ensures succeeds { 0 < room_of self.old → IsOk result }
     {
@@ -142,61 +142,61 @@ pub trait Column: Drop {
         out.flip();
     }
 
-    /// Returns the sum of the numbers at the rows of a found set, below 2^95. A null counts for nothing. It takes no
+    /// Returns the sum of the numbers at the rows of a selection, below 2^95. A null counts for nothing. It takes no
     /// memory.
-    fn sum(&self, found: &Bits) -> u128
-        requires { length (entries self.now) ≡ length found.now.bits }
-        ensures sum { result ≡ sum (values_at found.now.bits (entries self.now)) }
+    fn sum(&self, selection: &Bits) -> u128
+        requires { length (entries self.now) ≡ length selection.now.bits }
+        ensures sum { result ≡ sum (values_at selection.now.bits (entries self.now)) }
         ensures within { result < sum_end };
 
-    /// Returns the number of a rank, from 0, among those at the rows of a found set: the one at that place when they
-    /// stand in order. Slices and components copy the found set, a bit for each row.
-    fn ranked(&self, found: &Bits, rank: u64) -> Result<u64, NoMemory>
-        requires same { length (entries self.now) ≡ length found.now.bits }
-        requires there { rank < length (values_at found.now.bits (entries self.now)) }
-        ensures { IfOk result (IsRanked (values_at found.now.bits (entries self.now)) rank) };
+    /// Returns the number of a rank, from 0, among those at the rows of a selection: the one at that place when they
+    /// stand in order. Slices and components copy the selection, a bit for each row.
+    fn ranked(&self, selection: &Bits, rank: u64) -> Result<u64, NoMemory>
+        requires same { length (entries self.now) ≡ length selection.now.bits }
+        requires there { rank < length (values_at selection.now.bits (entries self.now)) }
+        ensures { IfOk result (IsRanked (values_at selection.now.bits (entries self.now)) rank) };
 
-    /// Returns how many rows of a found set have a number.
-    fn count_numbers(&self, found: &Bits) -> u64
-        requires { length (entries self.now) ≡ length found.now.bits }
-        ensures { result ≡ length (values_at found.now.bits (entries self.now)) }
+    /// Returns how many rows of a selection have a number.
+    fn count_numbers(&self, selection: &Bits) -> u64
+        requires { length (entries self.now) ≡ length selection.now.bits }
+        ensures { result ≡ length (values_at selection.now.bits (entries self.now)) }
     {
-        found.count_and(self.not_null())
+        selection.count_and(self.not_null())
     }
 
-    /// Returns the least number at the rows of a found set, or none if there is no number. The provided body takes
+    /// Returns the least number at the rows of a selection, or none if there is no number. The provided body takes
     /// memory as `ranked` does. That of slices, and of components that work on spans, takes no memory.
-    fn least(&self, found: &Bits) -> Result<Option<u64>, NoMemory>
-        requires { length (entries self.now) ≡ length found.now.bits }
-        ensures { IfOk result (IsLeastOf (values_at found.now.bits (entries self.now))) }
+    fn least(&self, selection: &Bits) -> Result<Option<u64>, NoMemory>
+        requires { length (entries self.now) ≡ length selection.now.bits }
+        ensures { IfOk result (IsLeastOf (values_at selection.now.bits (entries self.now))) }
     {
-        match self.count_numbers(found) {
+        match self.count_numbers(selection) {
             0 => Ok(None),
-            _ => Ok(Some(self.ranked(found, 0)?)),
+            _ => Ok(Some(self.ranked(selection, 0)?)),
         }
     }
 
-    /// Returns the greatest number at the rows of a found set, or none if there is no number. It takes memory as
+    /// Returns the greatest number at the rows of a selection, or none if there is no number. It takes memory as
     /// `least` does.
-    fn greatest(&self, found: &Bits) -> Result<Option<u64>, NoMemory>
-        requires { length (entries self.now) ≡ length found.now.bits }
-        ensures { IfOk result (IsGreatestOf (values_at found.now.bits (entries self.now))) }
+    fn greatest(&self, selection: &Bits) -> Result<Option<u64>, NoMemory>
+        requires { length (entries self.now) ≡ length selection.now.bits }
+        ensures { IfOk result (IsGreatestOf (values_at selection.now.bits (entries self.now))) }
     {
-        match self.count_numbers(found) {
+        match self.count_numbers(selection) {
             0 => Ok(None),
-            count => Ok(Some(self.ranked(found, count - 1)?)),
+            count => Ok(Some(self.ranked(selection, count - 1)?)),
         }
     }
 
-    /// Returns the lower median of the numbers at the rows of a found set, or none if there is no number. It takes
+    /// Returns the lower median of the numbers at the rows of a selection, or none if there is no number. It takes
     /// memory as `ranked` does.
-    fn median(&self, found: &Bits) -> Result<Option<u64>, NoMemory>
-        requires { length (entries self.now) ≡ length found.now.bits }
-        ensures { IfOk result (IsMedianOf (values_at found.now.bits (entries self.now))) }
+    fn median(&self, selection: &Bits) -> Result<Option<u64>, NoMemory>
+        requires { length (entries self.now) ≡ length selection.now.bits }
+        ensures { IfOk result (IsMedianOf (values_at selection.now.bits (entries self.now))) }
     {
-        match self.count_numbers(found) {
+        match self.count_numbers(selection) {
             0 => Ok(None),
-            count => Ok(Some(self.ranked(found, (count - 1) / 2)?)),
+            count => Ok(Some(self.ranked(selection, (count - 1) / 2)?)),
         }
     }
 

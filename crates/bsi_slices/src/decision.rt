@@ -1,11 +1,11 @@
-//! What a comparison with a constant asks of the numbers below a size.
+//! Decides which numbers below a size satisfy a comparison with a constant (`decide`): none, all, or those of a test.
 //!
 //! Each comes down to `=` or `<=`: `A < v` is `A <= v - 1`, and `A > v` and `A >= v` are complements. A constant that
 //! leaves nothing to ask is decided before any number is read.
 
 ghost use Rattle.std.specs.Prelude.{◌≡◌, ℕ, ◌<◌};
 ghost use Rattle.bsi_slices.specs.Decisions.{decides, IsBelowSize};
-ghost use Rattle.bsi_orders.specs.Rows.{compares};
+ghost use Rattle.bsi_digits.specs.Comparisons.{compares};
 ghost use Rattle.bsi_slices.specs.declared.decision.Decision.TheVariants.{Tested};
 
 use crate::Op;
@@ -19,15 +19,15 @@ pub enum Relation {
     AtMost,
 }
 
-/// A relation to a constant, and whether the numbers are wanted that are in it or those that are not.
+/// A relation to a constant, and the answer that is expected of it.
 #[derive(Clone, Copy, Debug, PartialEq, Eq)]
 pub struct Test {
     /// The relation.
     pub relation: Relation,
     /// The constant.
     pub constant: u64,
-    /// Whether the numbers in the relation are wanted.
-    pub wanted: bool,
+    /// Whether the numbers that pass are those in the relation, or all others.
+    pub expected: bool,
 }
 
 /// How a comparison with a constant is decided for the numbers below a size.
@@ -37,7 +37,7 @@ pub enum Decision {
     Nothing,
     /// Each of them does.
     Everything,
-    /// Those do that a test wants, whose constant is below the size.
+    /// Those do that pass a test, whose constant is below the size.
     Tested(Test),
 }
 
@@ -64,14 +64,14 @@ pub fn decide(op: Op, constant: u64, size: u64) -> Decision
     }
 }
 
-/// Returns the decision for the numbers in a relation to a constant or, if they are not wanted, for all other numbers.
-fn tested(relation: Relation, constant: u64, wanted: bool) -> Decision
+/// Returns the decision for the numbers in a relation to a constant or, unless `expected`, for all other numbers.
+fn tested(relation: Relation, constant: u64, expected: bool) -> Decision
     ensures { result ≡ Tested
-        (record { relation = relation; constant = constant; wanted = wanted }) }
+        (record { relation = relation; constant = constant; expected = expected }) }
 {
     Decision::Tested(Test {
         relation,
         constant,
-        wanted,
+        expected,
     })
 }

@@ -5,16 +5,15 @@
 mod column;
 mod decision;
 mod not_null;
+mod pair_relation;
 mod slices;
-mod standing;
 #[doc(hidden)]
 pub mod transposing;
 
-pub use bsi_orders::Op;
-pub use bsi_words::End;
+pub use bsi_digits::{Extreme, Op};
 pub use column::Column;
 pub use decision::{Decision, Relation, Test, decide};
 pub use not_null::NotNull;
-pub use slices::{Relating, Slices};
-pub use standing::Standing;
+pub use pair_relation::PairRelation;
+pub use slices::{ColumnComparison, Slices};
 pub use std::alloc::AllocError as NoMemory;

@@ -8,7 +8,7 @@ ghost use Rattle.bsi_bits.specs.Packed.{bit_of, bits_of};
 
 use crate::NoMemory;
 use bsi_bits::Bits;
-use bsi_words::spans;
+use bsi_kernels::spans;
 use std::alloc::Global;
 use std::marker::Model;
 
@@ -23,13 +23,13 @@ pub struct NotNull {
 // Clauses see the bits and for how many more there is room.
 impl Model for NotNull {
     ghost use Rattle.bsi_bits.specs.BitList.{BitList};
-    ghost use Rattle.bsi_slices.specs.NotNull.{TellsNulls};
+    ghost use Rattle.bsi_slices.specs.NotNull.{IsNullFlag};
 
     ghost Value = { BitList };
 
     ghost view = { λ n. n.bits };
 
-    ghost invariant = { λ n. TellsNulls n.has_null n.bits.bits };
+    ghost invariant = { λ n. IsNullFlag n.has_null n.bits.bits };
 }
 
 impl NotNull {
@@ -88,7 +88,7 @@ impl NotNull {
         requires { length self.old.bits + more ≤ max_len }
         ensures bits { self.new.bits ≡ self.old.bits }
         ensures ok { OnOk result (more ≤ self.new.room) }
-        ensures kept { self.old.room ≤ self.new.room }
+        ensures no_less { self.old.room ≤ self.new.room }
         ensures err { OnErr result (self.new ≡ self.old) }
         ensures succeeds { more ≤ self.old.room → IsOk result }
     {
@@ -153,7 +153,7 @@ impl NotNull {
 
     /// Keeps in a span of words the rows that have a number. The first word stands for the 64 rows from row `64 * at`
     /// on. It clears bits past the last row. If no row is null, it reads one word alone, that of the last bits.
-    pub fn keep_in(&self, at: usize, span: &mut [u64])
+    pub fn and_assign(&self, at: usize, span: &mut [u64])
         requires { at + length span.old ≤ word_count (length self.now.bits) }
         ensures len { length span.new ≡ length span.old }
         ensures bits { (p : ℕ) → p < 64 * length span.old →
@@ -161,7 +161,7 @@ impl NotNull {
             && slice_index_or self.now.bits (64 * at + p) false) }
     {
         if self.has_null {
-            spans::keep_in(&self.bits, at, span);
+            spans::and_assign(&self.bits, at, span);
         } else if !span.is_empty() {
             let words = self.bits.words();
             let last = span.len() - 1;

@@ -2,38 +2,37 @@
 
 ghost use Rattle.std.specs.Prelude.{◌≡◌, ℕ, ◌++◌, ◌∷◌, [], All, ◌<◌, ◌≤◌, ◌^◌, ◌+◌, ◌*◌, ◌==◌, length, map, min, is_some, IfNone, IfOk, IfSome, IsOk, OnOk, OnErr};
 ghost use Rattle.std.specs.Int.{bit_at};
-ghost use Rattle.bsi_words.specs.Nulls.{HasBitOfNull};
-ghost use Rattle.bsi_words.specs.Places.{max_places};
+ghost use Rattle.bsi_kernels.specs.Nulls.{HasBitOfNull};
+ghost use Rattle.bsi_kernels.specs.Places.{max_places};
 ghost use Rattle.bsi_bits.specs.BitList.{max_block, max_len, word_count};
 ghost use Rattle.bsi_bits.specs.BitLists.{bits_at};
-ghost use Rattle.bsi_slices.specs.Spans.{KeepsRows};
-ghost use Rattle.bsi_orders.specs.Blocks.{block_entries, IsNumberBlock};
-ghost use Rattle.bsi_orders.specs.Orders.{values_at};
-ghost use Rattle.bsi_orders.specs.Rows.{number_or_zero, selects};
+ghost use Rattle.bsi_slices.specs.Spans.{AndsRows};
+ghost use Rattle.bsi_digits.specs.Blocks.{block_entries, IsNumberBlock};
+ghost use Rattle.bsi_digits.specs.Orders.{values_at};
+ghost use Rattle.bsi_digits.specs.Comparisons.{number_or_zero, selects};
 ghost use Rattle.bsi_digits.specs.Digits.{max_size};
 ghost use Rattle.bsi_slices.specs.Blocks.{AreNumbersFrom};
-ghost use Rattle.bsi_slices.specs.Related.{KeepsRelatedRows};
+ghost use Rattle.bsi_slices.specs.Related.{AndsComparedRows};
 ghost use Rattle.bsi_slices.specs.Slices.{entries_in, IsSliced};
-ghost use Rattle.bsi_orders.specs.Totals.{IsLeastOf, IsGreatestOf};
+ghost use Rattle.bsi_digits.specs.Totals.{IsLeastOf, IsGreatestOf};
 
 use crate::column::Column;
 use crate::not_null::NotNull;
 use crate::transposing::{numbers_by_places, transpose};
-use crate::{NoMemory, Op};
+use crate::{Extreme, NoMemory, Op};
 use bsi_bits::{Bitmaps, Bits, MAX_BLOCK, MAX_LEN};
-use bsi_words::End;
-use bsi_words::nulls::are_clear_at_nulls;
-use compare::{keep_selected, select};
-use related::keep_related;
+use bsi_kernels::nulls::are_clear_at_nulls;
+use compare::{and_compare, select};
+use related::and_compare_columns;
 use std::alloc::Global;
 use std::marker::Model;
 
 mod compare;
-mod ends;
+mod extremes;
 mod related;
 mod totals;
 
-pub use related::Relating;
+pub use related::ColumnComparison;
 
 /// The most slices of a column.
 const MAX_SLICES: u32 = 63;
@@ -126,30 +125,36 @@ impl Slices {
         numbers_by_places(self.slices.as_slice(), at, numbers);
     }
 
-    /// Keeps in a span of words the rows whose number here compares, as `relating` says, with that of another column of as
-    /// many rows. The first word stands for the 64 rows from row `64 * at` on. A row that is null in one of the two is not kept, nor a bit past the last
-    /// row. It takes no memory.
-    pub fn keep_related(&self, relating: Relating, other: &Slices, at: usize, span: &mut [u64])
-        requires more { (relating.more < max_size) × (relating.others_more < max_size) }
+    /// Keeps in a span of words the rows whose number here compares, as `comparison` says, with that of another column
+    /// of as many rows. The first word stands for the 64 rows from row `64 * at` on. A row that is null in one of the
+    /// two is not kept, nor a bit past the last row. It takes no memory.
+    pub fn and_compare_columns(
+        &self,
+        comparison: ColumnComparison,
+        other: &Slices,
+        at: usize,
+        span: &mut [u64],
+    )
+        requires more { (comparison.left_addend < max_size) × (comparison.right_addend < max_size) }
         requires within { at + length span.old ≤ word_count (length self.now.entries) }
         requires same { length other.now.entries ≡ length self.now.entries }
-        ensures { KeepsRelatedRows relating self.now.entries other.now.entries at span.old
+        ensures { AndsComparedRows comparison self.now.entries other.now.entries at span.old
             span.new }
     {
-        self.not_null.keep_in(at, span);
-        other.not_null.keep_in(at, span);
+        self.not_null.and_assign(at, span);
+        other.not_null.and_assign(at, span);
         let (slices, others) = (self.slices.as_slice(), other.slices.as_slice());
-        keep_related(slices, relating, others, at, span);
+        and_compare_columns(slices, comparison, others, at, span);
     }
 
     /// Keeps in a span of words the rows whose number satisfies the comparison `op` with `constant`, which may be past
     /// the size. The first word stands for the 64 rows from row `64 * at` on. A null row is not kept, nor a bit past
     /// the last row. It takes no memory.
-    pub fn keep_selected(&self, op: Op, constant: u64, at: usize, span: &mut [u64])
+    pub fn and_compare(&self, op: Op, constant: u64, at: usize, span: &mut [u64])
         requires { at + length span.old ≤ word_count (length self.now.entries) }
-        ensures { KeepsRows (selects op constant) self.now.entries at span.old span.new }
+        ensures { AndsRows (selects op constant) self.now.entries at span.old span.new }
     {
-        keep_selected(
+        and_compare(
             self.slices.as_slice(),
             &self.not_null,
             op,
@@ -216,30 +221,30 @@ impl Column for Slices {
         )
     }
 
-    fn sum(&self, found: &Bits) -> u128 {
-        self.sum_found(found)
+    fn sum(&self, selection: &Bits) -> u128 {
+        self.sum_selected(selection)
     }
 
-    fn ranked(&self, found: &Bits, rank: u64) -> Result<u64, NoMemory> {
-        self.number_of_rank(found, rank)
-    }
-
-    // It passes once over the slices, and takes no memory.
-    fn least(&self, found: &Bits) -> Result<Option<u64>, NoMemory>
-        requires { length self.now.entries ≡ length found.now.bits }
-        ensures least { IfOk result (IsLeastOf (values_at found.now.bits self.now.entries)) }
-        ensures succeeds { IsOk result }
-    {
-        Ok(self.end_found(found, End::Least))
+    fn ranked(&self, selection: &Bits, rank: u64) -> Result<u64, NoMemory> {
+        self.number_of_rank(selection, rank)
     }
 
     // It passes once over the slices, and takes no memory.
-    fn greatest(&self, found: &Bits) -> Result<Option<u64>, NoMemory>
-        requires { length self.now.entries ≡ length found.now.bits }
-        ensures greatest { IfOk result (IsGreatestOf (values_at found.now.bits self.now.entries)) }
+    fn least(&self, selection: &Bits) -> Result<Option<u64>, NoMemory>
+        requires { length self.now.entries ≡ length selection.now.bits }
+        ensures least { IfOk result (IsLeastOf (values_at selection.now.bits self.now.entries)) }
         ensures succeeds { IsOk result }
     {
-        Ok(self.end_found(found, End::Greatest))
+        Ok(self.find_extreme(selection, Extreme::Least))
+    }
+
+    // It passes once over the slices, and takes no memory.
+    fn greatest(&self, selection: &Bits) -> Result<Option<u64>, NoMemory>
+        requires { length self.now.entries ≡ length selection.now.bits }
+        ensures greatest { IfOk result (IsGreatestOf (values_at selection.now.bits self.now.entries)) }
+        ensures succeeds { IsOk result }
+    {
+        Ok(self.find_extreme(selection, Extreme::Greatest))
     }
 
     fn not_null(&self) -> &Bits {
@@ -267,7 +272,7 @@ fn reserve_rows(slices: &mut Bitmaps, not_null: &mut NotNull, more: u64) -> Resu
     ensures entries { entries_in not_null.new.bits slices.new.vectors
         ≡ entries_in not_null.old.bits slices.old.vectors }
     ensures ok { OnOk result (more ≤ min slices.new.room not_null.new.room) }
-    ensures kept { min slices.old.room not_null.old.room ≤ min slices.new.room not_null.new.room }
+    ensures no_less { min slices.old.room not_null.old.room ≤ min slices.new.room not_null.new.room }
     ensures err { OnErr result (min slices.new.room not_null.new.room
         ≡ min slices.old.room not_null.old.room) }
     ensures refused { OnErr result (min slices.new.room not_null.new.room < more) }

@@ -5,7 +5,7 @@ ghost use Rattle.std.specs.Int.{bit_at};
 ghost use Rattle.bsi_bits.specs.BitList.{max_block, word_count};
 ghost use Rattle.bsi_bits.specs.BitLists.{bits_at};
 ghost use Rattle.bsi_bits.specs.Packed.{end_of_u64};
-ghost use Rattle.bsi_words.specs.Places.{max_places};
+ghost use Rattle.bsi_kernels.specs.Places.{max_places};
 ghost use Rattle.bsi_slices.specs.Exchanges.{across, IsLow};
 ghost use Rattle.bsi_slices.specs.Slices.{number};
 
@@ -56,7 +56,7 @@ fn exchange_run(words: &mut [u64; MAX_BLOCK], from: usize, s: usize, low: u64)
         bit_at (slice_index words.new (from + s + q)) r
         ≡ bit_at (slice_index words.old (from + q + s * (r / s % 2))) (r - s * (r / s % 2) + s) }
     ensures before { (k : ℕ) → k < from → slice_index words.new k ≡ slice_index words.old k }
-    ensures behind { (k : ℕ) → from + 2 * s ≤ k →
+    ensures after { (k : ℕ) → from + 2 * s ≤ k →
         slice_index words.new k ≡ slice_index words.old k }
 {
     'rows: for k in from..from + s {

@@ -1,1 +1,3 @@
+mod Failing
 mod Named
+mod Notes

@@ -1,17 +1,18 @@
 -- The path that a fault of a file names.
-use Rattle.std.proofs.Common.{◌≡◌, ℕ, List, Option, inl, inr, refl, subst, sym}
+use Rattle.std.proofs.Common.{◌≡◌, ℕ, List, inl, inr, refl, subst, sym}
 use Rattle.std.specs.Borrow.{Bor}
-use Rattle.bsi_saved.specs.declared.fault.OpenFault.{OpenFault}
-use Rattle.bsi_saved.specs.declared.fault.OpenFault.TheVariants as opening
-use Rattle.bsi_store.specs.Faults.{cut_off, unopened, IsFileFault, IsOfFile, Names}
+use Rattle.bsi_storage.specs.declared.fault.OpenFault.{OpenFault}
+use Rattle.bsi_storage.specs.declared.fault.OpenFault.TheVariants as opening
+use Rattle.bsi_store.specs.Faults.{cut_off, unopened, IsFileFault, IsOfFile, NamesPath}
 use Rattle.bsi_store.specs.declared.fault.StoreFault.{StoreFault}
 use Rattle.bsi_store.specs.declared.fault.StoreFault.TheVariants.{CannotOpen, CannotWrite, Unusable, Run}
+use Rattle.bsi_syntax.specs.Bytes.{KnownBytes}
 
 abbrev pub Named : Bor (List ℕ) → StoreFault → Type 0
-Named path fault = Names (λ named. named ≡ path) fault
+Named path fault = NamesPath (λ named. named ≡ path) fault
 
 cut_named : (path : Bor (List ℕ)) (fault : OpenFault) (rows : ℕ) → Named path (cut_off path fault rows)
-cut_named path opening.NotKept rows = refl
+cut_named path opening.NotAnIndex rows = refl
 cut_named path opening.OtherVersion rows = refl
 cut_named path opening.CutShort rows = refl
 cut_named path opening.Damaged rows = refl
@@ -19,19 +20,19 @@ cut_named path opening.Read rows = refl
 cut_named path opening.NoMemory rows = tt
 
 un_named : (path : Bor (List ℕ)) (fault : OpenFault) → Named path (unopened path fault)
-un_named path opening.NotKept = refl
+un_named path opening.NotAnIndex = refl
 un_named path opening.OtherVersion = refl
 un_named path opening.CutShort = refl
 un_named path opening.Damaged = refl
 un_named path opening.Read = refl
 un_named path opening.NoMemory = tt
 
-pub file_named : (path : Bor (List ℕ)) (bytes : Option (List ℕ)) (told : StoreFault) → IsFileFault path bytes told → Named path told
-file_named path bytes told (inl (fault, after, is, told_is)) = subst (Named path) (sym told_is) (un_named path fault)
-file_named path bytes told (inr (fault, after, t, notes, size, is, told_is)) = subst (Named path) (sym told_is) (cut_named path fault _)
+pub file_named : (path : Bor (List ℕ)) (bytes : KnownBytes) (reported : StoreFault) → IsFileFault path bytes reported → Named path reported
+file_named path bytes reported (inl (fault, after, is, reported_is)) = subst (Named path) (sym reported_is) (un_named path fault)
+file_named path bytes reported (inr (fault, after, t, notes, size, is, reported_is)) = subst (Named path) (sym reported_is) (cut_named path fault _)
 
 -- and is that of the file
-pub file_is : {S : Type 0} (rem : S → Option (List ℕ)) (path : Bor (List ℕ)) (file : S) (told : StoreFault) → IsFileFault path (rem file) told → IsOfFile rem told
+pub file_is : {S : Type 0} (rem : S → KnownBytes) (path : Bor (List ℕ)) (file : S) (reported : StoreFault) → IsFileFault path (rem file) reported → IsOfFile rem reported
 file_is rem path file (CannotOpen named) is = tt
 file_is rem path file (CannotWrite named) is = tt
 file_is rem path file (Unusable named why) is =

@@ -1,26 +1,26 @@
-//! Why a command over a kept index ends early.
+//! Why a command over a saved index ends early.
 
 ghost use Rattle.std.specs.Prelude.{◌≡◌, ◌+◌, ◌≤◌, ◌++◌, [], decimal, length};
 ghost use Rattle.bsi_store.specs.Faults.{cut_off, file_fault_text, unopened, unsaved};
 
 use arrayvec::ArrayString;
-use bsi_asks::FilesFault;
-use bsi_reading::{SchemaFault, WriteFault};
-use bsi_saved::{OpenFault, SaveFault};
+use bsi_answers::FilesFault;
+use bsi_input::{SchemaFault, WriteFault};
+use bsi_storage::{OpenFault, SaveFault};
 use itoa::Buffer;
 use std::alloc::AllocError;
 
-/// The most bytes of what is told of a file: those of `cut short after `, of a number of 20 digits and of ` rows`.
+/// The most bytes of the text about a file: those of `cut short after `, of a number of 20 digits and of ` rows`.
 pub const MAX_FILE_TEXT: usize = 41;
 
-/// What is told of a file.
+/// The text about a file.
 pub type FileText = ArrayString<MAX_FILE_TEXT>;
 
-/// What is wrong with a file that is to keep an index.
+/// What is wrong with a file that is to be an index.
 #[derive(Clone, Copy, Debug, PartialEq, Eq)]
 pub enum FileFault {
-    /// Its bytes are not those of a kept index.
-    NotKept,
+    /// Its bytes are not those of a saved index.
+    NotAnIndex,
     /// It is of another version of the format.
     OtherVersion,
     /// It ends within a segment, behind so many whole rows.
@@ -35,7 +35,7 @@ pub enum FileFault {
     TooManyFiles(u32),
 }
 
-/// Why a command over a kept index ends early. Each path is as it was written.
+/// Why a command over a saved index ends early. Each path is as it was written.
 #[derive(Clone, Copy, Debug)]
 pub enum StoreFault<'a> {
     /// The file of this path can't be opened.
@@ -59,7 +59,7 @@ impl From<FilesFault> for StoreFault<'_> {
 }
 
 impl From<AllocError> for StoreFault<'_> {
-    ghost use Rattle.bsi_asks.specs.declared.faults.FilesFault.TheVariants.{NoMemory};
+    ghost use Rattle.bsi_answers.specs.declared.faults.FilesFault.TheVariants.{NoMemory};
     ghost use Rattle.bsi_store.specs.declared.fault.StoreFault.TheVariants.{Run};
 
     ghost from_gives = { λ _ e. e ≡ Run NoMemory };
@@ -70,7 +70,7 @@ impl From<AllocError> for StoreFault<'_> {
 }
 
 impl From<WriteFault> for StoreFault<'_> {
-    ghost use Rattle.bsi_asks.specs.declared.faults.FilesFault.TheVariants.{Write};
+    ghost use Rattle.bsi_answers.specs.declared.faults.FilesFault.TheVariants.{Write};
     ghost use Rattle.bsi_store.specs.declared.fault.StoreFault.TheVariants.{Run};
 
     ghost from_gives = { λ _ e. e ≡ Run Write };
@@ -81,7 +81,7 @@ impl From<WriteFault> for StoreFault<'_> {
 }
 
 impl From<SchemaFault> for StoreFault<'_> {
-    ghost use Rattle.bsi_asks.specs.Faults.{schema_fault};
+    ghost use Rattle.bsi_answers.specs.Faults.{schema_fault};
     ghost use Rattle.bsi_store.specs.declared.fault.StoreFault.TheVariants.{Run};
 
     ghost from_gives = { λ fault e. e ≡ Run (schema_fault fault) };
@@ -107,7 +107,7 @@ impl<'a> StoreFault<'a> {
         ensures { result ≡ unopened path.entry fault }
     {
         match fault {
-            OpenFault::NotKept => StoreFault::Unusable(path, FileFault::NotKept),
+            OpenFault::NotAnIndex => StoreFault::Unusable(path, FileFault::NotAnIndex),
             fault => StoreFault::cut_off(path, fault, 0),
         }
     }
@@ -117,7 +117,7 @@ impl<'a> StoreFault<'a> {
         ensures { result ≡ cut_off path.entry fault rows }
     {
         match fault {
-            OpenFault::NotKept | OpenFault::Damaged => {
+            OpenFault::NotAnIndex | OpenFault::Damaged => {
                 StoreFault::Unusable(path, FileFault::Damaged(rows))
             }
             OpenFault::OtherVersion => StoreFault::Unusable(path, FileFault::OtherVersion),
@@ -129,13 +129,13 @@ impl<'a> StoreFault<'a> {
 }
 
 impl FileFault {
-    /// Returns what is told of the file.
+    /// Returns the text about the file.
     pub fn text(&self) -> FileText
         ensures { result.bytes ≡ file_fault_text self.now }
     {
         let mut text = FileText::new();
         match self {
-            FileFault::NotKept => text.push_str("not a kept index"),
+            FileFault::NotAnIndex => text.push_str("not a kept index"),
             FileFault::OtherVersion => text.push_str("of another version"),
             FileFault::CutShort(rows) => push_counted(
                 &mut text,
@@ -157,7 +157,7 @@ impl FileFault {
 /// Puts a number between two texts.
 fn push_counted(text: &mut FileText, before: &str, number: u64, after: &str)
     requires empty { text.old.bytes ≡ [] }
-    requires room { length before.now + length after.now ≤ 21 }
+    requires fits { length before.now + length after.now ≤ 21 }
     ensures { text.new.bytes ≡ before.now ++ decimal number ++ after.now }
 {
     text.push_str(before);

@@ -1,16 +1,24 @@
-//! Indexes that are kept in files, by their paths: opened, asked and shown.
+//! Indexes that are saved in files, by their paths: made of row files, added to, opened, asked and shown.
 #![tactic(auto)]
 
-mod asking;
+mod add;
+mod add_file;
+mod ask;
 mod fault;
-mod locks;
+mod lines;
+mod lock;
+mod new_file;
 mod opening;
-mod showing;
-mod telling;
+mod save;
+mod show;
+mod summary;
+mod target;
 
-pub use asking::{AskPaths, ask_input, ask_over};
+pub use add::{AddPaths, add_rows};
+pub use ask::{AskPaths, ask_input, ask_over};
 pub use fault::{FileFault, FileText, MAX_FILE_TEXT, StoreFault};
-pub use locks::LockFile;
-pub use opening::{open_one, read_kept};
-pub use showing::show_index;
-pub use telling::tell_count;
+pub use lines::push_count_line;
+pub use lock::LockFile;
+pub use opening::{open_file, read_saved};
+pub use save::{SavePaths, save_rows};
+pub use show::show_index;

@@ -1,3 +1,6 @@
 pub mod Beginning
+pub mod Fronts
 pub mod Mapped
-pub mod Takings
+pub mod Messages
+pub mod Openings
+pub mod Progress

@@ -1,3 +1,4 @@
-pub mod Channels
 pub mod Opening
+pub mod Readers
+pub mod Rings
 pub mod Running

@@ -8,20 +8,20 @@ use Rattle.std.proofs.lemmas.List.{length-map}
 use Rattle.std.proofs.lemmas.List.Elements.{All-head, All-map, All-tail, All-weaker}
 use Rattle.bsi_bits.specs.BitList.{BitList}
 use Rattle.bsi_bits.specs.BitLists.{bits_at}
-use Rattle.bsi_columns.specs.AnyRows.{any_entries, AnyForm}
-use Rattle.bsi_columns.specs.Places.{bits_each, column_bitmaps, form_places, AreOfNone}
+use Rattle.bsi_columns.specs.AnyColumns.{any_entries, AnyForm}
+use Rattle.bsi_columns.specs.Places.{bits_each, column_bitmaps, form_places, HaveNoEntriesBelow}
 use Rattle.bsi_columns.proofs.FromBitmaps.{read_bits}
 use Rattle.bsi_digits.proofs.CallerLemmas.{size_pos}
-use Rattle.bsi_orders.specs.Offsets.{number_of}
-use Rattle.bsi_orders.specs.Rows.{number_or_zero}
-use Rattle.bsi_schema.specs.Columns.{is_taken_by, size_in, Entries, IsForm, NamedColumn}
+use Rattle.bsi_digits.specs.Offsets.{number_of}
+use Rattle.bsi_digits.specs.Comparisons.{number_or_zero}
+use Rattle.bsi_schema.specs.Columns.{is_accepted_by, size_in, Entries, IsForm, NamedColumn}
 use Rattle.bsi_schema.specs.declared.form.Form.{Form}
 use Rattle.bsi_schema.specs.declared.form.Form.TheVariants.{Slices, Equality, Range}
 use Rattle.bsi_schema.proofs.Fitting.{within}
 use Rattle.bsi_shift.specs.Shifted.{shifted_entries, OffsetColumn}
 use Rattle.bsi_shift.proofs.Shifting.{shifted_entries-is}
 use Rattle.bsi_table.specs.Bitmaps.{stored_entry, HaveNoEntries}
-use Rattle.bsi_table.specs.Kept.{kept_form}
+use Rattle.bsi_table.specs.Encoded.{encoded_form}
 
 -- a number less the offset, and with it again
 less_offset : (offset : ℤ) (n : ℕ) → unsigned_abs ((offset +ℤ pos n) -ℤ offset) ≡ n
@@ -45,33 +45,33 @@ stored_of_shifted c offset is =
 
 -- entries that a column takes
 module _ (column : NamedColumn) where
-  abbrev pub Taken : Option ℤ → Type 0
-  Taken entry = IsTrue (is_taken_by column entry)
+  abbrev pub Accepted : Option ℤ → Type 0
+  Accepted entry = IsTrue (is_accepted_by column entry)
 
   -- are stored below its size
-  pub stored_below : 0 < size_in column.form → (entries : Entries) → All Taken entries → All (λ e. number_or_zero e < size_in column.form) (map (stored_entry column.offset) entries)
-  stored_below some entries taken = All-map (λ e. number_or_zero e < size_in column.form) (stored_entry column.offset) entries (All-weaker Taken (λ entry. number_or_zero (stored_entry column.offset entry) < size_in column.form) each entries taken)
+  pub stored_below : 0 < size_in column.form → (entries : Entries) → All Accepted entries → All (λ e. number_or_zero e < size_in column.form) (map (stored_entry column.offset) entries)
+  stored_below some entries accepted = All-map (λ e. number_or_zero e < size_in column.form) (stored_entry column.offset) entries (All-weaker Accepted (λ entry. number_or_zero (stored_entry column.offset entry) < size_in column.form) each entries accepted)
     where
-      each : (entry : Option ℤ) → Taken entry → number_or_zero (stored_entry column.offset entry) < size_in column.form
-      each None taken = some
-      each (Some x) taken =
-          let range = within column.offset x (column.offset +ℤ pos (size_in column.form)) taken in
+      each : (entry : Option ℤ) → Accepted entry → number_or_zero (stored_entry column.offset entry) < size_in column.form
+      each None accepted = some
+      each (Some x) accepted =
+          let range = within column.offset x (column.offset +ℤ pos (size_in column.form)) accepted in
           below_size column.offset x (size_in column.form) range.0 range.1
 
   -- and are what is stored with the offset again
-  entry_back : (entry : Option ℤ) → Taken entry → option_map (number_of column.offset) (stored_entry column.offset entry) ≡ entry
-  entry_back None taken = refl
-  entry_back (Some x) taken =
-      let range = within column.offset x (column.offset +ℤ pos (size_in column.form)) taken in
+  entry_back : (entry : Option ℤ) → Accepted entry → option_map (number_of column.offset) (stored_entry column.offset entry) ≡ entry
+  entry_back None accepted = refl
+  entry_back (Some x) accepted =
+      let range = within column.offset x (column.offset +ℤ pos (size_in column.form)) accepted in
       ap Some (with_offset column.offset x range.0)
 
-  pub entries_back : (entries : Entries) → All Taken entries → map (option_map (number_of column.offset)) (map (stored_entry column.offset) entries) ≡ entries
-  entries_back [] taken = refl
-  entries_back (entry ∷ entries) taken = ap₂ ◌∷◌ (entry_back entry (All-head Taken entry entries taken)) (entries_back entries (All-tail Taken entry entries taken))
+  pub entries_back : (entries : Entries) → All Accepted entries → map (option_map (number_of column.offset)) (map (stored_entry column.offset) entries) ≡ entries
+  entries_back [] accepted = refl
+  entries_back (entry ∷ entries) accepted = ap₂ ◌∷◌ (entry_back entry (All-head Accepted entry entries accepted)) (entries_back entries (All-tail Accepted entry entries accepted))
 
   -- where no stored entries have the bitmaps, no entries have
-  pub none_taken : 0 < size_in column.form → (bitmaps : List (List Bool)) → AreOfNone (form_places (kept_form column.form)) (size_in column.form) bitmaps → HaveNoEntries column bitmaps
-  none_taken some bitmaps none = λ entries taken same. none (map (stored_entry column.offset) entries) (stored_below some entries taken) same
+  pub none_accepted : 0 < size_in column.form → (bitmaps : List (List Bool)) → HaveNoEntriesBelow (form_places (encoded_form column.form)) (size_in column.form) bitmaps → HaveNoEntries column bitmaps
+  none_accepted some bitmaps none = λ entries accepted same. none (map (stored_entry column.offset) entries) (stored_below some entries accepted) same
 
 -- a form tells numbers apart
 pub size_some : (form : Form) → IsForm form → 0 < size_in form

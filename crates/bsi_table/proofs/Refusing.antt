@@ -10,11 +10,11 @@ pub not_refused : (schema : Declared) (limit : ℕ) → 0 < length schema.column
 not_refused schema limit some least most = grind (arith, nat_tests)
 
 pub some_columns : (schema : Declared) (limit : ℕ) → index_refusal schema limit ≡ None → 0 < length schema.columns
-some_columns schema limit taken = by (nat_eq (length schema.columns) 0) refl
+some_columns schema limit accepted = by (nat_eq (length schema.columns) 0) refl
   where
     by : (b : Bool) → nat_eq (length schema.columns) 0 ≡ b → 0 < length schema.columns
-    by true zero = absurd (let same = taken in cc (same, zero))
+    by true zero = absurd (let same = accepted in cc (same, zero))
     by false some = grind (arith, nat_tests, some)
 
 pub limit_within : (schema : Declared) (limit : ℕ) → index_refusal schema limit ≡ None → (1 ≤ limit) × (limit ≤ max_rows)
-limit_within schema limit taken = (grind (arith, nat_tests, taken), grind (arith, nat_tests, taken))
+limit_within schema limit accepted = (grind (arith, nat_tests, accepted), grind (arith, nat_tests, accepted))

@@ -11,82 +11,82 @@ use Rattle.bsi_bits.specs.BitList.{differ}
 use Rattle.bsi_bits.specs.Packed.{bit_of, bits_of}
 use Rattle.bsi_bits.proofs.Logic.{xor_bitwise}
 use Rattle.bsi_bits.proofs.Reading.{length-bits_of, get_or-bits_of}
-use Rattle.bsi_columns.proofs.SpanParts.{bit_before, bit_behind, bit_inside}
+use Rattle.bsi_columns.proofs.SpanChunks.{bit_before, bit_after, bit_inside}
 use Rattle.bsi_columns.proofs.WordSpans.{bit_of-chunk, or_bit, zipped_bit}
 use Rattle.bsi_shift.specs.Shifted.{shifted_entries, OffsetColumn}
 use Rattle.bsi_rows.specs.declared.query.Pred.{Pred}
 use Rattle.bsi_rows.specs.Rows.{entry_at, holds}
-use Rattle.bsi_table.specs.Kept.{row_in, rows_in}
-use Rattle.bsi_table.proofs.TableRows.{entry-row_in, kept_read}
+use Rattle.bsi_table.specs.Encoded.{row_in, rows_in}
+use Rattle.bsi_table.proofs.TableRows.{entry-row_in, encoded_read}
 use Rattle.bsi_rows.proofs.BlockRows.{map_twice}
 
 -- the words that were saved last, and those before them
-module _ (s saved spare : List ℕ) (n : ℕ) (is : spare ≡ s ++ saved) (long : n ≡ length saved) where
-  start : length spare - n ≡ length s
+module _ (s saved stack : List ℕ) (n : ℕ) (is : stack ≡ s ++ saved) (long : n ≡ length saved) where
+  start : length stack - n ≡ length s
   start = omega (arith, ap length is, length-append s saved)
 
-  pub saved_last : drop (length spare - n) spare ≡ saved
+  pub saved_last : drop (length stack - n) stack ≡ saved
   saved_last = ap₂ drop start is ∙ drop-append_seam s saved
 
-  pub saved_before : take (length spare - n) spare ≡ s
+  pub saved_before : take (length stack - n) stack ≡ s
   saved_before = ap₂ take start is ∙ take-append_seam s saved
 
 -- the entry of a row, by the column that was read
-module _ (kept : List OffsetColumn) (c : ℕ) (column : OffsetColumn) (within : c < length kept) (is : column ≡ get_or kept c column) where
-  pub entry_read : (r : ℕ) → get_or (shifted_entries column) r None ≡ entry_at (row_in kept r) c
-  entry_read r = ap (λ k. get_or (shifted_entries k) r None) (sym (kept_read kept c column within is)) ∙ sym (entry-row_in kept c r within)
+module _ (encoded : List OffsetColumn) (c : ℕ) (column : OffsetColumn) (within : c < length encoded) (is : column ≡ get_or encoded c column) where
+  pub entry_read : (r : ℕ) → get_or (shifted_entries column) r None ≡ entry_at (row_in encoded r) c
+  entry_read r = ap (λ k. get_or (shifted_entries k) r None) (sym (encoded_read encoded c column within is)) ∙ sym (entry-row_in encoded c r within)
 
 -- one of two tests holds of a row, where both were asked of it
-either_kept : (was first second : Bool) → ((was && second) || (was && first)) ≡ (was && (first || second))
-either_kept true true true = refl
-either_kept true true false = refl
-either_kept true false true = refl
-either_kept true false false = refl
-either_kept false first second = refl
+either_narrowed : (was first second : Bool) → ((was && second) || (was && first)) ≡ (was && (first || second))
+either_narrowed true true true = refl
+either_narrowed true true false = refl
+either_narrowed true false true = refl
+either_narrowed true false false = refl
+either_narrowed false first second = refl
 
 -- the rows of which a test does not hold are those that it left out
-left_out : (was test : Bool) → differ (was && test) was ≡ (was && not test)
-left_out true true = refl
-left_out true false = refl
-left_out false test = refl
+room_left_out : (was test : Bool) → differ (was && test) was ≡ (was && not test)
+room_left_out true true = refl
+room_left_out true false = refl
+room_left_out false test = refl
 
 pub joined_bit : (old first second : List ℕ) (p : ℕ) (a b : Bool) → length second ≡ length first → p < 64 * length second
     → bit_of first p ≡ (bit_of old p && a) → bit_of second p ≡ (bit_of old p && b) → bit_of (zip2 bit_or second first) p ≡ (bit_of old p && (a || b))
 joined_bit old first second p a b same below one other =
-    or_bit second first same p below ∙ ap₂ ◌||◌ other one ∙ either_kept (bit_of old p) a b
+    or_bit second first same p below ∙ ap₂ ◌||◌ other one ∙ either_narrowed (bit_of old p) a b
 
-pub turned_bit : (old kept : List ℕ) (p : ℕ) (a : Bool) → length kept ≡ length old → p < 64 * length kept
-    → bit_of kept p ≡ (bit_of old p && a) → bit_of (zip2 bit_xor kept old) p ≡ (bit_of old p && not a)
-turned_bit old kept p a same below is =
-    zipped_bit (λ _. Unit {0}) bit_xor differ xor_bitwise kept old same (λ k. tt) p below
-    ∙ ap (λ x. differ x (bit_of old p)) is ∙ left_out (bit_of old p) a
+pub turned_bit : (old encoded : List ℕ) (p : ℕ) (a : Bool) → length encoded ≡ length old → p < 64 * length encoded
+    → bit_of encoded p ≡ (bit_of old p && a) → bit_of (zip2 bit_xor encoded old) p ≡ (bit_of old p && not a)
+turned_bit old encoded p a same below is =
+    zipped_bit (λ _. Unit {0}) bit_xor differ xor_bitwise encoded old same (λ k. tt) p below
+    ∙ ap (λ x. differ x (bit_of old p)) is ∙ room_left_out (bit_of old p) a
 
 -- words that have a bit for each row of which the predicate holds
-pub selected_rows : (kept : List OffsetColumn) (count : ℕ) (pred : Pred) (words : List ℕ)
-    → ((r : ℕ) → r < count → bit_of words r ≡ holds pred (row_in kept r)) → bits_of count words ≡ map (holds pred) (rows_in kept count)
+pub selected_rows : (encoded : List OffsetColumn) (count : ℕ) (pred : Pred) (words : List ℕ)
+    → ((r : ℕ) → r < count → bit_of words r ≡ holds pred (row_in encoded r)) → bits_of count words ≡ map (holds pred) (rows_in encoded count)
 unfolding rows_in
-selected_rows kept count pred words each =
-    fill_by_all (λ r. holds pred (row_in kept r)) (bits_of count words) count false (length-bits_of count words)
+selected_rows encoded count pred words each =
+    fill_by_all (λ r. holds pred (row_in encoded r)) (bits_of count words) count false (length-bits_of count words)
     (λ r below. get_or-bits_of count words r false below ∙ each r below)
-    ∙ sym (map_twice (holds pred) (row_in kept) (range_with_len 0 count))
+    ∙ sym (map_twice (holds pred) (row_in encoded) (range_with_len 0 count))
 
 -- one block more of the words is narrowed
-module _ (kept : List OffsetColumn) (count : ℕ) (pred : Pred) (old words part : List ℕ) (at n : ℕ) (within : at + n ≤ length words) (long : length part ≡ n)
-    (done : (r : ℕ) → r < 64 * at → r < count → bit_of words r ≡ (bit_of old r && holds pred (row_in kept r)))
+module _ (encoded : List OffsetColumn) (count : ℕ) (pred : Pred) (old words new_chunk : List ℕ) (at n : ℕ) (within : at + n ≤ length words) (long : length new_chunk ≡ n)
+    (done : (r : ℕ) → r < 64 * at → r < count → bit_of words r ≡ (bit_of old r && holds pred (row_in encoded r)))
     (rest : (r : ℕ) → 64 * at ≤ r → bit_of words r ≡ bit_of old r)
-    (narrowed : (p : ℕ) → p < 64 * n → 64 * at + p < count → bit_of part p ≡ (bit_of (chunk at n words) p && holds pred (row_in kept (64 * at + p)))) where
-  pub narrowed_more : (r : ℕ) → r < 64 * (at + n) → r < count → bit_of (put_mid at n words part) r ≡ (bit_of old r && holds pred (row_in kept r))
+    (narrowed : (p : ℕ) → p < 64 * n → 64 * at + p < count → bit_of new_chunk p ≡ (bit_of (chunk at n words) p && holds pred (row_in encoded (64 * at + p)))) where
+  pub narrowed_more : (r : ℕ) → r < 64 * (at + n) → r < count → bit_of (put_mid at n words new_chunk) r ≡ (bit_of old r && holds pred (row_in encoded r))
   narrowed_more r below row = elim (cases_lt r (64 * at)) [
-    | inl before ↦ bit_before at n words part within long r before ∙ done r before row
+    | inl before ↦ bit_before at n words new_chunk within long r before ∙ done r before row
     | inr past ↦
         let p : ℕ = r - 64 * at in
         let place : 64 * at + p ≡ r = omega arith in
-        ap (bit_of (put_mid at n words part)) (sym place) ∙ bit_inside at n words part within long p (omega arith)
+        ap (bit_of (put_mid at n words new_chunk)) (sym place) ∙ bit_inside at n words new_chunk within long p (omega arith)
         ∙ narrowed p (omega arith) (omega arith)
-        ∙ ap (λ b. b && holds pred (row_in kept (64 * at + p))) (bit_of-chunk at n words p (omega arith))
-        ∙ ap (λ q. bit_of words q && holds pred (row_in kept q)) place
-        ∙ ap (λ b. b && holds pred (row_in kept r)) (rest r past)
+        ∙ ap (λ b. b && holds pred (row_in encoded (64 * at + p))) (bit_of-chunk at n words p (omega arith))
+        ∙ ap (λ q. bit_of words q && holds pred (row_in encoded q)) place
+        ∙ ap (λ b. b && holds pred (row_in encoded r)) (rest r past)
   ]
 
-  pub narrowed_rest : (r : ℕ) → 64 * (at + n) ≤ r → bit_of (put_mid at n words part) r ≡ bit_of old r
-  narrowed_rest r past = bit_behind at n words part within long r past ∙ rest r (omega arith)
+  pub narrowed_rest : (r : ℕ) → 64 * (at + n) ≤ r → bit_of (put_mid at n words new_chunk) r ≡ bit_of old r
+  narrowed_rest r past = bit_after at n words new_chunk within long r past ∙ rest r (omega arith)

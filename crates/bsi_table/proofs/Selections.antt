@@ -4,8 +4,8 @@ use Rattle.std.specs.Prelude.{count_by, filter_map, slice_index_or}
 use Rattle.std.specs.List.{range_with_len, items_where_true, cons_option}
 use Rattle.std.proofs.lemmas.List.{length-map}
 use Rattle.std.proofs.lemmas.List.Sums.{length-filter, sum_by-cons}
-use Rattle.bsi_bits.specs.BitList.{set_places}
-use Rattle.bsi_orders.specs.Orders.{values_at}
+use Rattle.bsi_bits.specs.BitList.{set_positions}
+use Rattle.bsi_digits.specs.Orders.{values_at}
 
 -- the numbers one further
 range_suc : (a n : ℕ) → range_with_len (a + 1) n ≡ map suc (range_with_len a n)
@@ -36,12 +36,12 @@ module _ {X : Type 0} (d : X) (p : X → Bool) where
       ∙ filter-map suc (λ r. p (slice_index_or (x ∷ xs) r d)) (range_with_len 0 (length xs)))
 
   -- those at which the bits of the test are set
-  pub set_places-map : (xs : List X) → set_places (map p xs) ≡ places d p xs
-  set_places-map [] = refl
-  set_places-map (x ∷ xs) =
-      bits-cons (p x) (map p xs) ∙ ap (λ ks. cond (p x) (0 ∷ map suc ks) (map suc ks)) (set_places-map xs) ∙ sym (places-cons x xs)
+  pub set_positions-map : (xs : List X) → set_positions (map p xs) ≡ places d p xs
+  set_positions-map [] = refl
+  set_positions-map (x ∷ xs) =
+      bits-cons (p x) (map p xs) ∙ ap (λ ks. cond (p x) (0 ∷ map suc ks) (map suc ks)) (set_positions-map xs) ∙ sym (places-cons x xs)
     where
-      bits-cons : (b : Bool) (bs : List Bool) → set_places (b ∷ bs) ≡ cond b (0 ∷ map suc (set_places bs)) (map suc (set_places bs))
+      bits-cons : (b : Bool) (bs : List Bool) → set_positions (b ∷ bs) ≡ cond b (0 ∷ map suc (set_positions bs)) (map suc (set_positions bs))
       bits-cons b bs =
           ap (λ ks. cond b (0 ∷ ks) ks)
           (ap (filter (λ r. slice_index_or (b ∷ bs) r false)) (range_suc 0 (length bs))
@@ -75,16 +75,16 @@ module _ {X Y : Type 0} (d : X) (p : X → Bool) (e : X → Option Y) where
   filter_map-map f [] = refl
   filter_map-map f (k ∷ ks) = ap (cons_option (e (f k))) (filter_map-map f ks)
 
-  found : (xs : List X) → values_at (map p xs) (map e xs) ≡ filter_map e (filter p xs)
-  found [] = refl
-  found (x ∷ xs) = by (p x) (found xs)
+  selection : (xs : List X) → values_at (map p xs) (map e xs) ≡ filter_map e (filter p xs)
+  selection [] = refl
+  selection (x ∷ xs) = by (p x) (selection xs)
     where
       by : (b : Bool) → values_at (map p xs) (map e xs) ≡ filter_map e (filter p xs)
           → filter_map (λ o. o) (items_where_true (b ∷ map p xs) (e x ∷ map e xs)) ≡ filter_map e (cond b (x ∷ filter p xs) (filter p xs))
       by true rest = ap (cons_option (e x)) rest
       by false rest = rest
 
-  -- the values that a found set has are those at the positions
+  -- the values that a selection has are those at the positions
   pub values-places : (xs : List X) → values_at (map p xs) (map e xs) ≡ filter_map (λ r. e (slice_index_or xs r d)) (places d p xs)
   values-places xs =
-      found xs ∙ ap (filter_map e) (sym (map-places d p xs)) ∙ filter_map-map (λ r. slice_index_or xs r d) (places d p xs)
+      selection xs ∙ ap (filter_map e) (sym (map-places d p xs)) ∙ filter_map-map (λ r. slice_index_or xs r d) (places d p xs)

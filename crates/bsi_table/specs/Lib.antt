@@ -1,7 +1,7 @@
 pub mod Bitmaps
 pub mod Index
 pub mod Joined
-pub mod Kept
+pub mod Encoded
 pub mod Selections
 pub mod Spans
 pub mod Totals

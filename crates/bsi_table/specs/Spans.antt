@@ -4,15 +4,15 @@ use Rattle.bsi_bits.specs.Packed.{bit_of}
 use Rattle.bsi_shift.specs.Shifted.{OffsetColumn}
 use Rattle.bsi_rows.specs.declared.query.Pred.{Pred}
 use Rattle.bsi_rows.specs.Rows.{holds}
-use Rattle.bsi_table.specs.Kept.{row_in}
+use Rattle.bsi_table.specs.Encoded.{row_in}
 
--- of the rows that the words from `at` on stand for those are kept of which the predicate holds
+-- the words from `at` on are intersected with the rows of which the predicate holds
 abbrev pub AreNarrowed : List OffsetColumn → ℕ → Pred → ℕ → List ℕ → List ℕ → Type 0
-AreNarrowed kept rows pred at old now =
+AreNarrowed encoded rows pred at old now =
     (p : ℕ) → p < 64 * length old → 64 * at + p < rows
-    → bit_of now p ≡ (bit_of old p && holds pred (row_in kept (64 * at + p)))
+    → bit_of now p ≡ (bit_of old p && holds pred (row_in encoded (64 * at + p)))
 
--- the words from `at` on have, of the rows that they stand for, those of which the predicate holds
-abbrev pub AreFound : List OffsetColumn → ℕ → Pred → ℕ → List ℕ → Type 0
-AreFound kept rows pred at words =
-    (p : ℕ) → p < 64 * length words → 64 * at + p < rows → bit_of words p ≡ holds pred (row_in kept (64 * at + p))
+-- the words from `at` on are set at the rows of which the predicate holds
+abbrev pub AreSelected : List OffsetColumn → ℕ → Pred → ℕ → List ℕ → Type 0
+AreSelected encoded rows pred at words =
+    (p : ℕ) → p < 64 * length words → 64 * at + p < rows → bit_of words p ≡ holds pred (row_in encoded (64 * at + p))

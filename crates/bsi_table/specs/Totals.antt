@@ -1,32 +1,32 @@
--- The totals of the rows of a found set.
+-- The totals of the rows of a selection (`IsTotalAt`).
 use Rattle.std.specs.Prelude.{◌≡◌, ℕ, ℤ, Bool, List, count_by}
-use Rattle.bsi_bits.specs.BitList.{set_places}
-use Rattle.bsi_orders.specs.Orders.{values_at}
-use Rattle.bsi_orders.specs.Ranks.{IsSignedRankOf}
-use Rattle.bsi_orders.specs.WholeNumbers.{signed_sum, IsSignedLeastOf, IsSignedGreatestOf, IsSignedMedianOf}
+use Rattle.bsi_bits.specs.BitList.{set_positions}
+use Rattle.bsi_digits.specs.Orders.{values_at}
+use Rattle.bsi_digits.specs.Ranks.{IsSignedRankOf}
+use Rattle.bsi_digits.specs.WholeNumbers.{signed_sum, IsSignedLeastOf, IsSignedGreatestOf, IsSignedMedianOf}
 use Rattle.bsi_rows.specs.Answers.{IsRows, IsValue}
 use Rattle.bsi_rows.specs.Numbering.{numbered_at}
-use Rattle.bsi_rows.specs.Rows.{column_of, feeders_of, FedRow}
+use Rattle.bsi_rows.specs.Rows.{column_of, feeders_of, SourcedRow}
 use Rattle.bsi_rows.specs.declared.query.Answer.{Answer}
 use Rattle.bsi_rows.specs.declared.query.Answer.TheVariants.{Count as count_answer, Sum as sum_answer}
 use Rattle.bsi_rows.specs.declared.query.Total.{Total}
 use Rattle.bsi_rows.specs.declared.query.Total.TheVariants.{Count, Sum, Least, Greatest, Median, Rank, Rows}
 
--- the numbers of column c at the rows of a found set, in order; a null is none
-abbrev pub numbers_at : List Bool → ℕ → List FedRow → List ℤ
-numbers_at found c rows = values_at found (column_of rows c)
+-- the numbers of column c at the rows of a selection, in order, without the nulls
+abbrev pub numbers_at : List Bool → ℕ → List SourcedRow → List ℤ
+numbers_at selection c rows = values_at selection (column_of rows c)
 
--- the answer is the total of the rows of a found set
-abbrev pub IsTotalAt : Total → List Bool → List FedRow → Answer → Type 0
-IsTotalAt Count found rows answer = answer ≡ count_answer (count_by (λ b. b) found)
-IsTotalAt (Sum c) found rows answer = answer ≡ sum_answer (signed_sum (numbers_at found c rows))
-IsTotalAt (Least c) found rows answer = IsValue (IsSignedLeastOf (numbers_at found c rows)) answer
-IsTotalAt (Greatest c) found rows answer = IsValue (IsSignedGreatestOf (numbers_at found c rows)) answer
-IsTotalAt (Median c) found rows answer = IsValue (IsSignedMedianOf (numbers_at found c rows)) answer
-IsTotalAt (Rank c rank) found rows answer = IsValue (IsSignedRankOf rank (numbers_at found c rows)) answer
-IsTotalAt Rows found rows answer = IsRows (numbered_at (feeders_of rows) (set_places found)) answer
+-- the answer is the total of the rows of a selection
+abbrev pub IsTotalAt : Total → List Bool → List SourcedRow → Answer → Type 0
+IsTotalAt Count selection rows answer = answer ≡ count_answer (count_by (λ b. b) selection)
+IsTotalAt (Sum c) selection rows answer = answer ≡ sum_answer (signed_sum (numbers_at selection c rows))
+IsTotalAt (Least c) selection rows answer = IsValue (IsSignedLeastOf (numbers_at selection c rows)) answer
+IsTotalAt (Greatest c) selection rows answer = IsValue (IsSignedGreatestOf (numbers_at selection c rows)) answer
+IsTotalAt (Median c) selection rows answer = IsValue (IsSignedMedianOf (numbers_at selection c rows)) answer
+IsTotalAt (Rank c rank) selection rows answer = IsValue (IsSignedRankOf rank (numbers_at selection c rows)) answer
+IsTotalAt Rows selection rows answer = IsRows (numbered_at (feeders_of rows) (set_positions selection)) answer
 
--- the total is found without memory
+-- the total is computed without memory
 abbrev pub NeedsNoMemory : Total → Type 0
 NeedsNoMemory Count = Unit {0}
 NeedsNoMemory (Sum c) = Unit {0}

@@ -1,13 +1,13 @@
-//! Columns that are made of their bitmaps, and how many these are.
+//! Makes a column of an index from bitmaps, as a saved index has them, and counts the bitmaps of a form.
 
 ghost use Rattle.std.specs.Prelude.{◌≡◌, ℕ, ◌+◌, ◌<◌, All, length, IfNone, IfOk, IfSome};
 ghost use Rattle.bsi_bits.specs.BitLists.{bits_at};
-ghost use Rattle.bsi_columns.specs.AnyRows.{any_entries};
-ghost use Rattle.bsi_columns.specs.Places.{bits_each, column_bitmaps, form_places, AreOfNone};
+ghost use Rattle.bsi_columns.specs.AnyColumns.{any_entries};
+ghost use Rattle.bsi_columns.specs.Places.{bits_each, column_bitmaps, form_places, HaveNoEntriesBelow};
 ghost use Rattle.bsi_schema.specs.Columns.{column_at, size_in, IsForm};
 ghost use Rattle.bsi_shift.specs.Shifted.{shifted_entries};
 ghost use Rattle.bsi_table.specs.Bitmaps.{bitmap_count, entries_bitmaps, HaveNoEntries};
-ghost use Rattle.bsi_table.specs.Kept.{kept_form, IsInForm, Keeps};
+ghost use Rattle.bsi_table.specs.Encoded.{encoded_form, IsInForm, Encodes};
 
 use crate::{Form, NoMemory, Schema};
 use bsi_bits::Bits;
@@ -25,8 +25,8 @@ pub fn count_bitmaps(form: &Form) -> usize
     }
 }
 
-/// Makes column `c` of a schema of its bitmaps, or none if no entries that it takes have them. The not-null bitmap
-/// stands first, and then each binary place, the least first.
+/// Makes column `c` of a schema of its bitmaps, or none if no entries that it accepts have them. The not-null
+/// bitmap comes first, and then each binary place, the least first.
 pub fn column_from_bitmaps(
     schema: &Schema,
     c: u32,
@@ -36,8 +36,8 @@ pub fn column_from_bitmaps(
     requires count { length bitmaps.items ≡ bitmap_count (column_at schema.now.columns c).form }
     requires even { (j : ℕ) → j < length bitmaps.items →
         length (bits_at bitmaps.items j) ≡ length (bits_at bitmaps.items 0) }
-    ensures keeps { IfOk result (λ made. IfSome made (λ column.
-        Keeps (column_at schema.now.columns c) column (length (bits_at bitmaps.items 0)))) }
+    ensures encodes { IfOk result (λ made. IfSome made (λ column.
+        Encodes (column_at schema.now.columns c) column (length (bits_at bitmaps.items 0)))) }
     ensures bitmaps { IfOk result (λ made. IfSome made (λ column.
         entries_bitmaps (column_at schema.now.columns c) (shifted_entries column)
         ≡ bits_each bitmaps.items)) }
@@ -61,9 +61,9 @@ fn stored_from_bitmaps(form: &Form, bitmaps: Vec<Bits>) -> Result<Option<AnyColu
         length (bits_at bitmaps.items j) ≡ length (bits_at bitmaps.items 0) }
     ensures form { IfOk result (λ made. IfSome made (IsInForm form.now)) }
     ensures bitmaps { IfOk result (λ made. IfSome made (λ column.
-        column_bitmaps (kept_form form.now) (any_entries column) ≡ bits_each bitmaps.items)) }
+        column_bitmaps (encoded_form form.now) (any_entries column) ≡ bits_each bitmaps.items)) }
     ensures none { IfOk result (λ made. IfNone made
-        (AreOfNone (form_places (kept_form form.now)) (size_in form.now)
+        (HaveNoEntriesBelow (form_places (encoded_form form.now)) (size_in form.now)
         (bits_each bitmaps.items))) }
 {
     match form {

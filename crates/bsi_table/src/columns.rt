@@ -3,13 +3,13 @@
 //! A block of rows goes in column by column. All columns and the list of feeders grow before the first is changed.
 
 ghost use Rattle.std.specs.Prelude.{◌≡◌, ℕ, ◌+◌, ◌<◌, ◌≤◌, [], All, None, length, slice_index_or, true, IfOk, OnOk};
-ghost use Rattle.bsi_orders.specs.Offsets.{IsInRange};
+ghost use Rattle.bsi_digits.specs.Offsets.{IsInRange};
 ghost use Rattle.bsi_bits.specs.BitList.{max_len};
-ghost use Rattle.bsi_columns.specs.AnyRows.{any_entries};
+ghost use Rattle.bsi_columns.specs.AnyColumns.{any_entries};
 ghost use Rattle.bsi_shift.specs.Shifted.{shifted_entries, shifted_room, shifted_size};
 ghost use Rattle.bsi_schema.specs.Columns.{column_at, IsForm};
 ghost use Rattle.bsi_rows.specs.Rows.{column_of, row_entries};
-ghost use Rattle.bsi_table.specs.Kept.{kept_at, AreAlikeColumns, AreInRange, AreKept, AreI64, AreSameColumns, HasMore, HaveMore, HaveOneMore, HaveRoom, HaveRows, IsInForm, Keeps, TakesRow, row_in};
+ghost use Rattle.bsi_table.specs.Encoded.{encoded_at, AreAlikeColumns, AreInRange, AreEncoded, AreI64, AreSameColumns, HasMore, HaveMore, HaveOneMore, HaveRoom, HaveRows, IsInForm, Encodes, AcceptsRow, row_in};
 
 use crate::{Block, Form, NoMemory, Schema};
 use bsi_bits::MAX_BLOCK;
@@ -20,7 +20,7 @@ use std::alloc::Global;
 
 /// Makes an empty column for each column of a schema.
 pub(crate) fn make_each(alloc: Global, schema: &Schema) -> Result<Vec<Shifted>, NoMemory>
-    ensures { IfOk result (λ made. AreKept schema.now.columns made.items 0) }
+    ensures { IfOk result (λ made. AreEncoded schema.now.columns made.items 0) }
 {
     let mut made = Vec::with_capacity(alloc, schema.columns() as usize)?;
     'columns: for c in 0..schema.columns() {
@@ -32,7 +32,7 @@ pub(crate) fn make_each(alloc: Global, schema: &Schema) -> Result<Vec<Shifted>, 
 /// Makes an empty column for column `c` of a schema.
 fn make_one(alloc: Global, schema: &Schema, c: u32) -> Result<Shifted, NoMemory>
     requires { c < length schema.now.columns }
-    ensures { IfOk result (λ made. Keeps (column_at schema.now.columns c) made 0) }
+    ensures { IfOk result (λ made. Encodes (column_at schema.now.columns c) made 0) }
 {
     let stored = make_stored(alloc, schema.form(c))?;
     Ok(Shifted::new(stored, schema.offset(c)))
@@ -54,11 +54,11 @@ fn make_stored(alloc: Global, form: &Form) -> Result<AnyColumn, NoMemory>
 /// Makes room for `more` further entries in each column. Whatever the result, the columns stay.
 pub(crate) fn reserve_each(columns: &mut [Shifted], more: u64) -> Result<(), NoMemory>
     requires { (k : ℕ) → k < length columns.old →
-        length (shifted_entries (kept_at columns.old k)) + more ≤ max_len }
+        length (shifted_entries (encoded_at columns.old k)) + more ≤ max_len }
     ensures same { AreSameColumns columns.old columns.new }
     ensures ok { OnOk result (HaveRoom columns.new (length columns.old) more) }
-    ensures kept { (k : ℕ) → k < length columns.old →
-        shifted_room (kept_at columns.old k) ≤ shifted_room (kept_at columns.new k) }
+    ensures no_less { (k : ℕ) → k < length columns.old →
+        shifted_room (encoded_at columns.old k) ≤ shifted_room (encoded_at columns.new k) }
 {
     'columns: for column in columns.iter_mut() {
         column.reserve(more)?;
@@ -71,10 +71,10 @@ pub(crate) fn clear_each(columns: &mut [Shifted])
     ensures long { length columns.new ≡ length columns.old }
     ensures alike { AreAlikeColumns columns.old columns.new }
     ensures empty { (k : ℕ) → k < length columns.old →
-        shifted_entries (kept_at columns.new k) ≡ [] }
+        shifted_entries (encoded_at columns.new k) ≡ [] }
     ensures room { (k : ℕ) → k < length columns.old →
-        length (shifted_entries (kept_at columns.old k)) + shifted_room (kept_at columns.old k)
-        ≤ shifted_room (kept_at columns.new k) }
+        length (shifted_entries (encoded_at columns.old k)) + shifted_room (encoded_at columns.old k)
+        ≤ shifted_room (encoded_at columns.new k) }
 {
     'columns: for column in columns.iter_mut() {
         column.clear();
@@ -98,7 +98,7 @@ pub(crate) fn push_each(columns: &mut [Shifted], values: &[Option<i128>])
 pub(crate) fn push_block_each(columns: &mut [Shifted], block: &Block)
     requires wide { length columns.old ≡ length block.now.schema.columns }
     requires room { HaveRoom columns.old (length columns.old) (length block.now.rows) }
-    requires taken { All (λ row. TakesRow columns.old (row_entries row)) block.now.rows }
+    requires accepted { All (λ row. AcceptsRow columns.old (row_entries row)) block.now.rows }
     ensures { HaveMore columns.old columns.new block.now.rows }
 {
     'columns: for (c, column) in columns.iter_mut().enumerate() {
@@ -118,24 +118,24 @@ fn push_column(column: &mut Shifted, block: &Block, c: usize)
     column.push_block_reserved(entries.offset, entries.numbers, entries.not_null);
 }
 
-/// Appends to each column all entries of another one, which is kept alike, into room that is already there.
+/// Appends to each column all entries of another one, which is encoded alike, into room that is already there.
 pub(crate) fn push_all_each(columns: &mut [Shifted], others: &[Shifted])
     requires long { length others.now ≡ length columns.old }
     requires alike { AreAlikeColumns columns.old others.now }
     requires room { (k : ℕ) → k < length columns.old →
-        length (shifted_entries (kept_at others.now k)) ≤ shifted_room (kept_at columns.old k) }
+        length (shifted_entries (encoded_at others.now k)) ≤ shifted_room (encoded_at columns.old k) }
     ensures long { length columns.new ≡ length columns.old }
     ensures more { (k : ℕ) → k < length columns.old →
-        HasMore (kept_at columns.old k) (kept_at columns.new k)
-        (shifted_entries (kept_at others.now k)) }
+        HasMore (encoded_at columns.old k) (encoded_at columns.new k)
+        (shifted_entries (encoded_at others.now k)) }
 {
     'columns: for (c, other) in others.iter().enumerate() {
         columns[c].push_all_reserved(other);
     }
 }
 
-/// Returns whether two lists have as many columns, each kept like the other list's.
-pub(crate) fn are_kept_alike(columns: &[Shifted], others: &[Shifted]) -> bool
+/// Returns whether two lists have as many columns, each encoded like the other list's.
+pub(crate) fn are_encoded_alike(columns: &[Shifted], others: &[Shifted]) -> bool
     ensures long { result ≡ true → length others.now ≡ length columns.now }
     ensures alike { result ≡ true → AreAlikeColumns columns.now others.now }
     ensures all { length others.now ≡ length columns.now → AreAlikeColumns columns.now others.now →

@@ -1,11 +1,11 @@
 //! The index: rows from feeders, stored column by column, and the answers to queries over them.
 //!
-//! A contract sees one list of rows, each with its feeder: what the columns hold (`fed_rows`). So answers are stated
-//! over rows, and no second promise says that the rows went into the columns.
+//! A contract sees one list of rows, each with its feeder: what the columns hold (`sourced_rows`). So answers are
+//! stated over rows, and no second promise says that the rows went into the columns.
 
 ghost use Rattle.std.specs.Prelude.{◌≡◌, ◌≢◌, ◌↔◌, [], ◌+◌, ◌<◌, ◌≤◌, None, Some, length, map, slice_get, IfErr, IfOk, IsOk, IsTrue, true, OnErr, OnOk};
 ghost use Rattle.std.specs.Result.{result_err};
-ghost use Rattle.bsi_rows.specs.Table.{max_feeders, max_rows, no_rows, table, with_row, with_rows, AreFitting, AreFrom, AreKeptAlike};
+ghost use Rattle.bsi_rows.specs.Table.{max_feeders, max_rows, no_rows, table, with_row, with_rows, AreFitting, AreFrom, AreEncodedAlike};
 ghost use Rattle.bsi_shift.specs.Shifted.{shifted_entries};
 ghost use Rattle.bsi_rows.specs.Answers.{columns_of_total, missing_column, missing_of, CountsConjunction, IsAnswer, IsReply, ReadsAmong};
 ghost use Rattle.bsi_table.specs.Selections.{IsSelection};
@@ -13,16 +13,16 @@ ghost use Rattle.bsi_table.specs.Totals.{IsTotalAt, NeedsNoMemory};
 ghost use Rattle.bsi_schema.specs.Columns.{column_at, fits};
 ghost use Rattle.bsi_rows.specs.Refusals.{index_refusal, row_refusal, rows_refusal, IsFirstOr};
 ghost use Rattle.bsi_rows.specs.Numbering.{number_within};
-ghost use Rattle.bsi_rows.specs.RowBlocks.{entries_of, fed_as, no_block_rows, HaveSameLimits};
+ghost use Rattle.bsi_rows.specs.RowBlocks.{entries_of, sourced_from, no_block_rows, HaveSameLimits};
 ghost use Rattle.bsi_rows.specs.Rows.{column_of, feeders_of, holds, row_entries};
 ghost use Rattle.bsi_table.specs.Index.{table_of};
 ghost use Rattle.bsi_table.specs.Joined.{rows_as, AreEnough};
-ghost use Rattle.bsi_table.specs.Kept.{fed_rows, AreKept, IsInForm};
+ghost use Rattle.bsi_table.specs.Encoded.{sourced_rows, AreEncoded, IsInForm};
 
-use crate::columns::{are_kept_alike, copy_each, make_each, read_row};
-use crate::found::{count_selected, find_rows};
+use crate::columns::{are_encoded_alike, copy_each, make_each, read_row};
 use crate::growth::{clear_rows, push_all, push_row, push_rows, reserve_rows};
-use crate::totals::total_found;
+use crate::selection::{count_selected, select_rows};
+use crate::totals::total_selected;
 use crate::{
     Answer, AppendError, AskError, Block, IndexError, NoMemory, Pred, Query, Row, Schema, Total,
 };
@@ -37,7 +37,7 @@ use std::sync::Arc;
 
 /// The rows of a schema that came from 1 to 64 feeders, at most as many as a limit. A row is stored as its entry in
 /// each column and the number of its feeder, one byte; no row is stored as it came. If there are several feeders, each
-/// stretch of 512 rows has a count of 4 bytes for each feeder.
+/// chunk of 512 rows has a count of 4 bytes for each feeder.
 pub struct Index {
     schema: Arc<Schema, Global>,
     columns: Vec<Shifted>,
@@ -62,7 +62,7 @@ impl Drop for Index {
 
 // Clauses see the schema, the number of feeders, the limit, the list of rows, each with its feeder, and the room.
 impl Model for Index {
-    ghost use Rattle.bsi_table.specs.Kept.{fed_rows, IsTable};
+    ghost use Rattle.bsi_table.specs.Encoded.{sourced_rows, IsTable};
     ghost use Rattle.bsi_table.specs.Index.{AreRoomy, IndexedTable};
 
     ghost Value = { IndexedTable };
@@ -71,7 +71,7 @@ impl Model for Index {
       schema = i.schema.value;
       feeders = i.origins.feeders;
       limit = i.limit;
-      rows = fed_rows i.origins.rows i.columns.items;
+      rows = sourced_rows i.origins.rows i.columns.items;
       room = i.room;
     } };
 
@@ -84,7 +84,7 @@ impl Index {
     pub fn new(alloc: Global, schema: Schema, feeders: u32, limit: u64) -> Result<Index, IndexError>
         requires { (1 ≤ feeders) × (feeders ≤ max_feeders) }
         ensures ok { IfOk result (λ index. table_of index ≡ no_rows schema feeders limit) }
-        ensures taken { OnOk result (index_refusal schema limit ≡ None) }
+        ensures accepted { OnOk result (index_refusal schema limit ≡ None) }
         ensures refused { IfErr result
             (IsFirstOr IndexError.NoMemory (index_refusal schema limit)) }
     {
@@ -103,7 +103,7 @@ impl Index {
         requires { (1 ≤ feeders) × (feeders ≤ max_feeders) }
         ensures ok { IfOk result (λ index. table_of index
             ≡ no_rows schema.now.value feeders limit) }
-        ensures taken { OnOk result (index_refusal schema.now.value limit ≡ None) }
+        ensures accepted { OnOk result (index_refusal schema.now.value limit ≡ None) }
         ensures refused { IfErr result
             (IsFirstOr IndexError.NoMemory (index_refusal schema.now.value limit)) }
     {
@@ -120,7 +120,7 @@ impl Index {
         limit: u64,
     ) -> Result<Index, NoMemory>
         requires feeders { (1 ≤ feeders) × (feeders ≤ max_feeders) }
-        requires taken { index_refusal schema.value limit ≡ None }
+        requires accepted { index_refusal schema.value limit ≡ None }
         ensures { IfOk result (λ index. table_of index ≡ no_rows schema.value feeders limit) }
     {
         let columns = make_each(alloc, &schema)?;
@@ -141,11 +141,11 @@ impl Index {
         origins: Origins,
         limit: u64,
     ) -> Result<Index, NoMemory>
-        requires columns { AreKept schema.columns columns.items (length origins.rows) }
+        requires columns { AreEncoded schema.columns columns.items (length origins.rows) }
         requires within { length origins.rows ≤ limit }
-        requires taken { index_refusal schema limit ≡ None }
+        requires accepted { index_refusal schema limit ≡ None }
         ensures { IfOk result (λ index. table_of index
-            ≡ table schema origins.feeders limit (fed_rows origins.rows columns.items)) }
+            ≡ table schema origins.feeders limit (sourced_rows origins.rows columns.items)) }
     {
         // The proof takes from this that each row came from one of at most 64 feeders.
         let _feeders = origins.feeders();
@@ -189,10 +189,10 @@ impl Index {
             ≡ with_row (table_of self.old) feeder row.now) }
         ensures room { OnOk result (self.old.room ≤ self.new.room + 1) }
         ensures position { IfOk result (λ position. position ≡ length self.old.rows) }
-        ensures taken { OnOk result (row_refusal (table_of self.old) ≡ None) }
+        ensures accepted { OnOk result (row_refusal (table_of self.old) ≡ None) }
         ensures refused { IfErr result
             (IsFirstOr AppendError.NoMemory (row_refusal (table_of self.old))) }
-        ensures kept { OnErr result (self.new ≡ self.old) }
+        ensures unchanged { OnErr result (self.new ≡ self.old) }
         ensures succeeds { 0 < self.old.room → row_refusal (table_of self.old) ≡ None →
             IsOk result }
     {
@@ -222,12 +222,12 @@ impl Index {
             ≡ with_rows (table_of self.old) block.now.rows) }
         ensures room { OnOk result (self.old.room ≤ self.new.room + length block.now.rows) }
         ensures position { IfOk result (λ position. position ≡ length self.old.rows) }
-        ensures taken { OnOk result
+        ensures accepted { OnOk result
             (rows_refusal (table_of self.old) (length block.now.rows) ≡ None) }
         ensures refused { IfErr result
             (IsFirstOr AppendError.NoMemory
             (rows_refusal (table_of self.old) (length block.now.rows))) }
-        ensures kept { OnErr result (self.new ≡ self.old) }
+        ensures unchanged { OnErr result (self.new ≡ self.old) }
         ensures succeeds { length block.now.rows ≤ self.old.room →
             rows_refusal (table_of self.old) (length block.now.rows) ≡ None → IsOk result }
     {
@@ -240,21 +240,21 @@ impl Index {
     }
 
     /// Appends all rows of another index, in their order, and returns the row position of the first: the length before.
-    /// Either all rows are appended or none is. Each bitmap takes that of the other by words. It makes room for all
+    /// Either all rows are appended or none is. Each bitmap is appended by words. It makes room for all
     /// rows first, so a refused growth leaves the index as it was.
     pub fn append_index(&mut self, other: &Index) -> Result<u64, AppendError>
-        requires alike { AreKeptAlike self.old.schema other.now.schema }
+        requires alike { AreEncodedAlike self.old.schema other.now.schema }
         requires feeders { other.now.feeders ≤ self.old.feeders }
         ensures appended { OnOk result (table_of self.new
             ≡ with_rows (table_of self.old) other.now.rows) }
         ensures room { OnOk result (self.old.room ≤ self.new.room + length other.now.rows) }
         ensures position { IfOk result (λ position. position ≡ length self.old.rows) }
-        ensures taken { OnOk result
+        ensures accepted { OnOk result
             (rows_refusal (table_of self.old) (length other.now.rows) ≡ None) }
         ensures refused { IfErr result
             (IsFirstOr AppendError.NoMemory
             (rows_refusal (table_of self.old) (length other.now.rows))) }
-        ensures kept { OnErr result (self.new ≡ self.old) }
+        ensures unchanged { OnErr result (self.new ≡ self.old) }
         ensures succeeds { length other.now.rows ≤ self.old.room →
             rows_refusal (table_of self.old) (length other.now.rows) ≡ None → IsOk result }
     {
@@ -268,18 +268,18 @@ impl Index {
     /// Appends all rows of another index as `append_index` does, but each as a row of this feeder, whatever feeders the
     /// other index has.
     pub fn append_index_from(&mut self, feeder: u32, other: &Index) -> Result<u64, AppendError>
-        requires alike { AreKeptAlike self.old.schema other.now.schema }
+        requires alike { AreEncodedAlike self.old.schema other.now.schema }
         requires feeder { feeder < self.old.feeders }
         ensures appended { OnOk result (table_of self.new
-            ≡ with_rows (table_of self.old) (fed_as feeder (entries_of other.now.rows))) }
+            ≡ with_rows (table_of self.old) (sourced_from feeder (entries_of other.now.rows))) }
         ensures room { OnOk result (self.old.room ≤ self.new.room + length other.now.rows) }
         ensures position { IfOk result (λ position. position ≡ length self.old.rows) }
-        ensures taken { OnOk result
+        ensures accepted { OnOk result
             (rows_refusal (table_of self.old) (length other.now.rows) ≡ None) }
         ensures refused { IfErr result
             (IsFirstOr AppendError.NoMemory
             (rows_refusal (table_of self.old) (length other.now.rows))) }
-        ensures kept { OnErr result (self.new ≡ self.old) }
+        ensures unchanged { OnErr result (self.new ≡ self.old) }
         ensures succeeds { length other.now.rows ≤ self.old.room →
             rows_refusal (table_of self.old) (length other.now.rows) ≡ None → IsOk result }
     {
@@ -292,13 +292,13 @@ impl Index {
 
     /// Appends all rows of another index, into room that is already there: as rows of one feeder, if it is given.
     fn push_index(&mut self, other: &Index, feeder: Option<u32>)
-        requires alike { AreKeptAlike self.old.schema other.now.schema }
+        requires alike { AreEncodedAlike self.old.schema other.now.schema }
         requires feeders { AreEnough self.old.feeders feeder other.now.feeders }
         requires within { length self.old.rows + length other.now.rows ≤ self.old.limit }
         requires room { length other.now.rows ≤ self.old.room }
         ensures table { table_of self.new
             ≡ with_rows (table_of self.old) (rows_as feeder other.now.rows) }
-        ensures left { self.new.room + length other.now.rows ≡ self.old.room }
+        ensures room_left { self.new.room + length other.now.rows ≡ self.old.room }
     {
         let (columns, origins) = (&other.columns, &other.origins);
         push_all(
@@ -333,18 +333,19 @@ impl Index {
         Ok(Row::new(read_row(alloc, &self.columns, self.len(), r)?))
     }
 
-    /// Returns whether another index keeps its columns as this one does, each in the same form and from the same number
-    /// on, and has as many feeders or fewer. Then `append_index` takes its rows.
-    pub fn is_kept_like(&self, other: &Index) -> bool
-        ensures alike { result ≡ true → AreKeptAlike self.now.schema other.now.schema }
+    /// Returns whether another index encodes its columns as this one does, each in the same form and from the same
+    /// number on, and has as many feeders or fewer. If so, `append_index` accepts its rows.
+    pub fn is_encoded_like(&self, other: &Index) -> bool
+        ensures alike { result ≡ true → AreEncodedAlike self.now.schema other.now.schema }
         ensures feeders { result ≡ true → other.now.feeders ≤ self.now.feeders }
         ensures all { other.now.feeders ≤ self.now.feeders →
-            AreKeptAlike self.now.schema other.now.schema → result ≡ true }
+            AreEncodedAlike self.now.schema other.now.schema → result ≡ true }
     {
-        other.feeders() <= self.feeders() && are_kept_alike(&self.columns, &other.columns)
+        other.feeders() <= self.feeders() && are_encoded_alike(&self.columns, &other.columns)
     }
 
-    /// Makes an index of no rows yet that keeps its columns as this one does, with as many feeders and the same limit.
+    /// Makes an index of no rows yet that encodes its columns as this one does, with as many feeders and the same
+    /// limit.
     pub fn new_like(&self) -> Result<Index, NoMemory>
         ensures { IfOk result (λ index. table_of index
             ≡ no_rows self.now.schema self.now.feeders self.now.limit) }
@@ -369,16 +370,16 @@ impl Index {
         requires { length self.old.rows + more ≤ self.old.limit }
         ensures table { table_of self.new ≡ table_of self.old }
         ensures ok { OnOk result (more ≤ self.new.room) }
-        ensures kept { self.old.room ≤ self.new.room }
+        ensures no_less { self.old.room ≤ self.new.room }
         ensures err { OnErr result (self.new ≡ self.old) }
         ensures succeeds { more ≤ self.old.room → IsOk result }
     {
         if more <= self.room {
             return Ok(());
         }
-        let wanted = room_to_make(self.len(), more);
-        reserve_rows(&mut self.columns, &mut self.origins, wanted)?;
-        self.room = wanted;
+        let growth = room_to_make(self.len(), more);
+        reserve_rows(&mut self.columns, &mut self.origins, growth)?;
+        self.room = growth;
         Ok(())
     }
 
@@ -392,16 +393,16 @@ impl Index {
         clear_rows(&mut self.columns, &mut self.origins);
     }
 
-    /// Makes a block of no rows yet, for rows that this index takes.
+    /// Makes a block of no rows yet, for rows that this index accepts.
     pub fn new_block(&self) -> Result<Block, NoMemory>
         ensures { IfOk result (λ block. block ≡ no_block_rows self.now.schema self.now.feeders) }
     {
         Block::new(*self.columns.allocator(), &self.schema, self.feeders())
     }
 
-    /// Returns whether a block is of rows that this index takes: its columns take the same numbers as those of the
+    /// Returns whether a block is of rows that this index accepts: its columns accept the same numbers as those of the
     /// index, which has as many feeders as the block or more.
-    pub fn takes(&self, block: &Block) -> bool
+    pub fn accepts(&self, block: &Block) -> bool
         ensures wide { result ≡ true →
             length block.now.schema.columns ≡ length self.now.schema.columns }
         ensures fits { result ≡ true → AreFitting self.now.schema.columns block.now.rows }
@@ -412,7 +413,7 @@ impl Index {
         block.feeders() <= self.feeders() && block.has_limits_of(&self.schema)
     }
 
-    /// Returns whether the columns of a schema take the same numbers as those of this index.
+    /// Returns whether the columns of a schema accept the same numbers as those of this index.
     pub fn has_limits_of(&self, schema: &Schema) -> bool
         ensures alike { IsTrue result ↔ HaveSameLimits self.now.schema schema.now }
         ensures fits { IsTrue result → AreFitting schema.now.columns self.now.rows }
@@ -445,11 +446,11 @@ impl Index {
     /// Returns for each row whether a predicate holds of it of which no column is missing.
     fn find(&self, pred: &Pred) -> Result<Bits, NoMemory>
         requires { ReadsAmong (length self.now.schema.columns) pred.now }
-        ensures { IfOk result (λ found. found.bits ≡ map (λ row. holds pred.now (row_entries row)) self.now.rows) }
+        ensures { IfOk result (λ selection. selection.bits ≡ map (λ row. holds pred.now (row_entries row)) self.now.rows) }
     {
         let columns: &[Shifted] = &self.columns;
         let rows = self.len();
-        find_rows(*self.columns.allocator(), columns, rows, pred)
+        select_rows(*self.columns.allocator(), columns, rows, pred)
     }
 
     /// Answers a query of which no column is missing. A count keeps no bit for each row.
@@ -464,21 +465,21 @@ impl Index {
         if let Total::Count = query.total {
             return Ok(Answer::Count(count_selected(alloc, columns, rows, &query.pred)?));
         }
-        let found = self.find(&query.pred)?;
-        self.total(&found, query.total)
+        let selection = self.find(&query.pred)?;
+        self.total(&selection, query.total)
     }
 
-    /// Returns a total of the rows of a found set, which has a bit for each row. The column that it reads is there.
+    /// Returns a total of the rows of a selection, which has a bit for each row. The column that it reads is there.
     /// `Median`, `Rank` and `Rows` take memory.
-    pub fn total(&self, found: &Bits, total: Total) -> Result<Answer, NoMemory>
-        requires bits { length found.now.bits ≡ length self.now.rows }
+    pub fn total(&self, selection: &Bits, total: Total) -> Result<Answer, NoMemory>
+        requires bits { length selection.now.bits ≡ length self.now.rows }
         requires there { missing_of (length self.now.schema.columns) (columns_of_total total) ≡ None }
-        ensures answer { IfOk result (IsTotalAt total found.now.bits self.now.rows) }
+        ensures answer { IfOk result (IsTotalAt total selection.now.bits self.now.rows) }
         ensures succeeds { NeedsNoMemory total → IsOk result }
     {
         let alloc = *self.columns.allocator();
         let columns: &[Shifted] = &self.columns;
-        total_found(alloc, columns, &self.origins, found, total)
+        total_selected(alloc, columns, &self.origins, selection, total)
     }
 
     /// Lends column `c`: the entries of all rows there, in the form and with the offset that the schema gives.
@@ -543,7 +544,7 @@ impl Index {
     pub fn limit(&self) -> u64
         ensures limit { result ≡ self.now.limit }
         ensures within { result ≤ max_rows }
-        ensures taken { index_refusal self.now.schema self.now.limit ≡ None }
+        ensures accepted { index_refusal self.now.schema self.now.limit ≡ None }
     {
         self.limit
     }

@@ -1,11 +1,11 @@
-//! An index: rows from feeders, kept column by column, and the answers to queries over them.
+//! An index: rows from feeders, stored column by column, and the answers to queries over them.
 #![tactic(auto)]
 
 mod bitmaps;
 mod columns;
-mod found;
 mod growth;
 mod index;
+mod selection;
 mod totals;
 
 pub use bitmaps::{column_from_bitmaps, count_bitmaps};

@@ -1,4 +1,5 @@
-//! Comparisons, on worked rows. Each test tolerates one refused allocation, and then makes the same call again.
+//! Tests of comparisons of columns with a constant, in every form, on worked rows. Each tolerates one refused
+//! allocation, and then makes the same call again.
 
 use bsi_bits::Bits;
 use bsi_columns::{AnyColumn, Column, NoMemory, Op};
@@ -21,16 +22,16 @@ pub(crate) fn selects<C: Column>(
     column: &C,
     op: Op,
     constant: u64,
-    wanted: &[bool],
+    expected: &[bool],
 ) -> Result<bool, NoMemory> {
-    let found = compared(column, op, constant)?;
-    Ok(has_bits(&found, wanted))
+    let selection = compared(column, op, constant)?;
+    Ok(has_bits(&selection, expected))
 }
 
 /// Returns whether each of those comparisons selects what it should.
 pub(crate) fn selects_shown<C: Column>(column: &C) -> Result<bool, NoMemory> {
-    for (op, constant, wanted) in SHOWN {
-        if !selects(column, op, constant, &wanted)? {
+    for (op, constant, expected) in SHOWN {
+        if !selects(column, op, constant, &expected)? {
             return Ok(false);
         }
     }
@@ -67,12 +68,12 @@ fn nulls_once(column: &AnyColumn) -> Result<Bits, NoMemory> {
 }
 
 // Whether the nulls are these rows.
-fn nulls_are(column: &AnyColumn, wanted: &[bool]) -> Result<bool, NoMemory> {
+fn nulls_are(column: &AnyColumn, expected: &[bool]) -> Result<bool, NoMemory> {
     let nulls = match nulls_once(column) {
         Err(_) => nulls_once(column)?,
         Ok(nulls) => nulls,
     };
-    Ok(has_bits(&nulls, wanted))
+    Ok(has_bits(&nulls, expected))
 }
 
 fn answers_shown(column: &AnyColumn) -> Result<bool, MakingError> {
@@ -105,8 +106,8 @@ const COUNTED: [(Op, u64, u64); 14] = [
 
 // Whether each of those comparisons selects as many rows as it should.
 fn counts_shown(column: &AnyColumn) -> Result<bool, NoMemory> {
-    for (op, constant, wanted) in COUNTED {
-        if compared(column, op, constant)?.count() != wanted {
+    for (op, constant, expected) in COUNTED {
+        if compared(column, op, constant)?.count() != expected {
             return Ok(false);
         }
     }

@@ -1,4 +1,4 @@
-//! What stays after a refused allocation, and that a copy is independent of its column.
+//! Tests that a refused growth changes no column, and that a copy is independent of its column.
 
 use crate::comparisons::{FIFTEEN, selects_shown, three_rows};
 use bsi_bits::MAX_LEN;
@@ -56,8 +56,8 @@ fn copied(column: &AnyColumn) -> Result<AnyColumn, NoMemory> {
     }
 }
 
-// Whether a copy shows three rows and takes a fourth.
-fn takes_a_fourth(copy: &mut AnyColumn) -> Result<bool, MakingError> {
+// Whether a copy shows three rows and accepts a fourth.
+fn accepts_a_fourth(copy: &mut AnyColumn) -> Result<bool, MakingError> {
     let alike = selects_shown(copy)?;
     append(copy, &[Some(4)])?;
     Ok(alike && copy.len() == 4)
@@ -65,24 +65,24 @@ fn takes_a_fourth(copy: &mut AnyColumn) -> Result<bool, MakingError> {
 
 fn is_copied(column: &AnyColumn) -> Result<bool, MakingError> {
     let mut copy = copied(column)?;
-    takes_a_fourth(&mut copy)
+    accepts_a_fourth(&mut copy)
 }
 
-// Whether the column then keeps its three rows.
-fn keeps_its_rows(column: &AnyColumn) -> Result<bool, MakingError> {
+// Whether the column has its three rows still.
+fn is_unchanged(column: &AnyColumn) -> Result<bool, MakingError> {
     Ok(is_copied(column)? && column.len() == 3 && selects_shown(column)?)
 }
 
-fn stands_apart(alloc: Global, form: TestForm) -> Result<bool, MakingError> {
+fn is_independent(alloc: Global, form: TestForm) -> Result<bool, MakingError> {
     let column = three_rows(alloc, form)?;
-    keeps_its_rows(&column)
+    is_unchanged(&column)
 }
 
 #[test]
-fn copies_stand_apart_from_their_column(rt: HostRuntime) {
+fn copies_are_independent_of_their_column(rt: HostRuntime) {
     for form in FORMS {
         assert!(rt;
-            matches!(stands_apart(rt.alloc(), form), Ok(true)),
+            matches!(is_independent(rt.alloc(), form), Ok(true)),
             "{form:?}"
         );
     }

@@ -1,4 +1,4 @@
-//! What each form stores of a row, and that a column works by its components.
+//! Tests of what each form stores of a row, and that a column works by the calls of its components.
 
 use crate::comparisons::FIFTEEN;
 use bsi_bits::Bits;
@@ -19,12 +19,17 @@ fn digits_of<E: Encoding>(alloc: Global) -> Result<Decomposed<E>, MakingError> {
     Ok(column)
 }
 
-fn equality_shows(column: &Decomposed<EqualityComponent>, i: u32, j: u32, wanted: &[bool]) -> bool {
+fn equality_shows(
+    column: &Decomposed<EqualityComponent>,
+    i: u32,
+    j: u32,
+    expected: &[bool],
+) -> bool {
     if i >= column.bases().len() {
         return false;
     }
     let component = column.component(i);
-    component.base() > 2 && j < component.base() && has_bits(component.bitmap(j), wanted)
+    component.base() > 2 && j < component.base() && has_bits(component.bitmap(j), expected)
 }
 
 fn equality_stores(alloc: Global) -> Result<bool, MakingError> {
@@ -36,12 +41,12 @@ fn equality_stores(alloc: Global) -> Result<bool, MakingError> {
     )
 }
 
-fn range_shows(column: &Decomposed<RangeComponent>, i: u32, j: u32, wanted: &[bool]) -> bool {
+fn range_shows(column: &Decomposed<RangeComponent>, i: u32, j: u32, expected: &[bool]) -> bool {
     if i >= column.bases().len() {
         return false;
     }
     let component = column.component(i);
-    j < component.base() - 1 && has_bits(component.bitmap(j), wanted)
+    j < component.base() - 1 && has_bits(component.bitmap(j), expected)
 }
 
 fn range_stores(alloc: Global) -> Result<bool, MakingError> {
@@ -49,8 +54,8 @@ fn range_stores(alloc: Global) -> Result<bool, MakingError> {
     Ok(has_bits(column.not_null(), &NUMBERS) && range_shows(&column, 0, 0, &[true, true, false]))
 }
 
-fn slice_shows(column: &Slices, i: u32, wanted: &[bool]) -> bool {
-    i < column.width() && has_bits(column.slice(i), wanted)
+fn slice_shows(column: &Slices, i: u32, expected: &[bool]) -> bool {
+    i < column.width() && has_bits(column.slice(i), expected)
 }
 
 fn slices_store(alloc: Global) -> Result<bool, MakingError> {
@@ -105,7 +110,7 @@ fn hundred_rows<E: Encoding>(alloc: Global) -> Result<Counted<E>, MakingError> {
 fn at_most_seven<E: Encoding>(column: &Counted<E>) -> Result<Bits, NoMemory> {
     match column.compare(Op::Le, 7) {
         Err(_) => column.compare(Op::Le, 7),
-        found => found,
+        selection => selection,
     }
 }
 
@@ -116,10 +121,10 @@ fn is_one_to_four(after: CallCounts, before: CallCounts) -> bool {
 // Whether a comparison calls each component one to four times, if its encoding has no calls on spans.
 fn compares_by_components<E: Encoding>(column: &Counted<E>) -> Result<bool, NoMemory> {
     let (first, second) = (asked(column, 0), asked(column, 1));
-    let found = at_most_seven(column)?;
+    let selection = at_most_seven(column)?;
     let called = is_one_to_four(asked(column, 0), first)
         && is_one_to_four(asked(column, 1), second);
-    Ok(called && found.count() == 56)
+    Ok(called && selection.count() == 56)
 }
 
 // Whether a sum asks each component.

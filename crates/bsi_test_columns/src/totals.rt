@@ -1,4 +1,4 @@
-//! Sums, and the least, the greatest and the median numbers, on worked rows.
+//! Tests of sums, and of the least, the greatest and the median numbers of columns, on worked rows.
 
 ghost use Rattle.std.specs.Prelude.{◌≡◌, ◌≤◌, length};
 ghost use Rattle.bsi_bits.specs.BitList.{max_len};
@@ -15,52 +15,52 @@ type Totals = (u128, [Option<u64>; 3]);
 /// The totals of no numbers.
 const NOTHING: Totals = (0, [None; 3]);
 
-// Returns the totals over the found rows, by one call for each.
-fn totals_once<C: Column>(column: &C, found: &Bits) -> Result<Totals, NoMemory>
-    requires { length (C.entries column.now) ≡ length found.now.bits }
+// Returns the totals over the selected rows, by one call for each.
+fn totals_once<C: Column>(column: &C, selection: &Bits) -> Result<Totals, NoMemory>
+    requires { length (C.entries column.now) ≡ length selection.now.bits }
 {
-    let least = column.least(found)?;
-    let greatest = column.greatest(found)?;
-    let median = column.median(found)?;
-    Ok((column.sum(found), [least, greatest, median]))
+    let least = column.least(selection)?;
+    let greatest = column.greatest(selection)?;
+    let median = column.median(selection)?;
+    Ok((column.sum(selection), [least, greatest, median]))
 }
 
-// Returns the totals over the found rows. If memory is refused, it asks for all of them again.
-fn totals_of<C: Column>(column: &C, found: &Bits) -> Result<Totals, NoMemory> {
-    if column.len() != found.len() {
+// Returns the totals over the selected rows. If memory is refused, it asks for all of them again.
+fn totals_of<C: Column>(column: &C, selection: &Bits) -> Result<Totals, NoMemory> {
+    if column.len() != selection.len() {
         return Ok(NOTHING);
     }
-    match totals_once(column, found) {
-        Err(_) => totals_once(column, found),
+    match totals_once(column, selection) {
+        Err(_) => totals_once(column, selection),
         totals => totals,
     }
 }
 
 /// Some of the first rows, as places of a word, and the totals of their numbers.
-type Found = (u64, Totals);
+type Selected = (u64, Totals);
 
-fn found_once(alloc: Global, word: u64, rows: u64) -> Result<Bits, NoMemory>
+fn selection_once(alloc: Global, word: u64, rows: u64) -> Result<Bits, NoMemory>
     requires { rows ≤ max_len }
 {
     let words = vec![in alloc; word; rows.div_ceil(64) as usize]?;
     Ok(Bits::from_words(words, rows))
 }
 
-// So many rows, of which those are found that the word says of each 64.
-fn found_rows(alloc: Global, word: u64, rows: u64) -> Result<Bits, NoMemory>
+// So many rows, of which those are selected that the word says of each 64.
+fn selection_of(alloc: Global, word: u64, rows: u64) -> Result<Bits, NoMemory>
     requires { rows ≤ max_len }
 {
-    match found_once(alloc, word, rows) {
-        Err(_) => found_once(alloc, word, rows),
+    match selection_once(alloc, word, rows) {
+        Err(_) => selection_once(alloc, word, rows),
         made => made,
     }
 }
 
-// Whether a column comes to these totals over the found rows.
-fn comes_to(alloc: Global, column: &AnyColumn, found: Found) -> Result<bool, MakingError> {
-    let (word, wanted) = found;
-    let found = found_rows(alloc, word, column.len())?;
-    Ok(totals_of(column, &found)? == wanted)
+// Whether a column comes to these totals over the selected rows.
+fn comes_to(alloc: Global, column: &AnyColumn, selection: Selected) -> Result<bool, MakingError> {
+    let (word, expected) = selection;
+    let selection = selection_of(alloc, word, column.len())?;
+    Ok(totals_of(column, &selection)? == expected)
 }
 
 const NARROW: Wide<'static> = Wide {
@@ -83,14 +83,14 @@ fn works(
     form: TestForm,
     wide: Wide,
     entries: &[Option<u64>],
-    wanted: Found,
+    expected: Selected,
 ) -> Result<bool, MakingError> {
     let column = column_of(alloc, form, wide, entries)?;
-    comes_to(alloc, &column, wanted)
+    comes_to(alloc, &column, expected)
 }
 
-/// A width, entries, and the totals of those rows that the word finds.
-const TABLE: [(Wide, &[Option<u64>], Found); 7] = [
+/// A width, entries, and the totals of those rows that the word selects.
+const TABLE: [(Wide, &[Option<u64>], Selected); 7] = [
     (NARROW, &[Some(5), None], (0b11, (5, [Some(5); 3]))),
     (NARROW, &[Some(5), None], (0b10, NOTHING)),
     (
@@ -121,8 +121,8 @@ const TABLE: [(Wide, &[Option<u64>], Found); 7] = [
 ];
 
 fn all_work(alloc: Global, form: TestForm) -> Result<bool, MakingError> {
-    for (wide, entries, wanted) in TABLE {
-        if !works(alloc, form, wide, entries, wanted)? {
+    for (wide, entries, expected) in TABLE {
+        if !works(alloc, form, wide, entries, expected)? {
             return Ok(false);
         }
     }

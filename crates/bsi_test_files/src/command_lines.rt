@@ -1,4 +1,4 @@
-//! How a command line ends, and how often its output is flushed.
+//! Tests of command lines: the status that each ends with, the line of its fault, and how often its output is flushed.
 
 use crate::runs::give_up;
 use bsi_fixtures::{EMPTY, NarrowWriter, TextReader};
@@ -18,7 +18,7 @@ use std::time::Clock;
 struct LineEnd {
     status: u8,
     output: Vec<u8>,
-    faults: Vec<u8>,
+    stderr: Vec<u8>,
     flushes: u64,
 }
 
@@ -46,22 +46,22 @@ fn end_once<
 >(rt: &R, line: Line<'_>) -> Result<LineEnd, AllocError> {
     let words = words_of(rt.alloc(), line.words)?;
     let mut output = NarrowWriter {
-        taken: Vec::with_capacity(rt.alloc(), 4096)?,
+        accepted: Vec::with_capacity(rt.alloc(), 4096)?,
         room: line.room,
         fails: line.fails,
         flushes: 0,
     };
-    let mut faults = Vec::with_capacity(rt.alloc(), 4096)?;
+    let mut stderr = Vec::with_capacity(rt.alloc(), 4096)?;
     let reader = TextReader {
         left: line.text.as_bytes(),
         fails: line.is_broken,
         ..EMPTY
     };
     Ok(LineEnd {
-        status: run_words(rt, words, reader, &mut output, &mut faults, &Go).status,
+        status: run_words(rt, words, reader, &mut output, &mut stderr, &Go).status,
         flushes: output.flushes,
-        output: output.taken,
-        faults,
+        output: output.accepted,
+        stderr,
     })
 }
 
@@ -71,7 +71,7 @@ fn end_of<
     S: Read + Write + OpenFile + LockFile + Drop + Send,
 >(rt: &R, line: Line<'_>) -> Result<LineEnd, AllocError> {
     match end_once(rt, line) {
-        Ok(end) if end.faults.as_slice() != b"bsi: no memory\n".as_slice() => Ok(end),
+        Ok(end) if end.stderr.as_slice() != b"bsi: no memory\n".as_slice() => Ok(end),
         _ => end_once(rt, line),
     }
 }
@@ -86,22 +86,22 @@ const PLAIN: Line<'static> = Line {
 };
 
 impl LineEnd {
-    // Whether the line ends so, tells this on its faults, and flushes its output once.
-    fn is(&self, status: u8, output: &str, faults: &str) -> bool {
+    // Whether the line ends so, writes this to standard error, and flushes its output once.
+    fn is(&self, status: u8, output: &str, stderr: &str) -> bool {
         self.status == status
             && self.flushes == 1
             && self.output.as_slice() == output.as_bytes()
-            && self.faults.as_slice() == faults.as_bytes()
+            && self.stderr.as_slice() == stderr.as_bytes()
     }
 }
 
-// Whether a line ends so, tells this on its faults and writes this.
+// Whether a line ends so, writes this to standard error and writes this.
 fn ends<
     R: AllocGlobal + Clock + Files<File = S> + Threads + Wait + Sync,
     S: Read + Write + OpenFile + LockFile + Drop + Send,
->(rt: &R, line: Line<'_>, status: u8, output: &str, faults: &str) -> bool {
+>(rt: &R, line: Line<'_>, status: u8, output: &str, stderr: &str) -> bool {
     match end_of(rt, line) {
-        Ok(end) => end.is(status, output, faults),
+        Ok(end) => end.is(status, output, stderr),
         Err(_) => false,
     }
 }
@@ -113,7 +113,7 @@ fn the_script_word_runs_the_script(rt: HostRuntime) {
 
 #[test]
 fn each_fault_has_its_text_and_status_one(rt: HostRuntime) {
-    for (is_broken, room, fails, wrote, want) in [
+    for (is_broken, room, fails, wrote, expected) in [
         (true, 99, false, "bad\nbad\n", "bsi: read failed\n"),
         (true, 99, true, "bad\nbad\n", "bsi: read failed\n"),
         (false, 6, true, "bad\nba", "bsi: write failed\n"),
@@ -126,7 +126,7 @@ fn each_fault_has_its_text_and_status_one(rt: HostRuntime) {
             fails,
             ..PLAIN
         };
-        assert!(rt; ends(&rt, line, 1, wrote, want), "at {want}");
+        assert!(rt; ends(&rt, line, 1, wrote, expected), "at {expected}");
     }
 }
 
@@ -162,13 +162,13 @@ fn unflushed<
     end_over(rt, schema.as_str(), rows.as_str())
 }
 
-// Whether such a run ends so. It gives none where the answer tells of refused memory.
+// Whether such a run ends so. It gives none where the answer is refused memory.
 fn is_unflushed<
     R: AllocGlobal + Clock + Files<File = S> + Threads + Wait + Sync,
     S: Read + Write + OpenFile + LockFile + Drop + Send,
 >(rt: &R) -> Option<bool> {
     let end = unflushed(rt).ok()?;
-    if end.faults.as_slice().ends_with(b"no memory\n") {
+    if end.stderr.as_slice().ends_with(b"no memory\n") {
         return None;
     }
     Some(end.is(1, "fed 0 1 0\n", "bsi: write failed\n"))
@@ -195,8 +195,8 @@ fn a_fault_of_files_before_a_flush_that_fails(rt: HostRuntime) {
     assert!(rt; ends(&rt, line, 1, "", "bsi: schema: no columns\n"));
 }
 
-// A kept index with a column `x` of one slice and no row, in words.
-const KEPT: [u64; 14] = [
+// A saved index with a column `x` of one slice and no row, in words.
+const SAVED: [u64; 14] = [
     0x0174_7065_6b69_7362,
     11,
     0,
@@ -219,7 +219,7 @@ fn unflushed_show<
     S: Read + Write + OpenFile + LockFile + Drop + Send,
 >(rt: &R) -> io::Result<LineEnd> {
     let (reader, mut writer) = io::pipe(rt)?;
-    for word in KEPT {
+    for word in SAVED {
         writer.write_all(&word.to_le_bytes())?;
     }
     drop(writer);
@@ -232,13 +232,13 @@ fn unflushed_show<
     Ok(end_once(rt, line)?)
 }
 
-// Whether it ends so. It gives none where the answer tells of refused memory.
+// Whether it ends so. It gives none where the answer is refused memory.
 fn is_unflushed_show<
     R: AllocGlobal + Clock + Files<File = S> + Threads + Wait + Sync,
     S: Read + Write + OpenFile + LockFile + Drop + Send,
 >(rt: &R) -> Option<bool> {
     let end = unflushed_show(rt).ok()?;
-    if end.faults.as_slice().ends_with(b"no memory\n") {
+    if end.stderr.as_slice().ends_with(b"no memory\n") {
         return None;
     }
     let shown = "column,x,slices,1\nlimit,1\nfeeders 1\nrows 0\nbytes x 0\n";
@@ -246,7 +246,7 @@ fn is_unflushed_show<
 }
 
 #[test]
-fn a_flush_of_a_kept_index_that_fails(rt: HostRuntime) {
+fn a_flush_of_a_saved_index_that_fails(rt: HostRuntime) {
     let mut done = is_unflushed_show(&rt);
     if done != Some(true) {
         give_up(&rt, done);

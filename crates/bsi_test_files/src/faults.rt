@@ -1,4 +1,4 @@
-//! Runs that a reader or a writer ends.
+//! Tests of runs over row files that end because the reader of the questions or the writer fails.
 
 use crate::inputs::{QUANTITIES, broken, text};
 use crate::runs::{RunInputs, ends};
@@ -16,8 +16,8 @@ fn a_reader_of_questions_that_fails(rt: HostRuntime) {
         asks: broken("x\n"),
         rows: &[text("qty\n1\n")],
     };
-    let told = Err(FilesFault::Read(Which::AsksFile));
-    assert!(rt; ends(&rt, files, told, b"fed 0 1 0\nbad\n"));
+    let fault = Err(FilesFault::Read(Which::AsksFile));
+    assert!(rt; ends(&rt, files, fault, b"fed 0 1 0\nbad\n"));
 }
 
 // What a writer of so much room takes of a run, and how that ends.
@@ -27,7 +27,7 @@ fn narrow_once<R: Threads + Wait + AllocGlobal + Sync>(
     fails: bool,
 ) -> Result<(Result<(), FilesFault>, Vec<u8>), AllocError> {
     let mut writer = NarrowWriter {
-        taken: Vec::with_capacity(rt.alloc(), 64)?,
+        accepted: Vec::with_capacity(rt.alloc(), 64)?,
         room,
         fails,
         flushes: 0,
@@ -37,26 +37,26 @@ fn narrow_once<R: Threads + Wait + AllocGlobal + Sync>(
         return Err(AllocError);
     }
     let run = run_files(rt, text(QUANTITIES), text("x\ny\n"), rows, &mut writer, &Go);
-    Ok((run, writer.taken))
+    Ok((run, writer.accepted))
 }
 
 // Whether the run ends as the writer fails, behind these bytes. It gives none where memory was refused.
 fn is_cut_once<R: Threads + Wait + AllocGlobal + Sync>(
     rt: &R,
     fails: bool,
-    want: &[u8],
+    expected: &[u8],
 ) -> Option<bool> {
-    match narrow_once(rt, want.len(), fails) {
+    match narrow_once(rt, expected.len(), fails) {
         Err(_)
         | Ok((Err(FilesFault::NoMemory | FilesFault::Source(_, SourceFault::NoMemory)), _)) => None,
-        Ok((run, taken)) => Some(run == Err(FilesFault::Write) && taken.as_slice() == want),
+        Ok((run, taken)) => Some(run == Err(FilesFault::Write) && taken.as_slice() == expected),
     }
 }
 
 // Where memory was refused, the run is made again.
-fn is_cut<R: Threads + Wait + AllocGlobal + Sync>(rt: &R, fails: bool, want: &[u8]) -> bool {
-    match is_cut_once(rt, fails, want) {
-        None => is_cut_once(rt, fails, want) == Some(true),
+fn is_cut<R: Threads + Wait + AllocGlobal + Sync>(rt: &R, fails: bool, expected: &[u8]) -> bool {
+    match is_cut_once(rt, fails, expected) {
+        None => is_cut_once(rt, fails, expected) == Some(true),
         Some(cut) => cut,
     }
 }

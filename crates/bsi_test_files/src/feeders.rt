@@ -1,5 +1,5 @@
-//! Feeders that read row files, on systems of their own. Each test tolerates one refused allocation, and then makes a
-//! new system.
+//! Tests of feeders that read row files, on systems of their own. A test tolerates one refused allocation, and then
+//! makes a further system.
 
 ghost use Rattle.std.specs.Prelude.{◌≡◌, [], IfSome, length};
 ghost use Rattle.bsi_rows.specs.Table.{no_rows};
@@ -8,7 +8,7 @@ ghost use Rattle.bsi_system.specs.Running.{IsFeederOf};
 use crate::gates::{Meeting, Patience};
 use crate::inputs::{Input, broken, text};
 use bsi_files::{FeedEnd, Gate, Go, feed};
-use bsi_system::{Feeder, History, LoadRefused, Loader, Naming, OpenRefused, System, open};
+use bsi_system::{Feeder, History, LoadRefused, Loader, OpenRefused, System, SystemTag, open};
 use bsi_table::{ColumnSpec, Schema};
 use bsi_text::{RowSource, SourceFault};
 use std::alloc::Global;
@@ -59,7 +59,7 @@ fn fed<R: Wait, G: Gate>(
     Some(end)
 }
 
-fn load<B: Naming>(loader: &mut Loader<B>, feeder: u32) -> Result<(), LoadRefused>
+fn load<B: SystemTag>(loader: &mut Loader<B>, feeder: u32) -> Result<(), LoadRefused>
     ensures { loader.new.system ≡ loader.old.system }
 {
     match loader.load(feeder) {
@@ -98,7 +98,7 @@ fn side_by_side<R: Threads + Wait + Sync>(
         move || fed(rt, alloc, first, 3, text("qty\n1\n2\n"), shared),
         move || fed(rt, alloc, second, 3, text("qty\n1\n2\n"), shared),
     );
-    if gate.is_late() {
+    if gate.may_follow_output() {
         return None;
     }
     let (one, two) = (is_whole(one), is_whole(two));
@@ -106,7 +106,7 @@ fn side_by_side<R: Threads + Wait + Sync>(
 }
 
 /// Returns whether two rows of the second feeder can be loaded, and no more.
-fn loads_two<B: Naming>(loader: &mut Loader<B>) -> bool {
+fn loads_two<B: SystemTag>(loader: &mut Loader<B>) -> bool {
     let one = load(loader, 1);
     let two = load(loader, 1);
     let none = load(loader, 1);
@@ -115,7 +115,7 @@ fn loads_two<B: Naming>(loader: &mut Loader<B>) -> bool {
 
 /// Feeds from a reader that fails behind two good rows and a bad one. It returns whether both good rows are accepted,
 /// and can be loaded.
-fn broken_reader<B: Naming, R: Wait>(
+fn broken_reader<B: SystemTag, R: Wait>(
     rt: &R,
     alloc: Global,
     loader: &mut Loader<B>,
@@ -147,7 +147,7 @@ fn another_schema<R: Wait>(rt: &R, alloc: Global, feeder: Feeder) -> Option<bool
     Some(ends(&end, 1, true) && gate.passes() == 3 && gate.tries() == 0)
 }
 
-fn play<B: Naming, R: Threads + Wait + Sync>(
+fn play<B: SystemTag, R: Threads + Wait + Sync>(
     rt: &R,
     alloc: Global,
     tried: Tried,
@@ -166,7 +166,7 @@ fn play<B: Naming, R: Threads + Wait + Sync>(
 }
 
 /// Tries it on a system of its own. It returns none if memory was refused.
-fn try_in<B: Naming, R: Threads + Wait + Sync>(
+fn try_in<B: SystemTag, R: Threads + Wait + Sync>(
     rt: &R,
     alloc: Global,
     tried: Tried,

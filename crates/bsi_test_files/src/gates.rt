@@ -1,15 +1,15 @@
-//! Gates of the tests.
+//! Gates that tests put between a feeder and its rows: `Meeting` holds two feeders, `Patience` counts calls.
 
 use bsi_files::{Gate, Stopping};
 use std::sync::Wait;
 use std::sync::atomic::{AtomicBool, AtomicU64, Ordering};
 use std::thread;
 
-/// How often a held feeder yields before it is late.
+/// How often a waiting feeder yields before it is late.
 pub(crate) const MAX_YIELDS: u64 = 10_000_000;
 
-// Holds feeder 0 before its first row until feeder 1 is before its second, and feeder 1 before its first until feeder 0
-// is before its first. On one thread, in whatever order, a feeder is late.
+// Stops feeder 0 before its first row until feeder 1 is before its second, and feeder 1 before its first until feeder
+// 0 is before its first. On one thread, in whatever order, a feeder is late.
 #[derive(Drop)]
 pub(crate) struct Meeting {
     first: AtomicBool,
@@ -26,7 +26,7 @@ impl Meeting {
         }
     }
 
-    pub(crate) fn is_late(&self) -> bool {
+    pub(crate) fn may_follow_output(&self) -> bool {
         self.late.load(Ordering::SeqCst)
     }
 

@@ -1,4 +1,4 @@
-//! Readers of the tests.
+//! Makes the readers that tests of runs give as files: of a text, of one that fails at its end, and of a long one.
 
 use bsi_fixtures::{EMPTY, TextReader};
 

@@ -1,4 +1,4 @@
-//! Which fault of a run is told first, and which rows a run names to its gate.
+//! Tests of which fault of a run over row files is reported first, and which rows a run names to its gate.
 
 use crate::inputs::{QUANTITIES, broken, long, text};
 use crate::runs::{RunInputs, end_once, ends, give_up, was_refused};
@@ -30,8 +30,8 @@ fn the_first_row_file_that_fails_is_told(rt: HostRuntime) {
             broken("qty\n"),
         ],
     };
-    let told = Err(FilesFault::Source(1, SourceFault::Read));
-    assert!(rt; ends(&rt, files, told, b""));
+    let fault = Err(FilesFault::Source(1, SourceFault::Read));
+    assert!(rt; ends(&rt, files, fault, b""));
 }
 
 #[test]
@@ -128,8 +128,8 @@ fn follows<R: Threads + Wait + AllocGlobal + Sync>(
     Some(ended.is(run, output) && tried && counted && calls(&gate.strange) == 0)
 }
 
-// Of 1,100 rows the ring takes a batch of 1,024, and the table 10 rows of it. The next batch finds no room. Rows for which
-// a batch finds no memory go one by one, and no answer tells of it.
+// Of 1,100 rows the ring takes a batch of 1,024, and the table 10 rows of it. The next batch finds no free slots. Rows
+// for which a batch finds no memory go one by one, and no answer reports it.
 #[test]
 fn a_feeder_that_stops_names_its_row(rt: HostRuntime) {
     let files = RunInputs {

@@ -1,4 +1,4 @@
-//! Whole runs over row files. Each tolerates one refused allocation, and then runs again.
+//! Tests of whole runs over row files. Each tolerates one refused allocation, and then runs again.
 
 use crate::gates::{MAX_YIELDS, Meeting, Patience};
 use crate::inputs::{Input, QUANTITIES, long, text};
@@ -114,7 +114,7 @@ fn is_met<R: Threads + Wait + AllocGlobal + Sync>(rt: &R) -> Option<bool> {
     if was_refused(&ended) {
         return None;
     }
-    Some(is_fed(&ended, b"fed 0 2 0\nfed 1 2 0\ncount 4\n") && !gate.is_late())
+    Some(is_fed(&ended, b"fed 0 2 0\nfed 1 2 0\ncount 4\n") && !gate.may_follow_output())
 }
 
 #[test]

@@ -1,4 +1,4 @@
-//! What a fault prints of itself, which no clause says.
+//! Tests that each fault of a script, a row file or a run prints its text, which no clause says.
 
 use bsi_files::{FilesFault, Which};
 use bsi_text::{ScriptFault, SourceFault};

@@ -1,7 +1,7 @@
-//! Batches of rows that go from a feeder to the loader at one step.
+//! Steps for `tests.rt`: a feeder sends batches of rows, which the loader loads, each at one step.
 
 use crate::calls::{load, publish, row, submit, sum_of};
-use bsi_system::{Analyst, BatchRefused, Feeder, LoadRefused, Loader, Naming, NoMemory};
+use bsi_system::{Analyst, BatchRefused, Feeder, LoadRefused, Loader, NoMemory, SystemTag};
 use bsi_table::{ColumnSpec, Index, Schema};
 use std::alloc::Global;
 use std::sync::Wait;
@@ -24,7 +24,7 @@ fn add(alloc: Global, batch: &mut Index, number: i128) -> Option<()> {
     Some(())
 }
 
-/// Sends a batch of two rows, of the numbers 2 and 3. Returns whether the feeder takes it.
+/// Sends a batch of two rows, of the numbers 2 and 3. Returns whether the feeder accepts it.
 fn submit_two(alloc: Global, feeder: &mut Feeder, width: u32) -> Option<bool> {
     let mut batch = match new_batch(alloc, width) {
         Err(_) => new_batch(alloc, width).ok()?,
@@ -35,7 +35,7 @@ fn submit_two(alloc: Global, feeder: &mut Feeder, width: u32) -> Option<bool> {
     Some(feeder.submit_batch(batch).is_ok())
 }
 
-fn load_batch<B: Naming>(loader: &mut Loader<B>) -> Result<usize, LoadRefused> {
+fn load_batch<B: SystemTag>(loader: &mut Loader<B>) -> Result<usize, LoadRefused> {
     match loader.load_batch(0) {
         Err(LoadRefused::NoMemory) => loader.load_batch(0),
         loaded => loaded,
@@ -44,7 +44,7 @@ fn load_batch<B: Naming>(loader: &mut Loader<B>) -> Result<usize, LoadRefused> {
 
 /// Returns whether a row and a batch of two are loaded, each at one step, and another batch row by row, with nothing
 /// behind it.
-fn load_all<B: Naming>(loader: &mut Loader<B>) -> bool {
+fn load_all<B: SystemTag>(loader: &mut Loader<B>) -> bool {
     let whole = load_batch(loader) == Ok(1) && load_batch(loader) == Ok(2);
     let first = load(loader, 0).is_ok();
     let second = load_batch(loader);
@@ -52,8 +52,8 @@ fn load_all<B: Naming>(loader: &mut Loader<B>) -> bool {
 }
 
 /// Sends a row, two batches of two, and a batch for another column, which comes back. Returns whether just that is so,
-/// and what was taken can be read.
-pub(crate) fn send_batches<B: Naming, R: Wait>(
+/// and what was popped can be read.
+pub(crate) fn send_batches<B: SystemTag, R: Wait>(
     rt: &R,
     alloc: Global,
     feeder: Feeder,
@@ -69,7 +69,7 @@ pub(crate) fn send_batches<B: Naming, R: Wait>(
     Some(sent && taken && !other && loaded && published && sum_of(analyst) == Some(11))
 }
 
-/// Sends a batch of so many rows. Returns whether the feeder takes it, or finds no room for it.
+/// Sends a batch of so many rows. Returns whether the feeder accepts it, or finds no slots for it.
 fn submit_many(alloc: Global, feeder: &mut Feeder, rows: u32) -> Option<bool> {
     let mut batch = new_batch(alloc, 3).ok()?;
     for _row in 0..rows {
@@ -83,15 +83,15 @@ fn submit_many(alloc: Global, feeder: &mut Feeder, rows: u32) -> Option<bool> {
 }
 
 /// Takes two batches of these lengths, one after the other. Returns whether they have them.
-fn take_two<B: Naming>(loader: &mut Loader<B>, first: usize, second: usize) -> bool {
+fn load_two<B: SystemTag>(loader: &mut Loader<B>, first: usize, second: usize) -> bool {
     let taken = load_batch(loader) == Ok(first);
     taken && load_batch(loader) == Ok(second)
 }
 
-/// Fills a ring of 1,024 places by two batches, so that a batch between them and a row behind them find no room, and
-/// takes the first out, so that the batch does. Once all are taken, the first fits again: the ring counts the places of
-/// each that was taken. Returns whether just that is so.
-pub(crate) fn fill_by_batches<B: Naming>(
+/// Fills a ring of 1,024 slots by two batches, so that a batch between them and a row behind them find no free slots,
+/// and takes the first out, so that the batch does. Once all are popped, the first fits again: the ring counts the
+/// slots of each that was popped. Returns whether just that is so.
+pub(crate) fn fill_by_batches<B: SystemTag>(
     alloc: Global,
     feeder: Feeder,
     loader: &mut Loader<B>,
@@ -103,6 +103,6 @@ pub(crate) fn fill_by_batches<B: Naming>(
     let full = most && !over && rest && !submit(alloc, &mut feeder, 1);
     let taken = load_batch(loader) == Ok(1_000);
     let fits = taken && submit_many(alloc, &mut feeder, 25)?;
-    let all = take_two(loader, 24, 25);
+    let all = load_two(loader, 24, 25);
     Some(full && fits && all && submit_many(alloc, &mut feeder, 1_000)?)
 }

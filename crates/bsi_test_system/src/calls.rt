@@ -3,10 +3,10 @@
 ghost use Rattle.std.specs.Prelude.{◌≡◌, ◌≤◌, [], All, IfSome, length};
 ghost use Rattle.bsi_rows.specs.Table.{no_rows};
 ghost use Rattle.bsi_system.specs.Running.{IsFeederOf};
-ghost use Rattle.bsi_versions.specs.Editions.{max_analysts};
+ghost use Rattle.bsi_snapshots.specs.Versions.{max_analysts};
 
 use bsi_system::{
-    Analyst, AnalystRefused, Feeder, History, LoadRefused, Loader, Naming, OpenRefused, System,
+    Analyst, AnalystRefused, Feeder, History, LoadRefused, Loader, OpenRefused, System, SystemTag,
     open,
 };
 use bsi_table::{Answer, AskError, ColumnSpec, Pred, Query, Row, Schema, Total};
@@ -26,7 +26,7 @@ pub(crate) fn row(alloc: Global, n: i128) -> Option<Row> {
     }
 }
 
-/// Sends a row of one number. It returns whether the feeder takes it.
+/// Sends a row of one number. It returns whether the feeder accepts it.
 pub(crate) fn submit(alloc: Global, feeder: &mut Feeder, n: i128) -> bool
     ensures number { feeder.new.number ≡ feeder.old.number }
     ensures channel { feeder.new.channel ≡ feeder.old.channel }
@@ -44,7 +44,7 @@ pub(crate) fn quantities(alloc: Global) -> Option<Schema> {
 }
 
 /// Opens a system. It returns none if memory is refused.
-pub(crate) fn opened<B: Naming, R: Wait>(
+pub(crate) fn opened<B: SystemTag, R: Wait>(
     rt: &R,
     alloc: Global,
     history: History,
@@ -69,7 +69,7 @@ pub(crate) fn opened<B: Naming, R: Wait>(
 }
 
 /// Loads the next row of a feeder. A load that finds no memory and changes nothing is made again.
-pub(crate) fn load<B: Naming>(loader: &mut Loader<B>, feeder: u32) -> Result<(), LoadRefused>
+pub(crate) fn load<B: SystemTag>(loader: &mut Loader<B>, feeder: u32) -> Result<(), LoadRefused>
     ensures { loader.new.system ≡ loader.old.system }
 {
     let before = loader.counts();
@@ -80,8 +80,8 @@ pub(crate) fn load<B: Naming>(loader: &mut Loader<B>, feeder: u32) -> Result<(),
 }
 
 /// Publishes, and returns how many rows are published. It returns none if memory is refused twice, or if a refusal
-/// changes what is held.
-pub(crate) fn publish<B: Naming, R: Wait>(rt: &R, loader: &mut Loader<B>) -> Option<u64>
+/// changes what is staged.
+pub(crate) fn publish<B: SystemTag, R: Wait>(rt: &R, loader: &mut Loader<B>) -> Option<u64>
     ensures { loader.new.system ≡ loader.old.system }
 {
     let before = loader.counts();
@@ -92,7 +92,7 @@ pub(crate) fn publish<B: Naming, R: Wait>(rt: &R, loader: &mut Loader<B>) -> Opt
     }
 }
 
-pub(crate) fn ask<B: Naming>(
+pub(crate) fn ask<B: SystemTag>(
     analyst: &mut Analyst<B>,
     total: Total,
 ) -> Result<Answer, AnalystRefused> {
@@ -106,14 +106,14 @@ pub(crate) fn ask<B: Naming>(
     }
 }
 
-pub(crate) fn count_of<B: Naming>(analyst: &mut Analyst<B>) -> Option<u64> {
+pub(crate) fn count_of<B: SystemTag>(analyst: &mut Analyst<B>) -> Option<u64> {
     match ask(analyst, Total::Count) {
         Ok(Answer::Count(count)) => Some(count),
         _ => None,
     }
 }
 
-pub(crate) fn sum_of<B: Naming>(analyst: &mut Analyst<B>) -> Option<i128> {
+pub(crate) fn sum_of<B: SystemTag>(analyst: &mut Analyst<B>) -> Option<i128> {
     match ask(analyst, Total::Sum(0)) {
         Ok(Answer::Sum(sum)) => Some(sum),
         _ => None,

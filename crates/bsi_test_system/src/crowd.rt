@@ -1,14 +1,14 @@
-//! Feeders, a loader and analysts on threads of their own.
+//! Tests of a running system of up to 64 feeders, a loader and 8 analysts, on threads of their own.
 
 ghost use Rattle.std.specs.Prelude.{◌≡◌, ◌≤◌, [], All, IfSome, length};
 ghost use Rattle.bsi_rows.specs.Table.{no_rows};
 ghost use Rattle.bsi_system.specs.Running.{IsFeederOf};
-ghost use Rattle.bsi_versions.specs.Editions.{max_analysts};
+ghost use Rattle.bsi_snapshots.specs.Versions.{max_analysts};
 
 use crate::calls::{count_of, load, opened, publish, went_right};
 use bsi_system::{
-    Analyst, AnalystRefused, Closing, Feeder, History, LoadRefused, Loader, Naming, NoMemory,
-    SubmitRefused, System, Told,
+    Analyst, AnalystRefused, Closing, Feeder, History, LoadRefused, Loader, NoMemory,
+    SubmitRefused, System, SystemTag, Told,
 };
 use bsi_table::{Answer, AskError, ColumnSpec, Op, Pred, Query, Row, Schema, Total};
 use std::alloc::Global;
@@ -32,14 +32,14 @@ struct Crowd {
 
 /// A list that was published, for an analyst to learn, and its length.
 #[derive(Drop)]
-struct Letter<B: Naming> {
+struct Letter<B: SystemTag> {
     told: Told<B>,
     len: u64,
 }
 
 /// What the threads share.
 #[derive(Drop)]
-struct Board<B: Naming> {
+struct Board<B: SystemTag> {
     /// The number of feeders that have ended.
     ended: AtomicU64,
     /// Whether all threads are to stop.
@@ -48,7 +48,7 @@ struct Board<B: Naming> {
     letters: Vec<Mutex<Option<Letter<B>>>>,
 }
 
-fn make_board<B: Naming>(
+fn make_board<B: SystemTag>(
     alloc: Global,
     analysts: usize,
 ) -> Result<Arc<Board<B>, Global>, NoMemory> {
@@ -91,7 +91,7 @@ fn make_row(alloc: Global, feeder: u32, place: u32) -> Result<Row, NoMemory> {
     Ok(Row::new(values))
 }
 
-/// Sends a row as soon as there is room for it. It returns false if the row does not fit, or if all threads are to
+/// Sends a row as soon as there is a slot for it. It returns false if the row does not fit, or if all threads are to
 /// stop.
 fn send(feeder: &mut Feeder, row: Row, over: &AtomicBool) -> bool
     ensures number { feeder.new.number ≡ feeder.old.number }
@@ -129,7 +129,7 @@ fn make_and_send(alloc: Global, feeder: &mut Feeder, place: u32, over: &AtomicBo
 }
 
 /// Sends all rows of a feeder, and closes it.
-fn feed<B: Naming>(alloc: Global, feeder: Feeder, rows: u32, board: &Board<B>) -> Option<Closing>
+fn feed<B: SystemTag>(alloc: Global, feeder: Feeder, rows: u32, board: &Board<B>) -> Option<Closing>
     ensures { IfSome result (λ c. (c.number ≡ feeder.number) × (c.channel ≡ feeder.channel)) }
 {
     let mut feeder = feeder;
@@ -144,7 +144,7 @@ fn feed<B: Naming>(alloc: Global, feeder: Feeder, rows: u32, board: &Board<B>) -
 }
 
 /// Starts the thread of a feeder. It returns none if no thread is made.
-fn start_feeder<B: Naming + Send + Sync + 'static, R: Threads>(
+fn start_feeder<B: SystemTag + Send + Sync + 'static, R: Threads>(
     rt: &R,
     alloc: Global,
     feeder: Feeder,
@@ -161,7 +161,7 @@ fn start_feeder<B: Naming + Send + Sync + 'static, R: Threads>(
 }
 
 /// Starts the thread of one more feeder. If no thread is made, it tells all threads to stop.
-fn start_next<B: Naming + Send + Sync + 'static, R: Threads>(
+fn start_next<B: SystemTag + Send + Sync + 'static, R: Threads>(
     rt: &R,
     alloc: Global,
     feeder: Feeder,
@@ -184,7 +184,7 @@ fn start_next<B: Naming + Send + Sync + 'static, R: Threads>(
 }
 
 /// Starts the threads of all feeders.
-fn start_feeders<B: Naming + Send + Sync + 'static, R: Threads>(
+fn start_feeders<B: SystemTag + Send + Sync + 'static, R: Threads>(
     rt: &R,
     alloc: Global,
     feeders: Vec<Feeder>,
@@ -206,7 +206,7 @@ fn start_feeders<B: Naming + Send + Sync + 'static, R: Threads>(
 // ---- The loader
 
 /// Loads the next row of each feeder that has one, and returns how many did.
-fn load_each<B: Naming>(loader: &mut Loader<B>, feeders: u32) -> u64
+fn load_each<B: SystemTag>(loader: &mut Loader<B>, feeders: u32) -> u64
     ensures { loader.new.system ≡ loader.old.system }
 {
     let mut loaded = 0u64;
@@ -219,7 +219,7 @@ fn load_each<B: Naming>(loader: &mut Loader<B>, feeders: u32) -> u64
 }
 
 /// Tells each analyst what is published.
-fn tell_each<B: Naming, R: Wait>(rt: &R, loader: &mut Loader<B>, board: &Board<B>)
+fn tell_each<B: SystemTag, R: Wait>(rt: &R, loader: &mut Loader<B>, board: &Board<B>)
     ensures { loader.new.system ≡ loader.old.system }
 {
     let (len, _) = loader.counts();
@@ -230,7 +230,7 @@ fn tell_each<B: Naming, R: Wait>(rt: &R, loader: &mut Loader<B>, board: &Board<B
 }
 
 /// Loads what is there, publishes it, and tells the analysts.
-fn go_round<B: Naming, R: Wait>(rt: &R, loader: &mut Loader<B>, feeders: u32, board: &Board<B>)
+fn go_round<B: SystemTag, R: Wait>(rt: &R, loader: &mut Loader<B>, feeders: u32, board: &Board<B>)
     ensures { loader.new.system ≡ loader.old.system }
 {
     if load_each(loader, feeders) == 0 {
@@ -242,7 +242,7 @@ fn go_round<B: Naming, R: Wait>(rt: &R, loader: &mut Loader<B>, feeders: u32, bo
 }
 
 /// Loads and publishes while the feeders run.
-fn serve<B: Naming, R: Wait>(
+fn serve<B: SystemTag, R: Wait>(
     rt: &R,
     loader: &mut Loader<B>,
     feeders: u32,
@@ -260,7 +260,7 @@ fn serve<B: Naming, R: Wait>(
 }
 
 /// Learns what a feeder sent, and loads what its ring still has. It returns false if that is not all.
-fn settle_one<B: Naming, R: Threads>(rt: &R, loader: &mut Loader<B>, sender: Sender) -> bool
+fn settle_one<B: SystemTag, R: Threads>(rt: &R, loader: &mut Loader<B>, sender: Sender) -> bool
     requires { IsFeederOf sender.promise.feeder.value loader.old.system }
     ensures { loader.new.system ≡ loader.old.system }
 {
@@ -272,7 +272,7 @@ fn settle_one<B: Naming, R: Threads>(rt: &R, loader: &mut Loader<B>, sender: Sen
 }
 
 /// Loads until the feeder has no more rows for good.
-fn load_rest<B: Naming>(loader: &mut Loader<B>, feeder: u32) -> bool
+fn load_rest<B: SystemTag>(loader: &mut Loader<B>, feeder: u32) -> bool
     ensures { loader.new.system ≡ loader.old.system }
 {
     'loads: for _ in 0..u64::MAX {
@@ -285,7 +285,11 @@ fn load_rest<B: Naming>(loader: &mut Loader<B>, feeder: u32) -> bool
 }
 
 /// Joins all feeders' threads, and loads all that they sent.
-fn settle_all<B: Naming, R: Threads>(rt: &R, loader: &mut Loader<B>, senders: Vec<Sender>) -> bool
+fn settle_all<B: SystemTag, R: Threads>(
+    rt: &R,
+    loader: &mut Loader<B>,
+    senders: Vec<Sender>,
+) -> bool
     requires { All (λ s. IsFeederOf s.promise.feeder.value loader.old.system) senders.items }
 {
     let mut settled = true;
@@ -299,17 +303,17 @@ fn settle_all<B: Naming, R: Threads>(rt: &R, loader: &mut Loader<B>, senders: Ve
 
 /// What an analyst's thread returns: the analyst, and whether its list never got shorter.
 #[derive(Drop)]
-struct Watched<B: Naming> {
+struct WatchEnd<B: SystemTag> {
     analyst: Analyst<B>,
-    kept: bool,
+    grew: bool,
 }
 
-fn take_letter<B: Naming>(board: &Board<B>, place: usize) -> Option<Letter<B>> {
+fn pop_letter<B: SystemTag>(board: &Board<B>, place: usize) -> Option<Letter<B>> {
     board.letters.get(place)?.try_lock()?.take()
 }
 
 /// Asks and learns, and asks again. It returns none if a list is shorter than one that the analyst knew.
-fn look<B: Naming>(analyst: &mut Analyst<B>, letter: Letter<B>, known: u64) -> Option<u64> {
+fn look<B: SystemTag>(analyst: &mut Analyst<B>, letter: Letter<B>, known: u64) -> Option<u64> {
     let Letter { told, len } = letter;
     let before = count_of(analyst)?;
     analyst.learn(told);
@@ -321,41 +325,41 @@ fn look<B: Naming>(analyst: &mut Analyst<B>, letter: Letter<B>, known: u64) -> O
 }
 
 /// Looks whenever a letter has come, until all threads are to stop and no letter is left.
-fn watch<B: Naming>(analyst: Analyst<B>, place: usize, board: &Board<B>) -> Watched<B> {
+fn watch<B: SystemTag>(analyst: Analyst<B>, place: usize, board: &Board<B>) -> WatchEnd<B> {
     let mut analyst = analyst;
     let mut known = 0;
-    let mut kept = true;
+    let mut grew = true;
     for _ in 0..u64::MAX {
         let over = board.over.load(Ordering::SeqCst);
-        match take_letter(board, place) {
+        match pop_letter(board, place) {
             Some(letter) => match look(&mut analyst, letter, known) {
                 Some(count) => known = count,
-                None => kept = false,
+                None => grew = false,
             },
             None if over => break,
             None => thread::yield_now(),
         }
     }
-    Watched { analyst, kept }
+    WatchEnd { analyst, grew }
 }
 
-fn start_analyst<B: Naming + Send + Sync + 'static, R: Threads>(
+fn start_analyst<B: SystemTag + Send + Sync + 'static, R: Threads>(
     rt: &R,
     analyst: Analyst<B>,
     place: usize,
     board: &Arc<Board<B>, Global>,
-) -> Option<JoinHandle<Watched<B>>> {
+) -> Option<JoinHandle<WatchEnd<B>>> {
     let board = Arc::try_clone(board).ok()?;
     thread::spawn(rt, move || watch(analyst, place, &board)).ok()
 }
 
 /// Starts the threads of all analysts. If one is not made, it tells all threads to stop.
-fn start_analysts<B: Naming + Send + Sync + 'static, R: Threads>(
+fn start_analysts<B: SystemTag + Send + Sync + 'static, R: Threads>(
     rt: &R,
     alloc: Global,
     analysts: Vec<Analyst<B>>,
     board: &Arc<Board<B>, Global>,
-) -> Option<Vec<JoinHandle<Watched<B>>>> {
+) -> Option<Vec<JoinHandle<WatchEnd<B>>>> {
     let mut watchers = Vec::with_capacity(alloc, analysts.len()).ok()?;
     for (place, analyst) in analysts.into_iter().enumerate() {
         let started = match start_analyst(rt, analyst, place, board) {
@@ -370,7 +374,7 @@ fn start_analysts<B: Naming + Send + Sync + 'static, R: Threads>(
 }
 
 /// Returns the rows that a query over one column selects.
-fn rows_at<B: Naming>(
+fn rows_at<B: SystemTag>(
     analyst: &mut Analyst<B>,
     column: u32,
     value: u32,
@@ -400,7 +404,12 @@ fn is_at(row: (u32, u64), column: u32, value: u32) -> bool {
 }
 
 /// Returns whether so many rows tell this value in a column, and each of them is there.
-fn has_its_rows<B: Naming>(analyst: &mut Analyst<B>, column: u32, value: u32, many: u32) -> bool {
+fn has_its_rows<B: SystemTag>(
+    analyst: &mut Analyst<B>,
+    column: u32,
+    value: u32,
+    many: u32,
+) -> bool {
     match rows_at(analyst, column, value) {
         Some(rows) => {
             rows.len() == many as usize && rows.iter().all(|row| is_at(*row, column, value))
@@ -410,7 +419,7 @@ fn has_its_rows<B: Naming>(analyst: &mut Analyst<B>, column: u32, value: u32, ma
 }
 
 /// Returns whether each of so many values of a column has so many rows, which are where they tell that they are.
-fn have_their_rows<B: Naming>(
+fn have_their_rows<B: SystemTag>(
     analyst: &mut Analyst<B>,
     column: u32,
     values: u32,
@@ -424,14 +433,14 @@ fn have_their_rows<B: Naming>(
 }
 
 /// Joins an analyst's thread. It returns the analyst if its list never got shorter and it sees all rows at the end.
-fn join_analyst<B: Naming, R: Threads>(
+fn join_analyst<B: SystemTag, R: Threads>(
     rt: &R,
-    watcher: JoinHandle<Watched<B>>,
+    watcher: JoinHandle<WatchEnd<B>>,
     all: u64,
 ) -> Option<Analyst<B>> {
-    let Watched { analyst, kept } = watcher.join(rt);
+    let WatchEnd { analyst, grew } = watcher.join(rt);
     let mut analyst = analyst;
-    if kept && count_of(&mut analyst) == Some(all) {
+    if grew && count_of(&mut analyst) == Some(all) {
         Some(analyst)
     } else {
         None
@@ -440,9 +449,9 @@ fn join_analyst<B: Naming, R: Threads>(
 
 /// Joins all analysts' threads, and returns the last analyst. It returns none if one of them is wrong, or if there is
 /// none.
-fn join_analysts<B: Naming, R: Threads>(
+fn join_analysts<B: SystemTag, R: Threads>(
     rt: &R,
-    watchers: Vec<JoinHandle<Watched<B>>>,
+    watchers: Vec<JoinHandle<WatchEnd<B>>>,
     all: u64,
 ) -> Option<Analyst<B>> {
     let mut right = true;
@@ -458,14 +467,14 @@ fn join_analysts<B: Naming, R: Threads>(
 
 /// All threads of a run, and what they share.
 #[derive(Drop)]
-struct Started<B: Naming> {
+struct Started<B: SystemTag> {
     board: Arc<Board<B>, Global>,
     senders: Vec<Sender>,
-    watchers: Vec<JoinHandle<Watched<B>>>,
+    watchers: Vec<JoinHandle<WatchEnd<B>>>,
 }
 
 /// Starts all threads. It returns none if memory for them is refused beforehand.
-fn start<B: Naming + Send + Sync + 'static, R: Threads>(
+fn start<B: SystemTag + Send + Sync + 'static, R: Threads>(
     rt: &R,
     alloc: Global,
     rows: u32,
@@ -494,7 +503,7 @@ fn start<B: Naming + Send + Sync + 'static, R: Threads>(
 }
 
 /// Serves the feeders to their end, and publishes all that they sent.
-fn finish<B: Naming, R: Threads + Wait>(
+fn finish<B: SystemTag, R: Threads + Wait>(
     rt: &R,
     loader: &mut Loader<B>,
     board: &Board<B>,
@@ -512,7 +521,7 @@ fn finish<B: Naming, R: Threads + Wait>(
 }
 
 /// Runs a crowd, and returns whether all went right. It returns none if memory is refused for one of its threads.
-fn run<B: Naming + Send + Sync + 'static, R: Threads + Wait>(
+fn run<B: SystemTag + Send + Sync + 'static, R: Threads + Wait>(
     rt: &R,
     alloc: Global,
     crowd: Crowd,
@@ -537,7 +546,7 @@ fn run<B: Naming + Send + Sync + 'static, R: Threads + Wait>(
     Some(loaded && has_all_rows(last, crowd))
 }
 
-fn has_all_rows<B: Naming>(analyst: Option<Analyst<B>>, crowd: Crowd) -> bool {
+fn has_all_rows<B: SystemTag>(analyst: Option<Analyst<B>>, crowd: Crowd) -> bool {
     match analyst {
         Some(analyst) => {
             let mut analyst = analyst;
@@ -548,7 +557,7 @@ fn has_all_rows<B: Naming>(analyst: Option<Analyst<B>>, crowd: Crowd) -> bool {
     }
 }
 
-fn run_in<B: Naming + Send + Sync + 'static, R: Threads + Wait>(
+fn run_in<B: SystemTag + Send + Sync + 'static, R: Threads + Wait>(
     rt: &R,
     alloc: Global,
     crowd: Crowd,
@@ -586,7 +595,7 @@ fn senders_and_places(alloc: Global) -> Option<Schema> {
     Some(schema)
 }
 
-/// Returns the capacities of the rings: one place and two places by turns.
+/// Returns the capacities of the rings: one slot and two slots by turns.
 fn small_rings(alloc: Global, feeders: u32) -> Option<Vec<u32>> {
     let mut capacities = Vec::with_capacity(alloc, feeders as usize).ok()?;
     for feeder in 0..feeders {

@@ -1,7 +1,9 @@
-//! Many queries over one index, on several threads.
+//! Tests that many questions over one index, answered by several threads, are replied to in their order.
 
 use crate::calls::{quantities, row};
-use bsi_parallel::ask_all;
+use bsi_aggregates::QuestionReply;
+use bsi_answers::answer_each;
+use bsi_rows::Question;
 use bsi_table::{Answer, AskError, Index, Pred, Query, Total};
 use std::alloc::Global;
 use std::thread::Threads;
@@ -21,8 +23,8 @@ fn two_rows(alloc: Global) -> Option<Index> {
     Some(index)
 }
 
-fn five_queries(alloc: Global) -> Option<Vec<Query>> {
-    let mut queries = Vec::new(alloc);
+fn five_questions(alloc: Global) -> Option<Vec<Question>> {
+    let mut questions = Vec::new(alloc);
     for total in [
         Total::Count,
         Total::Sum(0),
@@ -31,31 +33,38 @@ fn five_queries(alloc: Global) -> Option<Vec<Query>> {
         Total::Rank(0, 1),
     ] {
         let pred = Pred::All;
-        queries.push(Query { total, pred }).ok()?;
+        questions.push(Question::Total(Query { total, pred })).ok()?;
     }
-    Some(queries)
+    questions.push(Question::Distinct(0, Pred::All)).ok()?;
+    Some(questions)
 }
 
-// Whether each query has the reply that is its own. It gives none where memory was refused.
+// The number that a reply to one of these questions has. It gives none where memory was refused.
+fn number_of(reply: &QuestionReply) -> Option<i128> {
+    match reply {
+        QuestionReply::Total(Ok(Answer::Count(count))) => Some(i128::from(*count)),
+        QuestionReply::Total(Ok(Answer::Sum(sum))) => Some(*sum),
+        QuestionReply::Total(Ok(Answer::Value(Some(number)))) => Some(i128::from(*number)),
+        QuestionReply::Total(Err(AskError::BadColumn(_))) => Some(-1),
+        QuestionReply::Distinct(Ok(count)) => Some(i128::from(*count)),
+        _ => None,
+    }
+}
+
+// Whether each question has the reply that is its own. It gives none where memory was refused.
 fn are_in_order<R: Threads + AllocGlobal + Sync>(rt: &R) -> Option<bool> {
     let index = two_rows(rt.alloc())?;
-    let queries = five_queries(rt.alloc())?;
-    let replies = ask_all(rt, rt.alloc(), &index, &queries).ok()?;
-    if replies.contains(&Err(AskError::NoMemory)) {
-        return None;
+    let questions = five_questions(rt.alloc())?;
+    let replies = answer_each(rt, rt.alloc(), &index, &questions).ok()?;
+    let mut numbers = Vec::new(rt.alloc());
+    for reply in &replies {
+        numbers.push(number_of(reply)?).ok()?;
     }
-    let wanted = [
-        Ok(Answer::Count(2)),
-        Ok(Answer::Sum(9)),
-        Err(AskError::BadColumn(1)),
-        Ok(Answer::Value(Some(2))),
-        Ok(Answer::Value(Some(7))),
-    ];
-    Some(replies.as_slice() == wanted.as_slice())
+    Some(numbers.as_slice() == [2, 9, -1, 2, 7, 2].as_slice())
 }
 
 #[test]
-fn replies_stand_in_order_of_the_queries(rt: HostRuntime) {
+fn replies_come_in_order_of_the_questions(rt: HostRuntime) {
     let done = match are_in_order(&rt) {
         None => are_in_order(&rt),
         done => done,

@@ -1,15 +1,15 @@
-//! What the ends of a running system refuse, and what they do without memory, in one thread.
+//! Steps for `tests.rt`: what the ends of a running system refuse, and what they do without memory, in one thread.
 
 ghost use Rattle.std.specs.Prelude.{◌≡◌};
 ghost use Rattle.bsi_system.specs.Running.{IsFeederOf, IsClosingOf};
 
 use crate::calls::{load, publish, row, submit};
-use bsi_system::{Analyst, Closing, Feeder, LoadRefused, Loader, Naming, SettleRefused};
+use bsi_system::{Analyst, Closing, Feeder, LoadRefused, Loader, SettleRefused, SystemTag};
 use bsi_table::Row;
 use std::alloc::Global;
 use std::sync::Wait;
 
-/// Fills the first feeder's ring, which has one place, so that a second row comes back, and sends a row of the other
+/// Fills the first feeder's ring, which has one slot, so that a second row comes back, and sends a row of the other
 /// feeder. It returns whether just that is so.
 fn fill(alloc: Global, first: &mut Feeder, second: &mut Feeder) -> bool
     ensures number { second.new.number ≡ second.old.number }
@@ -23,17 +23,17 @@ fn fill(alloc: Global, first: &mut Feeder, second: &mut Feeder) -> bool
 
 /// Loads one row into the table. It returns whether the table refuses the other feeder's row, which is to stay in its
 /// ring.
-fn load_to_the_limit<B: Naming>(loader: &mut Loader<B>) -> bool
+fn load_to_the_limit<B: SystemTag>(loader: &mut Loader<B>) -> bool
     ensures { loader.new.system ≡ loader.old.system }
 {
-    let taken = load(loader, 0);
+    let loaded = load(loader, 0);
     let none = load(loader, 0);
     let full = load(loader, 1);
-    taken == Ok(()) && none == Err(LoadRefused::Empty) && full == Err(LoadRefused::IndexFull)
+    loaded == Ok(()) && none == Err(LoadRefused::Empty) && full == Err(LoadRefused::IndexFull)
 }
 
 /// Tells a closing as another feeder's, gets it back, and then tells it as what it is. It returns whether that is so.
-fn settle_as_both<B: Naming>(loader: &mut Loader<B>, closing: Closing) -> bool
+fn settle_as_both<B: SystemTag>(loader: &mut Loader<B>, closing: Closing) -> bool
     requires { IsClosingOf closing loader.old.system }
     ensures { loader.new.system ≡ loader.old.system }
 {
@@ -44,14 +44,14 @@ fn settle_as_both<B: Naming>(loader: &mut Loader<B>, closing: Closing) -> bool
 }
 
 /// Returns whether a closing changes nothing of the full table, whose one row is then published.
-fn publish_the_one<B: Naming, R: Wait>(rt: &R, loader: &mut Loader<B>) -> bool {
+fn publish_the_one<B: SystemTag, R: Wait>(rt: &R, loader: &mut Loader<B>) -> bool {
     let full = load(loader, 1);
     let counts = loader.counts();
     full == Err(LoadRefused::IndexFull) && counts == (0, 1) && publish(rt, loader) == Some(1)
 }
 
 /// Plays on a system whose rings and whose table get full.
-pub(crate) fn refuse<B: Naming, R: Wait>(
+pub(crate) fn refuse<B: SystemTag, R: Wait>(
     rt: &R,
     alloc: Global,
     first: Feeder,
@@ -85,7 +85,7 @@ fn make_three(alloc: Global) -> Option<ThreeRows> {
 }
 
 /// Sends a row, loads it and publishes it. It returns whether all of that is done.
-fn publish_one<B: Naming, R: Wait>(
+fn publish_one<B: SystemTag, R: Wait>(
     rt: &R,
     alloc: Global,
     feeder: &mut Feeder,
@@ -101,7 +101,7 @@ fn publish_one<B: Naming, R: Wait>(
     sent && loaded && published
 }
 
-/// Sends three rows to a ring of two places. It returns whether just the third one comes back.
+/// Sends three rows to a ring of two slots. It returns whether just the third one comes back.
 fn send_three(feeder: &mut Feeder, rows: ThreeRows) -> bool
     ensures number { feeder.new.number ≡ feeder.old.number }
     ensures channel { feeder.new.channel ≡ feeder.old.channel }
@@ -113,7 +113,7 @@ fn send_three(feeder: &mut Feeder, rows: ThreeRows) -> bool
 }
 
 /// Makes the calls that allocate no memory. It returns whether they do what they should.
-fn call_with_none<B: Naming>(
+fn call_with_none<B: SystemTag>(
     feeder: Feeder,
     loader: &mut Loader<B>,
     analyst: &mut Analyst<B>,
@@ -132,7 +132,7 @@ fn call_with_none<B: Naming>(
 }
 
 /// Makes those calls behind a probe, from which on nothing asks for memory: each later allocation may be refused too.
-pub(crate) fn need_none<B: Naming, R: Wait>(
+pub(crate) fn need_none<B: SystemTag, R: Wait>(
     rt: &R,
     alloc: Global,
     feeder: Feeder,

@@ -1,4 +1,4 @@
-//! Worked rows on a running system, in one thread. Each test tolerates one refused allocation.
+//! Tests of a running system on worked rows, in one thread. Each tolerates one refused allocation.
 
 ghost use Rattle.std.specs.Prelude.{◌≡◌, [], All, length};
 ghost use Rattle.bsi_rows.specs.Table.{no_rows};
@@ -7,7 +7,9 @@ ghost use Rattle.bsi_system.specs.Running.{IsFeederOf};
 use crate::batches::{fill_by_batches, send_batches};
 use crate::calls::{ask, count_of, load, opened, publish, quantities, submit, sum_of, went_right};
 use crate::refusals::{need_none, refuse};
-use bsi_system::{Analyst, AnalystRefused, Feeder, History, LoadRefused, Loader, Naming, System};
+use bsi_system::{
+    Analyst, AnalystRefused, Feeder, History, LoadRefused, Loader, System, SystemTag,
+};
 use bsi_table::{Answer, AskError, Schema, Total};
 use std::alloc::Global;
 use std::marker::Brand;
@@ -38,19 +40,19 @@ fn send(alloc: Global, feeder: &mut Feeder) -> bool
 }
 
 /// Holds one row. It returns whether no analyst sees it.
-fn load_first<B: Naming>(loader: &mut Loader<B>, analyst: &mut Analyst<B>) -> bool
+fn load_first<B: SystemTag>(loader: &mut Loader<B>, analyst: &mut Analyst<B>) -> bool
     ensures { loader.new.system ≡ loader.old.system }
 {
     let before = count_of(analyst);
     let loaded = load(loader, 0);
     let unknown = load(loader, 9);
     let counts = loader.counts();
-    let held = loaded == Ok(()) && unknown == Err(LoadRefused::UnknownFeeder) && counts == (0, 1);
-    held && before == Some(0) && count_of(analyst) == Some(0)
+    let staged = loaded == Ok(()) && unknown == Err(LoadRefused::UnknownFeeder) && counts == (0, 1);
+    staged && before == Some(0) && count_of(analyst) == Some(0)
 }
 
 /// Closes the feeder, and tells the loader.
-fn settle<B: Naming>(loader: &mut Loader<B>, feeder: Feeder) -> Option<()>
+fn settle<B: SystemTag>(loader: &mut Loader<B>, feeder: Feeder) -> Option<()>
     requires { IsFeederOf feeder loader.old.system }
     ensures { loader.new.system ≡ loader.old.system }
 {
@@ -59,14 +61,14 @@ fn settle<B: Naming>(loader: &mut Loader<B>, feeder: Feeder) -> Option<()>
 }
 
 /// Loads the last row of a settled feeder. It returns whether there is none behind it.
-fn load_last<B: Naming>(loader: &mut Loader<B>) -> bool {
+fn load_last<B: SystemTag>(loader: &mut Loader<B>) -> bool {
     let last = load(loader, 0);
     let ended = load(loader, 0);
     last == Ok(()) && ended == Err(LoadRefused::Ended)
 }
 
 /// Returns whether an analyst lists the two rows.
-fn lists_both<B: Naming>(analyst: &mut Analyst<B>) -> bool {
+fn lists_both<B: SystemTag>(analyst: &mut Analyst<B>) -> bool {
     match ask(analyst, Total::Rows) {
         Ok(Answer::Rows(rows)) => rows.as_slice() == &[(0, 0), (0, 1)][..],
         _other => false,
@@ -74,7 +76,7 @@ fn lists_both<B: Naming>(analyst: &mut Analyst<B>) -> bool {
 }
 
 /// Returns whether an analyst is told that there is no second column.
-fn lacks_a_column<B: Naming>(analyst: &mut Analyst<B>) -> bool {
+fn lacks_a_column<B: SystemTag>(analyst: &mut Analyst<B>) -> bool {
     match ask(analyst, Total::Sum(1)) {
         Err(AnalystRefused::Ask(AskError::BadColumn(1))) => true,
         _other => false,
@@ -82,7 +84,7 @@ fn lacks_a_column<B: Naming>(analyst: &mut Analyst<B>) -> bool {
 }
 
 /// Publishes the two rows, twice, and tells an analyst of them. It returns whether that is so.
-fn publish_both<B: Naming, R: Wait>(
+fn publish_both<B: SystemTag, R: Wait>(
     rt: &R,
     loader: &mut Loader<B>,
     analyst: &mut Analyst<B>,
@@ -93,8 +95,8 @@ fn publish_both<B: Naming, R: Wait>(
     once == Some(2) && again == Some(2)
 }
 
-/// Sends two rows, holds and publishes them, and reads them with an analyst who was told of them.
-fn read_back<B: Naming, R: Wait>(
+/// Sends two rows, stages and publishes them, and reads them with an analyst who was told of them.
+fn read_back<B: SystemTag, R: Wait>(
     rt: &R,
     alloc: Global,
     feeder: Feeder,
@@ -106,15 +108,15 @@ fn read_back<B: Naming, R: Wait>(
 {
     let mut feeder = feeder;
     let sent = send(alloc, &mut feeder);
-    let held = load_first(loader, first);
+    let staged = load_first(loader, first);
     settle(loader, feeder)?;
     let loaded = load_last(loader);
     let published = publish_both(rt, loader, second);
     let read = sum_of(second) == Some(11) && lists_both(second) && lacks_a_column(second);
-    Some(sent && held && loaded && published && read)
+    Some(sent && staged && loaded && published && read)
 }
 
-/// Sends two rows, and drops the feeder without closing it. It returns whether both are taken.
+/// Sends two rows, and drops the feeder without closing it. It returns whether both are loaded.
 fn send_and_drop(alloc: Global, feeder: Feeder) -> bool {
     let mut feeder = feeder;
     let one = submit(alloc, &mut feeder, 1);
@@ -123,7 +125,7 @@ fn send_and_drop(alloc: Global, feeder: Feeder) -> bool {
 }
 
 /// Drops a feeder without closing it. It returns whether its rows can be loaded, and read.
-fn dropped_feeder<B: Naming, R: Wait>(
+fn dropped_feeder<B: SystemTag, R: Wait>(
     rt: &R,
     alloc: Global,
     feeder: Feeder,
@@ -140,7 +142,7 @@ fn dropped_feeder<B: Naming, R: Wait>(
 }
 
 /// Sends a row, loads it and publishes it, and returns how many rows are published.
-fn publish_row<B: Naming, R: Wait>(
+fn publish_row<B: SystemTag, R: Wait>(
     rt: &R,
     alloc: Global,
     feeder: &mut Feeder,
@@ -158,7 +160,7 @@ fn publish_row<B: Naming, R: Wait>(
 }
 
 /// Tells an analyst of two publishes, the later one first. It returns whether the analyst sees that one twice.
-fn told<B: Naming, R: Wait>(
+fn told<B: SystemTag, R: Wait>(
     rt: &R,
     alloc: Global,
     feeder: Feeder,
@@ -177,7 +179,7 @@ fn told<B: Naming, R: Wait>(
     one == Some(1) && two == Some(2) && counted && sum_of(analyst) == Some(11)
 }
 
-/// Sends three rows. It returns whether all are taken.
+/// Sends three rows. It returns whether all are accepted.
 fn send_three(alloc: Global, feeder: &mut Feeder) -> bool
     ensures number { feeder.new.number ≡ feeder.old.number }
     ensures channel { feeder.new.channel ≡ feeder.old.channel }
@@ -189,7 +191,7 @@ fn send_three(alloc: Global, feeder: &mut Feeder) -> bool
 }
 
 /// Holds two rows and then publishes them. It returns whether they are not seen before.
-fn hold_and_publish<B: Naming, R: Wait>(
+fn stage_and_publish<B: SystemTag, R: Wait>(
     rt: &R,
     loader: &mut Loader<B>,
     analyst: &mut Analyst<B>,
@@ -198,15 +200,15 @@ fn hold_and_publish<B: Naming, R: Wait>(
 {
     let one = load(loader, 0);
     let two = load(loader, 0);
-    let held = loader.counts();
+    let staged = loader.counts();
     let unseen = count_of(analyst);
     let published = publish(rt, loader);
-    let loaded = one == Ok(()) && two == Ok(()) && held == (0, 2);
+    let loaded = one == Ok(()) && two == Ok(()) && staged == (0, 2);
     loaded && unseen == Some(0) && published == Some(2) && loader.counts() == (2, 0)
 }
 
 /// Holds two rows and publishes them, and loads a third once its feeder is settled.
-fn refused_memory<B: Naming, R: Wait>(
+fn refused_memory<B: SystemTag, R: Wait>(
     rt: &R,
     alloc: Global,
     feeder: Feeder,
@@ -217,7 +219,7 @@ fn refused_memory<B: Naming, R: Wait>(
 {
     let mut feeder = feeder;
     let sent = send_three(alloc, &mut feeder);
-    let published = hold_and_publish(rt, loader, analyst);
+    let published = stage_and_publish(rt, loader, analyst);
     settle(loader, feeder)?;
     let loaded = load_last(loader);
     Some(sent && published && loaded && loader.counts() == (2, 1))
@@ -225,7 +227,7 @@ fn refused_memory<B: Naming, R: Wait>(
 
 /// Plays a test, and returns whether all went as it should. It returns none if memory is refused for what the test
 /// needs.
-fn play<B: Naming, R: Wait>(
+fn play<B: SystemTag, R: Wait>(
     rt: &R,
     alloc: Global,
     worked: Worked,
@@ -253,10 +255,10 @@ fn play<B: Naming, R: Wait>(
 }
 
 /// Ends a loader as its table. It returns whether that has all rows. It returns none if memory is refused.
-fn end_as_table<B: Naming, R: Wait>(rt: &R, loader: Loader<B>) -> Option<bool> {
-    let (published, held) = loader.counts();
+fn end_as_table<B: SystemTag, R: Wait>(rt: &R, loader: Loader<B>) -> Option<bool> {
+    let (published, staged) = loader.counts();
     match loader.into_table(rt) {
-        Ok(table) => Some(published.checked_add(held) == Some(table.len())),
+        Ok(table) => Some(published.checked_add(staged) == Some(table.len())),
         Err(loader) => {
             loader.end(rt);
             None
@@ -265,7 +267,7 @@ fn end_as_table<B: Naming, R: Wait>(rt: &R, loader: Loader<B>) -> Option<bool> {
 }
 
 /// Ends the loader of a test, as its table where memory may be taken. It returns whether all went as it should.
-fn end<B: Naming, R: Wait>(rt: &R, worked: Worked, loader: Loader<B>) -> Option<bool> {
+fn end<B: SystemTag, R: Wait>(rt: &R, worked: Worked, loader: Loader<B>) -> Option<bool> {
     match worked {
         Worked::NoMemory => {
             loader.end(rt);
@@ -276,7 +278,7 @@ fn end<B: Naming, R: Wait>(rt: &R, worked: Worked, loader: Loader<B>) -> Option<
 }
 
 /// Plays a test on a system of its own.
-fn work_in<B: Naming, R: Wait>(
+fn work_in<B: SystemTag, R: Wait>(
     rt: &R,
     alloc: Global,
     worked: Worked,
@@ -298,7 +300,7 @@ fn work_in<B: Naming, R: Wait>(
     Some(played? && ended?)
 }
 
-/// Returns how many places the feeders' rings have, and the limit of rows.
+/// Returns how many slots the feeders' rings have, and the limit of rows.
 fn sizes(worked: Worked) -> (&'static [u32], u64) {
     match worked {
         Worked::Refusals => (&[1, 2], 1),

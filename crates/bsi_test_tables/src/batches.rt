@@ -1,5 +1,5 @@
-//! Blocks of rows that an index appends, row by row or column by column, and indexes that take all rows of another one.
-//! Where memory is refused, the same call is made again.
+//! Tests of blocks that an index appends, row by row or column by column, and of indexes that take all rows of another
+//! one. Where memory is refused, the same call is made again.
 
 use crate::tables::{answer, index_of, lists};
 use bsi_columns::{NoMemory, Op};
@@ -39,7 +39,7 @@ fn fill(block: &mut Block, rows: u32, row: &Row) -> bool {
 
 // A refused growth changes nothing, and the same call is made again.
 fn append(index: &mut Index, block: &Block) -> Option<Result<u64, AppendError>> {
-    if !index.takes(block) {
+    if !index.accepts(block) {
         return None;
     }
     let before = index.len();
@@ -67,7 +67,7 @@ fn fill_batch(alloc: Global, batch: &mut Index) -> Result<bool, NoMemory> {
 
 // A refused growth changes nothing, and the same call is made again.
 fn join(index: &mut Index, batch: &Index) -> Option<Result<u64, AppendError>> {
-    if !index.is_kept_like(batch) {
+    if !index.is_encoded_like(batch) {
         return None;
     }
     let before = index.len();
@@ -91,7 +91,7 @@ fn is_filled_again(alloc: Global, batch: &mut Index) -> Result<bool, NoMemory> {
     let row = row_of(alloc, &[Some(7)])?;
     let mut block = block_of(batch)?;
     batch.clear();
-    if !fill(&mut block, 64, &row) || !batch.takes(&block) {
+    if !fill(&mut block, 64, &row) || !batch.accepts(&block) {
         return Ok(false);
     }
     let first = batch.append_block(&block);
@@ -99,23 +99,23 @@ fn is_filled_again(alloc: Global, batch: &mut Index) -> Result<bool, NoMemory> {
     Ok(first == Ok(0) && sum == Ok(Answer::Sum(448)))
 }
 
-fn takes_a_batch(alloc: Global, index: &mut Index) -> Result<bool, IndexError> {
+fn appends_a_batch(alloc: Global, index: &mut Index) -> Result<bool, IndexError> {
     let mut batch = batch_like(index)?;
     let filled = fill_batch(alloc, &mut batch)?;
     Ok(filled && joins_twice(index, &batch) && is_filled_again(alloc, &mut batch)?)
 }
 
-fn takes_batches(alloc: Global, form: TestForm) -> Result<bool, IndexError> {
+fn appends_batches(alloc: Global, form: TestForm) -> Result<bool, IndexError> {
     let column = DeclaredColumn { form, ..QTY };
     let mut index = index_of(alloc, &[column], 2, 200)?;
-    takes_a_batch(alloc, &mut index)
+    appends_a_batch(alloc, &mut index)
 }
 
 #[test]
-fn batches_behind_each_other(rt: HostRuntime) {
+fn batches_one_after_another(rt: HostRuntime) {
     for form in FORMS {
         assert!(rt;
-            matches!(takes_batches(rt.alloc(), form), Ok(true)),
+            matches!(appends_batches(rt.alloc(), form), Ok(true)),
             "{form:?}"
         );
     }
@@ -153,12 +153,12 @@ fn append_fitting(index: &mut Index, block: &Block) -> Result<Option<u64>, NoMem
 }
 
 // Whether the rows go in behind each other, as a block of the index and as one of other offsets.
-fn takes_columns(index: &mut Index, other: &Index) -> Result<bool, NoMemory> {
+fn appends_columns(index: &mut Index, other: &Index) -> Result<bool, NoMemory> {
     let (Some(own), Some(moved)) = (columns_of(index)?, columns_of(other)?) else {
         return Ok(false);
     };
-    let taken = append(index, &own) == Some(Ok(0)) && !index.takes(&moved);
-    Ok(taken && append_fitting(index, &moved)? == Some(3))
+    let appended = append(index, &own) == Some(Ok(0)) && !index.accepts(&moved);
+    Ok(appended && append_fitting(index, &moved)? == Some(3))
 }
 
 // Whether the index has the rows of both blocks.
@@ -184,21 +184,21 @@ fn two_columns(alloc: Global, form: TestForm, offsets: [i64; 2]) -> Result<Index
     index_of(alloc, &[first, second], 1, 10)
 }
 
-fn takes_both(alloc: Global, form: TestForm, index: &mut Index) -> Result<bool, IndexError> {
+fn appends_both(alloc: Global, form: TestForm, index: &mut Index) -> Result<bool, IndexError> {
     let other = two_columns(alloc, form, [-1, 0])?;
-    Ok(takes_columns(index, &other)? && has_columns(index))
+    Ok(appends_columns(index, &other)? && has_columns(index))
 }
 
-fn takes_blocks(alloc: Global, form: TestForm) -> Result<bool, IndexError> {
+fn appends_blocks(alloc: Global, form: TestForm) -> Result<bool, IndexError> {
     let mut index = two_columns(alloc, form, [0, -2])?;
-    takes_both(alloc, form, &mut index)
+    appends_both(alloc, form, &mut index)
 }
 
 #[test]
 fn blocks_that_are_filled_column_by_column(rt: HostRuntime) {
     for form in FORMS {
         assert!(rt;
-            matches!(takes_blocks(rt.alloc(), form), Ok(true)),
+            matches!(appends_blocks(rt.alloc(), form), Ok(true)),
             "{form:?}"
         );
     }

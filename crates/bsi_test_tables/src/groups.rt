@@ -1,9 +1,9 @@
-//! The groups of worked rows. Where memory is refused, the same call is made again.
+//! Tests of groups of worked rows by one column and by several. Where memory is refused, the same call is made again.
 
 use crate::tables::{append_row, index_of};
+use bsi_aggregates::{GroupError, Groups, group_by};
 use bsi_columns::{NoMemory, Op};
 use bsi_fixtures::{DeclaredColumn, FORMS, QTY, TestForm, row_of};
-use bsi_groups::{GroupError, Groups, group_by};
 use bsi_table::{Answer, Index, IndexError, Pred, Query, Total};
 use std::alloc::Global;
 
@@ -52,13 +52,13 @@ fn grouped(
 }
 
 // Whether these are the entries of groups, and their answers.
-fn are_groups<const N: usize>(made: &Groups, wanted: &[([Option<i64>; N], Answer)]) -> bool {
-    if made.len() != wanted.len() {
+fn are_groups<const N: usize>(made: &Groups, expected: &[([Option<i64>; N], Answer)]) -> bool {
+    if made.len() != expected.len() {
         return false;
     }
     for k in 0..made.len() {
         let group = made.get(k);
-        let (entries, answer) = &wanted[k];
+        let (entries, answer) = &expected[k];
         if group.entries != entries.as_slice() || group.answer != answer {
             return false;
         }
@@ -71,24 +71,24 @@ fn has_groups(
     alloc: Global,
     index: &Index,
     pred: Pred,
-    wanted: &[([Option<i64>; 1], Answer)],
+    expected: &[([Option<i64>; 1], Answer)],
 ) -> bool {
     let total = Total::Sum(1);
-    match grouped(alloc, index, &Query { total, pred }, &[0], wanted.len()) {
-        Ok(groups) => are_groups(&groups, wanted),
+    match grouped(alloc, index, &Query { total, pred }, &[0], expected.len()) {
+        Ok(groups) => are_groups(&groups, expected),
         Err(_) => false,
     }
 }
 
 // Whether the groups are refused for this reason.
-fn is_refused(alloc: Global, index: &Index, by: &[u32], most: usize, wanted: GroupError) -> bool {
+fn is_refused(alloc: Global, index: &Index, by: &[u32], most: usize, expected: GroupError) -> bool {
     let query = Query {
         total: Total::Count,
         pred: Pred::All,
     };
     match grouped(alloc, index, &query, by, most) {
         Ok(_) => false,
-        Err(refused) => refused == wanted,
+        Err(refused) => refused == expected,
     }
 }
 
@@ -126,14 +126,14 @@ fn has_counts<const N: usize>(
     alloc: Global,
     index: &Index,
     by: [u32; N],
-    wanted: &[([Option<i64>; N], Answer)],
+    expected: &[([Option<i64>; N], Answer)],
 ) -> bool {
     let query = Query {
         total: Total::Count,
         pred: Pred::All,
     };
     let is_made = match grouped(alloc, index, &query, &by, 5) {
-        Ok(groups) => are_groups(&groups, wanted),
+        Ok(groups) => are_groups(&groups, expected),
         Err(_) => false,
     };
     is_made && is_refused(alloc, index, &by, 4, GroupError::TooMany)

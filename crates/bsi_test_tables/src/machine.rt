@@ -1,4 +1,4 @@
-//! Step machines: what their makers refuse, runs, and calls that are refused memory.
+//! Tests of step machines: what their makers refuse, runs, and calls that are refused memory.
 
 use bsi_columns::NoMemory;
 use bsi_fixtures::{DeclaredColumn, QTY, row_of, schema_of};
@@ -50,12 +50,12 @@ fn lacks_memory(reply: &Reply) -> bool {
     }
 }
 
-/// Returns whether the replies are the wanted ones. A reply that memory was refused makes it refuse the whole run.
-fn are_replies(replies: &[Reply], wanted: &[Reply]) -> Result<bool, NoMemory> {
+/// Returns whether the replies are the expected ones. A reply that memory was refused makes it refuse the whole run.
+fn are_replies(replies: &[Reply], expected: &[Reply]) -> Result<bool, NoMemory> {
     if replies.iter().any(lacks_memory) {
         return Err(NoMemory);
     }
-    Ok(replies == wanted)
+    Ok(replies == expected)
 }
 
 /// An event, and the reply to it: a feeder, and then what is sent or answered.
@@ -67,7 +67,7 @@ enum Step {
     Full(u32, i128),
     /// It comes back, since the feeder is closed.
     Late(u32, i128),
-    /// A row is loaded, and stands at this position.
+    /// A row is loaded, and is at this position.
     Load(u32, u64),
     /// No row waits.
     Empty(u32),
@@ -181,13 +181,13 @@ fn are_events(events: &[Event], steps: &[Step]) -> bool {
 // Whether a run of the steps gets their replies. If memory for the list of replies is refused, the events come back and
 // the rows that wait stay, and they are run once more.
 fn runs(alloc: Global, core: &mut Core, steps: &[Step]) -> Result<bool, NoMemory> {
-    let wanted = replies(alloc, steps)?;
+    let expected = replies(alloc, steps)?;
     let waiting = core.waiting(0);
     match core.run(events(alloc, steps)?) {
-        Ok(found) => are_replies(&found, &wanted),
+        Ok(replies_given) => are_replies(&replies_given, &expected),
         Err(RunRefused { events }) if are_events(&events, steps) && core.waiting(0) == waiting => {
-            let found = core.run(events).map_err(|_| NoMemory)?;
-            are_replies(&found, &wanted)
+            let replies_given = core.run(events).map_err(|_| NoMemory)?;
+            are_replies(&replies_given, &expected)
         }
         Err(_) => Ok(false),
     }
@@ -310,21 +310,21 @@ const SIZES: [(&[u32], u64, Result<(), MakeError>); 6] = [
 // Whether sizes are checked as they should be, with a column and with none.
 fn is_checked(schema: &Schema, empty: &Schema) -> bool {
     let none = Err(MakeError::Index(IndexError::NoColumns));
-    SIZES.iter().all(|(capacities, limit, wanted)| check_sizes(schema, capacities, *limit)
-        == *wanted)
+    SIZES.iter().all(|(capacities, limit, expected)| check_sizes(schema, capacities, *limit)
+        == *expected)
         && check_sizes(empty, &[4], 0) == none
 }
 
 // Whether a machine is not made for this reason.
-fn is_refused(alloc: Global, machine: Machine, wanted: MakeError) -> bool {
+fn is_refused(alloc: Global, machine: Machine, expected: MakeError) -> bool {
     match made(alloc, machine) {
-        Err(refused) => refused == wanted,
+        Err(refused) => refused == expected,
         Ok(_) => false,
     }
 }
 
-// Whether of all that is wrong with a machine the first is told.
-fn first_refusal_is_told(alloc: Global) -> bool {
+// Whether of all that is wrong with a machine the first is returned.
+fn first_refusal_is_returned(alloc: Global) -> bool {
     let nothing = Machine {
         columns: &[],
         capacities: &[],
@@ -356,7 +356,7 @@ fn first_refusal_is_told(alloc: Global) -> bool {
 
 fn sizes_are_refused(alloc: Global) -> Result<bool, SchemaError> {
     let schema = schema_of(alloc, &[QTY])?;
-    Ok(is_checked(&schema, &Schema::new(alloc)) && first_refusal_is_told(alloc))
+    Ok(is_checked(&schema, &Schema::new(alloc)) && first_refusal_is_returned(alloc))
 }
 
 #[test]
@@ -388,7 +388,7 @@ fn load_of(core: &mut Core) -> Result<u64, LoadRefused> {
     }
 }
 
-// Whether the row is taken and loaded.
+// Whether the row is accepted and loaded.
 fn loads(core: &mut Core, row: Row) -> bool {
     let sent = core.submit(0, row).is_ok();
     let loaded = load_of(core);
@@ -443,10 +443,10 @@ fn comes_back_after_closing(core: &mut Core, third: Row) -> bool {
     closed == Ok(()) && waiting == Some(2) && refused.is_some_and(|refused| is_closed(&refused))
 }
 
-// Whether a machine with room for two rows takes them, and no third one once it is closed. It gives none where memory
+// Whether a machine with room for two rows accepts them, and no third one once it is closed. It gives none where memory
 // for the machine or the rows is refused. From the probe on nothing asks for memory: each later growth may be refused
 // too.
-fn takes_two_and_closes(alloc: Global) -> Option<bool> {
+fn accepts_two_and_closes(alloc: Global) -> Option<bool> {
     let rows = three_rows(alloc).ok()?;
     let mut core = made(alloc, PAIR).ok()?;
     let _probe = Vec::<u8>::with_capacity(alloc, 1);
@@ -456,8 +456,8 @@ fn takes_two_and_closes(alloc: Global) -> Option<bool> {
 
 #[test]
 fn submit_and_close_take_no_memory(rt: HostRuntime) -> Result<(), Fail> {
-    let done = match takes_two_and_closes(rt.alloc()) {
-        None => takes_two_and_closes(rt.alloc()),
+    let done = match accepts_two_and_closes(rt.alloc()) {
+        None => accepts_two_and_closes(rt.alloc()),
         done => done,
     };
     let refused = done.is_none() && Vec::<u8>::with_capacity(rt.alloc(), 1).is_err();

@@ -1,10 +1,10 @@
-//! The ranks, the quantiles, the different numbers and the first rows of worked rows. Where memory is refused, the same
-//! call is made again.
+//! Tests of ranks, quantiles, different numbers and first rows of worked rows. Where memory is refused to a call, the
+//! same call is made again.
 
 use crate::tables::{append_row, index_of};
+use bsi_aggregates::{Extreme, Share, TopRow, distinct, quantile, ranks, top};
 use bsi_columns::{NoMemory, Op};
 use bsi_fixtures::{DeclaredColumn, FORMS, QTY, TestForm, row_of};
-use bsi_groups::{End, Share, TopRow, distinct, quantile, ranks, top};
 use bsi_table::{AskError, Index, IndexError, Pred};
 use std::alloc::Global;
 
@@ -51,9 +51,9 @@ fn ranked(alloc: Global, index: &Index, c: u32, pred: &Pred) -> Result<Vec<Optio
 }
 
 // Whether these are the numbers of the ranks 3, 0, 2 and 5.
-fn has_ranks(alloc: Global, index: &Index, pred: &Pred, wanted: &[Option<i64>]) -> bool {
+fn has_ranks(alloc: Global, index: &Index, pred: &Pred, expected: &[Option<i64>]) -> bool {
     match ranked(alloc, index, 0, pred) {
-        Ok(numbers) => numbers.as_slice() == wanted,
+        Ok(numbers) => numbers.as_slice() == expected,
         Err(_) => false,
     }
 }
@@ -77,10 +77,10 @@ fn ranks_of_a_column(rt: HostRuntime) {
     }
 }
 
-fn found_at(index: &Index, c: u32, share: Share, pred: &Pred) -> Result<Option<i64>, AskError> {
+fn quantile_at(index: &Index, c: u32, share: Share, pred: &Pred) -> Result<Option<i64>, AskError> {
     match quantile(index, c, share, pred) {
         Err(AskError::NoMemory) => quantile(index, c, share, pred),
-        found => found,
+        answer => answer,
     }
 }
 
@@ -91,11 +91,11 @@ fn has_quantiles(alloc: Global, form: TestForm) -> Result<bool, IndexError> {
         return Ok(false);
     };
     Ok(
-        found_at(&index, 0, half, &Pred::All) == Ok(Some(0))
-            && found_at(&index, 0, most, &Pred::All) == Ok(Some(2))
-            && found_at(&index, 0, half, &SOME) == Ok(Some(2))
-            && found_at(&index, 0, half, &Pred::Null(0)) == Ok(None)
-            && found_at(&index, 2, half, &Pred::All) == Err(AskError::BadColumn(2)),
+        quantile_at(&index, 0, half, &Pred::All) == Ok(Some(0))
+            && quantile_at(&index, 0, most, &Pred::All) == Ok(Some(2))
+            && quantile_at(&index, 0, half, &SOME) == Ok(Some(2))
+            && quantile_at(&index, 0, half, &Pred::Null(0)) == Ok(None)
+            && quantile_at(&index, 2, half, &Pred::All) == Err(AskError::BadColumn(2)),
     )
 }
 
@@ -110,7 +110,7 @@ fn quantiles_of_a_column(rt: HostRuntime) {
 }
 
 #[test]
-fn a_share_is_of_a_whole_with_parts(rt: HostRuntime) {
+fn a_share_has_a_denominator(rt: HostRuntime) {
     let none = Share::new(3, 2).is_none() && Share::new(0, 0).is_none();
     assert!(rt; none && Share::new(2, 2).is_some(), "a share");
 }
@@ -145,29 +145,35 @@ fn listed(
     alloc: Global,
     index: &Index,
     most: usize,
-    end: End,
+    extreme: Extreme,
     pred: &Pred,
 ) -> Result<Vec<TopRow>, AskError> {
-    match top(alloc, index, 0, most, end, pred) {
-        Err(AskError::NoMemory) => top(alloc, index, 0, most, end, pred),
+    match top(alloc, index, 0, most, extreme, pred) {
+        Err(AskError::NoMemory) => top(alloc, index, 0, most, extreme, pred),
         made => made,
     }
 }
 
-fn is_row(row: &TopRow, wanted: (u64, i64)) -> bool {
-    let (position, number) = wanted;
+fn is_row(row: &TopRow, expected: (u64, i64)) -> bool {
+    let (position, number) = expected;
     row.row == position && row.number == number
 }
 
 // Whether these are the first four rows, each with its number.
-fn has_first(alloc: Global, index: &Index, end: End, pred: &Pred, wanted: &[(u64, i64)]) -> bool {
-    match listed(alloc, index, 4, end, pred) {
+fn has_first(
+    alloc: Global,
+    index: &Index,
+    extreme: Extreme,
+    pred: &Pred,
+    expected: &[(u64, i64)],
+) -> bool {
+    match listed(alloc, index, 4, extreme, pred) {
         Ok(rows) => {
-            rows.len() == wanted.len()
+            rows.len() == expected.len()
                 && rows
                     .iter()
-                    .zip(wanted)
-                    .all(|(row, wanted)| is_row(row, *wanted))
+                    .zip(expected)
+                    .all(|(row, expected)| is_row(row, *expected))
         }
         Err(_) => false,
     }
@@ -177,10 +183,10 @@ fn is_listed(alloc: Global, form: TestForm) -> Result<bool, IndexError> {
     let index = six_rows(alloc, form)?;
     let greatest = [(0, 2), (3, 2), (4, 0), (2, -3)];
     let least = [(4, 0), (0, 2), (3, 2)];
-    let refused = listed(alloc, &index, 4, End::Least, &Pred::Null(5));
+    let refused = listed(alloc, &index, 4, Extreme::Least, &Pred::Null(5));
     Ok(
-        has_first(alloc, &index, End::Greatest, &Pred::All, &greatest)
-            && has_first(alloc, &index, End::Least, &SOME, &least)
+        has_first(alloc, &index, Extreme::Greatest, &Pred::All, &greatest)
+            && has_first(alloc, &index, Extreme::Least, &SOME, &least)
             && matches!(refused, Err(AskError::BadColumn(5))),
     )
 }

@@ -66,9 +66,9 @@ pub(crate) fn has_rows(index: &Index, count: u64) -> bool {
 }
 
 /// Returns whether the predicate selects these rows.
-pub(crate) fn lists(index: &Index, pred: Pred, wanted: &[(u32, u64)]) -> bool {
+pub(crate) fn lists(index: &Index, pred: Pred, expected: &[(u32, u64)]) -> bool {
     match answer(index, Total::Rows, pred) {
-        Ok(Answer::Rows(rows)) => rows.as_slice() == wanted,
+        Ok(Answer::Rows(rows)) => rows.as_slice() == expected,
         _ => false,
     }
 }

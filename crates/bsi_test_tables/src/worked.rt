@@ -1,10 +1,12 @@
-//! A schema, and an index on worked rows. Each test tolerates one refused allocation, and then
-//! makes the same call again.
+//! Tests of a schema and an index on worked rows: totals, nulls, compared columns, stored bits, copies and refusals.
+//! Each tolerates one refused allocation, and then makes the same call again.
 
 use crate::tables::{answer, append_row, has_rows, index_of, lists};
 use bsi_columns::{AnyColumn, NoMemory, Op};
 use bsi_digits::BasesError;
-use bsi_fixtures::{DeclaredColumn, FORMS, QTY, TestForm, Wide, add, both, has_bits, not, row_of};
+use bsi_fixtures::{
+    DeclaredColumn, FORMS, QTY, TestForm, Wide, add, both, either, has_bits, not, row_of,
+};
 use bsi_table::{
     Answer, AppendError, AskError, Index, IndexError, Pred, Row, Schema, SchemaError, Total,
 };
@@ -30,8 +32,8 @@ fn three_rows(alloc: Global, form: TestForm) -> Result<Index, IndexError> {
     Ok(index)
 }
 
-// Whether the first missing column of a query is told.
-fn tells_missing(alloc: Global, index: &Index) -> Result<bool, NoMemory> {
+// Whether the first missing column of a query is returned.
+fn returns_missing(alloc: Global, index: &Index) -> Result<bool, NoMemory> {
     let left = both(alloc, Pred::Null(4), Pred::Null(2))?;
     let count = answer(index, Total::Count, left);
     let sum = answer(index, Total::Sum(3), Pred::Null(5));
@@ -48,7 +50,7 @@ fn lists_none(alloc: Global, index: &Index) -> Result<bool, NoMemory> {
 fn answers(alloc: Global, index: &Index) -> Result<bool, NoMemory> {
     let listed = lists(index, Pred::All, &[(1, 0), (0, 0), (0, 1)])
         && lists(index, Pred::Compare(0, Op::Ge, 3), &[(0, 1)]);
-    Ok(listed && lists_none(alloc, index)? && tells_missing(alloc, index)?)
+    Ok(listed && lists_none(alloc, index)? && returns_missing(alloc, index)?)
 }
 
 // Whether they are, and are three.
@@ -82,18 +84,18 @@ fn rows_of(alloc: Global, form: TestForm, entries: &[Option<i128>]) -> Result<In
 }
 
 // Whether the predicate selects so many rows.
-fn counts(index: &Index, pred: Pred, wanted: u64) -> bool {
-    answer(index, Total::Count, pred) == Ok(Answer::Count(wanted))
+fn counts(index: &Index, pred: Pred, expected: u64) -> bool {
+    answer(index, Total::Count, pred) == Ok(Answer::Count(expected))
 }
 
 // Whether the numbers come to this sum.
-fn sums(index: &Index, pred: Pred, wanted: i128) -> bool {
-    answer(index, Total::Sum(0), pred) == Ok(Answer::Sum(wanted))
+fn sums(index: &Index, pred: Pred, expected: i128) -> bool {
+    answer(index, Total::Sum(0), pred) == Ok(Answer::Sum(expected))
 }
 
 // Whether a total of the numbers is this one.
-fn is_value(index: &Index, total: Total, pred: Pred, wanted: Option<i64>) -> bool {
-    answer(index, total, pred) == Ok(Answer::Value(wanted))
+fn is_value(index: &Index, total: Total, pred: Pred, expected: Option<i64>) -> bool {
+    answer(index, total, pred) == Ok(Answer::Value(expected))
 }
 
 // Whether of 5 and a null the null satisfies no comparison, and each negation of one.
@@ -109,12 +111,18 @@ fn null_is_no_number(alloc: Global, index: &Index) -> Result<bool, NoMemory> {
     )
 }
 
-// Whether of 1, 2, 3 and 4 the median is the lower one in the middle, and a conjunction lists what both select.
+// Whether of 1, 2, 3 and 4 the median is the lower one in the middle, a conjunction lists what both select, and a
+// disjunction counts what either does.
 fn tie_goes_low(alloc: Global, index: &Index) -> Result<bool, NoMemory> {
     let between = both(
         alloc,
         Pred::Compare(0, Op::Gt, 1),
         Pred::Compare(0, Op::Lt, 4),
+    )?;
+    let ends = either(
+        alloc,
+        Pred::Compare(0, Op::Eq, 1),
+        Pred::Compare(0, Op::Eq, 4),
     )?;
     let from_two = Pred::Compare(0, Op::Ge, 2);
     Ok(
@@ -122,7 +130,8 @@ fn tie_goes_low(alloc: Global, index: &Index) -> Result<bool, NoMemory> {
             && is_value(index, Total::Median(0), from_two, Some(3))
             && is_value(index, Total::Least(0), Pred::All, Some(1))
             && is_value(index, Total::Greatest(0), Pred::All, Some(4))
-            && lists(index, between, &[(0, 1), (0, 2)]),
+            && lists(index, between, &[(0, 1), (0, 2)])
+            && counts(index, ends, 2),
     )
 }
 
@@ -208,8 +217,8 @@ fn paired_rows(alloc: Global, first: TestForm, second: TestForm) -> Result<Index
 fn is_related(alloc: Global, first: TestForm, second: TestForm) -> Result<bool, IndexError> {
     let index = paired_rows(alloc, first, second)?;
     let mut right = true;
-    for (op, wanted) in RELATED {
-        right &= lists(&index, Pred::Columns(0, op, 1), wanted);
+    for (op, expected) in RELATED {
+        right &= lists(&index, Pred::Columns(0, op, 1), expected);
     }
     Ok(right)
 }
@@ -233,12 +242,12 @@ fn columns_of_every_form_are_compared(rt: HostRuntime) {
     }
 }
 
-// Whether the number of this rank among all rows is the wanted one.
-fn has_rank(index: &Index, rank: u64, wanted: Option<i64>) -> bool {
-    answer(index, Total::Rank(0, rank), Pred::All) == Ok(Answer::Value(wanted))
+// Whether the number of this rank among all rows is the expected one.
+fn has_rank(index: &Index, rank: u64, expected: Option<i64>) -> bool {
+    answer(index, Total::Rank(0, rank), Pred::All) == Ok(Answer::Value(expected))
 }
 
-// Whether the numbers of three rows are found by their ranks, and none past the last.
+// Whether the numbers of three rows are returned for their ranks, and none past the last.
 fn has_three_ranks(index: &Index) -> bool {
     has_rank(index, 0, Some(1))
         && has_rank(index, 1, Some(2))
@@ -265,12 +274,12 @@ fn ranks_of_a_column_with_an_offset(rt: HostRuntime) {
 }
 
 // Whether the first slice of a column is this one.
-fn first_slice_is(index: &Index, wanted: &[bool]) -> bool {
+fn first_slice_is(index: &Index, expected: &[bool]) -> bool {
     if index.schema().columns() == 0 {
         return false;
     }
     match index.column(0).stored() {
-        AnyColumn::Slices(slices) if slices.width() > 0 => has_bits(slices.slice(0), wanted),
+        AnyColumn::Slices(slices) if slices.width() > 0 => has_bits(slices.slice(0), expected),
         _ => false,
     }
 }
@@ -292,16 +301,16 @@ fn copied_index(index: &Index) -> Result<Index, NoMemory> {
     }
 }
 
-// Whether a row of feeder 0 goes in behind three others.
-fn takes_a_fourth(alloc: Global, index: &mut Index) -> Result<bool, NoMemory> {
+// Whether a row of feeder 0 is appended to three others.
+fn accepts_a_fourth(alloc: Global, index: &mut Index) -> Result<bool, NoMemory> {
     let row = row_of(alloc, &[Some(7)])?;
     let appended = append_row(index, 0, &row);
     Ok(appended == Some(Ok(3)) && has_rows(index, 4))
 }
 
-// Whether a copy answers as its index does, and takes a row more.
+// Whether a copy answers as its index does, and accepts a row more.
 fn is_alike(alloc: Global, copy: &mut Index) -> Result<bool, NoMemory> {
-    Ok(answers(alloc, copy)? && takes_a_fourth(alloc, copy)?)
+    Ok(answers(alloc, copy)? && accepts_a_fourth(alloc, copy)?)
 }
 
 fn is_copied(alloc: Global, index: &Index) -> Result<bool, NoMemory> {
@@ -310,20 +319,20 @@ fn is_copied(alloc: Global, index: &Index) -> Result<bool, NoMemory> {
 }
 
 // Whether the index then has its three rows.
-fn keeps_its_rows(alloc: Global, index: &Index) -> Result<bool, IndexError> {
+fn is_unchanged(alloc: Global, index: &Index) -> Result<bool, IndexError> {
     Ok(is_copied(alloc, index)? && has_rows(index, 3))
 }
 
-fn stands_apart(alloc: Global, form: TestForm) -> Result<bool, IndexError> {
+fn is_independent(alloc: Global, form: TestForm) -> Result<bool, IndexError> {
     let index = three_rows(alloc, form)?;
-    keeps_its_rows(alloc, &index)
+    is_unchanged(alloc, &index)
 }
 
 #[test]
-fn a_copy_of_an_index_stands_apart(rt: HostRuntime) {
+fn a_copy_of_an_index_is_independent(rt: HostRuntime) {
     for form in FORMS {
         assert!(rt;
-            matches!(stands_apart(rt.alloc(), form), Ok(true)),
+            matches!(is_independent(rt.alloc(), form), Ok(true)),
             "{form:?}"
         );
     }
@@ -382,7 +391,7 @@ const REFUSED: [(DeclaredColumn, SchemaError); 4] = [
 ];
 
 // Whether the schema takes the column qty, and none of those that it is to refuse.
-fn takes_quantities(alloc: Global, schema: &mut Schema) -> Result<bool, SchemaError> {
+fn accepts_quantities(alloc: Global, schema: &mut Schema) -> Result<bool, SchemaError> {
     add(alloc, schema, QTY)?;
     for (column, why) in REFUSED {
         if add(alloc, schema, column) != Err(why) {
@@ -402,7 +411,7 @@ const NAMES: [&str; 64] = [
 ];
 
 // Whether it takes so many columns, and not one more.
-fn takes_no_more(alloc: Global, schema: &mut Schema) -> Result<bool, SchemaError> {
+fn accepts_no_more(alloc: Global, schema: &mut Schema) -> Result<bool, SchemaError> {
     for name in NAMES {
         add(alloc, schema, DeclaredColumn { name, ..QTY })?;
     }
@@ -410,15 +419,15 @@ fn takes_no_more(alloc: Global, schema: &mut Schema) -> Result<bool, SchemaError
     Ok(more == Err(SchemaError::TooManyColumns) && schema.columns() == 64)
 }
 
-fn takes_what_it_should(alloc: Global) -> Result<bool, SchemaError> {
+fn accepts_what_it_should(alloc: Global) -> Result<bool, SchemaError> {
     let mut schema = Schema::new(alloc);
     let mut full = Schema::new(alloc);
-    Ok(takes_quantities(alloc, &mut schema)? && takes_no_more(alloc, &mut full)?)
+    Ok(accepts_quantities(alloc, &mut schema)? && accepts_no_more(alloc, &mut full)?)
 }
 
 #[test]
 fn makers_of_a_schema(rt: HostRuntime) {
-    assert!(rt; matches!(takes_what_it_should(rt.alloc()), Ok(true)));
+    assert!(rt; matches!(accepts_what_it_should(rt.alloc()), Ok(true)));
 }
 
 // Whether an index of no columns is refused before one of no rows.
@@ -431,7 +440,7 @@ fn no_index_is_made(alloc: Global) -> bool {
 }
 
 // Whether an index of at most one row takes one, and not a second.
-fn takes_one_row(alloc: Global) -> Result<bool, IndexError> {
+fn accepts_one_row(alloc: Global) -> Result<bool, IndexError> {
     let row = row_of(alloc, &[Some(5)])?;
     let mut index = index_of(alloc, &[QTY], 1, 1)?;
     let first = append_row(&mut index, 0, &row);
@@ -441,7 +450,7 @@ fn takes_one_row(alloc: Global) -> Result<bool, IndexError> {
 
 #[test]
 fn makers_of_an_index(rt: HostRuntime) {
-    assert!(rt; no_index_is_made(rt.alloc()) && matches!(takes_one_row(rt.alloc()), Ok(true)));
+    assert!(rt; no_index_is_made(rt.alloc()) && matches!(accepts_one_row(rt.alloc()), Ok(true)));
 }
 
 fn copied_row(row: &Row) -> Result<Row, NoMemory> {

@@ -1,4 +1,4 @@
-//! Blocks that are filled from row files.
+//! Tests of blocks that are filled from row files, up to a fault, which the next call answers.
 
 use crate::ends::broken;
 use crate::row_files::schema_of;
@@ -29,7 +29,7 @@ fn has_rows(block: &Block, want: &[[Option<i128>; 2]]) -> Result<bool, NoMemory>
     Ok(right)
 }
 
-// Whether a call filled a block with these, or told the fault.
+// Whether a call filled a block with these, or answered the fault.
 fn is_given(
     filled: Result<(), SourceFault>,
     block: &Block,
@@ -37,13 +37,13 @@ fn is_given(
 ) -> Result<bool, SourceFault> {
     match (filled, want) {
         (Err(SourceFault::NoMemory), _) => Err(SourceFault::NoMemory),
-        (Err(fault), Err(wanted)) => Ok(fault == wanted),
+        (Err(fault), Err(expected)) => Ok(fault == expected),
         (Ok(()), Ok(rows)) => Ok(has_rows(block, rows)?),
         _ => Ok(false),
     }
 }
 
-// Whether a call fills a block with these, or tells the fault.
+// Whether a call fills a block with these, or answers the fault.
 fn gives_next<R: Read + Drop>(
     source: &mut RowSource<R>,
     want: GivenRows<'_>,
@@ -88,7 +88,7 @@ fn gives(
     }
 }
 
-fn tells_the_fault_next(alloc: Global) -> Result<bool, SourceFault> {
+fn answers_the_fault_next(alloc: Global) -> Result<bool, SourceFault> {
     let schema = schema_of(alloc).map_err(|_| SourceFault::NoMemory)?;
     let rows = [[Some(1), Some(2)], [Some(3), Some(4)]];
     let want = [
@@ -100,6 +100,6 @@ fn tells_the_fault_next(alloc: Global) -> Result<bool, SourceFault> {
 }
 
 #[test]
-fn a_fault_behind_rows_is_told_next(rt: HostRuntime) {
-    assert!(rt; matches!(tells_the_fault_next(rt.alloc()), Ok(true)));
+fn a_fault_after_rows_is_answered_next(rt: HostRuntime) {
+    assert!(rt; matches!(answers_the_fault_next(rt.alloc()), Ok(true)));
 }

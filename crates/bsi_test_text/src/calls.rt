@@ -1,4 +1,4 @@
-//! The calls on texts, each once: numbers, rows, queries and setup records of fields, and the lines that answer them.
+//! Tests of the calls on texts: they read numbers, rows, queries and setup records, and write the lines of replies.
 
 use crate::ends::buffer;
 use bsi_load::Reply;
@@ -82,15 +82,15 @@ fn setups_are_read(alloc: Global) -> Result<bool, NoMemory> {
     does_setups(alloc, &mut table)
 }
 
-// Whether a submission's fields from place 2 on are these entries, or none.
+// Whether a submission's fields from index 2 on are these entries, or none.
 fn is_row(
     alloc: Global,
     schema: &Schema,
     line: &str,
     want: Option<&[Option<i128>]>,
 ) -> Result<bool, NoMemory> {
-    let found = row(alloc, schema, line)?;
-    Ok(match (&found, want) {
+    let read = row(alloc, schema, line)?;
+    Ok(match (&read, want) {
         (None, None) => true,
         (Some(row), Some(entries)) => row.values() == entries,
         _ => false,
@@ -107,8 +107,8 @@ fn rows_are_read(alloc: Global, schema: &Schema) -> Result<bool, NoMemory> {
 
 // What a query asks of the rows that it selects.
 fn total(alloc: Global, schema: &Schema, line: &str) -> Result<Option<Total>, NoMemory> {
-    let found = query(alloc, schema, line)?;
-    Ok(match &found {
+    let read = query(alloc, schema, line)?;
+    Ok(match &read {
         None => None,
         Some(query) => Some(query.total),
     })

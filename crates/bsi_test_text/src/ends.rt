@@ -1,4 +1,4 @@
-//! Scripts whose readers and writers fail.
+//! Tests of scripts whose reader fails after each byte, and whose writer fails at each call.
 
 use bsi_fixtures::{EMPTY, NarrowWriter, TextReader};
 use bsi_text::{NoMemory, ScriptFault, run_script};
@@ -39,7 +39,7 @@ const LINES: &str = "ok\nok\nok\naccepted\ncount 0\nloaded 0\ncount 1\nsum 5\n";
 fn read_until(alloc: Global, text: &[u8], lines: &mut Vec<u8>) -> Result<(), ScriptFault> {
     lines.clear();
     let run = run_script(alloc, broken(text), lines);
-    if run != Err(ScriptFault::NoMemory) && !told_of_memory(lines) {
+    if run != Err(ScriptFault::NoMemory) && !reports_no_memory(lines) {
         return run;
     }
     lines.clear();
@@ -47,10 +47,10 @@ fn read_until(alloc: Global, text: &[u8], lines: &mut Vec<u8>) -> Result<(), Scr
 }
 
 // Whether some line says that memory was refused.
-fn told_of_memory(lines: &[u8]) -> bool {
+fn reports_no_memory(lines: &[u8]) -> bool {
     lines
         .windows(10)
-        .any(|part| part == b"no memory\n".as_slice())
+        .any(|window| window == b"no memory\n".as_slice())
 }
 
 fn line_ends(text: &[u8]) -> usize {
@@ -85,7 +85,7 @@ fn write_once(
     fails: bool,
     writer: &mut NarrowWriter,
 ) -> Result<(), ScriptFault> {
-    writer.taken.clear();
+    writer.accepted.clear();
     writer.room = room;
     writer.fails = fails;
     run_script(alloc, SCRIPT.as_bytes(), writer)
@@ -99,39 +99,41 @@ fn write_until(
     writer: &mut NarrowWriter,
 ) -> Result<(), ScriptFault> {
     let run = write_once(alloc, room, fails, writer);
-    if run == Err(ScriptFault::NoMemory) || !LINES.as_bytes().starts_with(writer.taken.as_slice()) {
+    if run == Err(ScriptFault::NoMemory)
+        || !LINES.as_bytes().starts_with(writer.accepted.as_slice())
+    {
         return write_once(alloc, room, fails, writer);
     }
     run
 }
 
 // Whether the writer takes just so many bytes of the lines, and the script ends as it should.
-fn takes(
+fn writes(
     alloc: Global,
     room: usize,
     fails: bool,
     writer: &mut NarrowWriter,
-    wanted: Result<(), ScriptFault>,
+    expected: Result<(), ScriptFault>,
 ) -> bool {
     let run = write_until(alloc, room, fails, writer);
-    let taken = writer.taken.as_slice();
-    run == wanted && taken.len() == room && LINES.as_bytes().starts_with(taken)
+    let taken = writer.accepted.as_slice();
+    run == expected && taken.len() == room && LINES.as_bytes().starts_with(taken)
 }
 
 // Whether the script ends with a fault where the writer fails behind so many bytes, or takes no more of them.
 fn is_cut(alloc: Global, room: usize, writer: &mut NarrowWriter) -> bool {
-    let wanted = Err(ScriptFault::Write);
-    takes(alloc, room, true, writer, wanted) && takes(alloc, room, false, writer, wanted)
+    let expected = Err(ScriptFault::Write);
+    writes(alloc, room, true, writer, expected) && writes(alloc, room, false, writer, expected)
 }
 
 fn is_cut_at_each_byte(alloc: Global) -> Result<bool, NoMemory> {
     let mut writer = NarrowWriter {
-        taken: buffer(alloc)?,
+        accepted: buffer(alloc)?,
         room: 0,
         fails: false,
         flushes: 0,
     };
-    let mut right = takes(alloc, LINES.len(), true, &mut writer, Ok(()));
+    let mut right = writes(alloc, LINES.len(), true, &mut writer, Ok(()));
     for room in 0..LINES.len() {
         right &= is_cut(alloc, room, &mut writer);
     }

@@ -1,13 +1,13 @@
-//! Worked columns, and what is found of them.
+//! Tests of which kind is inferred from worked fields, also of parts of a column that are joined.
 
 ghost use Rattle.std.specs.Prelude.{IfOk};
-ghost use Rattle.bsi_inferring.specs.Columns.{LooksFor};
+ghost use Rattle.bsi_inference.specs.Columns.{LooksFor};
 
-use bsi_inferring::{Candidates, Decision, Doubt, NoMemory, usual_null_words};
+use bsi_inference::{Candidates, Decision, Doubt, NoMemory, usual_null_words};
 use bsi_kinds::{DateOrder, Kind};
 use std::alloc::Global;
 
-/// Fields of a column, which of day and month stands first in its dates if that is said, and what is found.
+/// Fields of a column, which of day and month stands first in its dates if that is said, and what is decided.
 type Worked = (&'static [&'static str], Option<DateOrder>, &'static str);
 
 const COLUMNS: [Worked; 31] = [
@@ -66,27 +66,27 @@ fn describe_column_once(alloc: Global, worked: Worked) -> Result<String, NoMemor
 fn describe_column(alloc: Global, worked: Worked) -> Result<String, NoMemory> {
     match describe_column_once(alloc, worked) {
         Err(NoMemory) => describe_column_once(alloc, worked),
-        found => found,
+        described => described,
     }
 }
 
 #[test]
 fn columns_have_a_kind(rt: HostRuntime) -> Result<(), NoMemory> {
     for worked in COLUMNS {
-        let found = describe_column(rt.alloc(), worked)?;
-        assert!(rt; found.as_str() == worked.2, "{found}");
+        let described = describe_column(rt.alloc(), worked)?;
+        assert!(rt; described.as_str() == worked.2, "{described}");
     }
     Ok(())
 }
 
-/// Fields of two parts of a column, and what is found of both.
-type WorkedParts = (
+/// Fields of two parts of a column, and what is decided of both.
+type WorkedChunks = (
     &'static [&'static str],
     &'static [&'static str],
     &'static str,
 );
 
-const PARTS: [WorkedParts; 9] = [
+const CHUNKS: [WorkedChunks; 9] = [
     (&["1", "2.5"], &["-0.125", "NA"], "decimal 3 -125 2500"),
     (&["1"], &["Hill"], "texts missing"),
     (&["Hill"], &["Harbour", "Hill"], "text 2"),
@@ -98,26 +98,26 @@ const PARTS: [WorkedParts; 9] = [
     (&["NA"], &["-", "NA"], "nulls 2"),
 ];
 
-fn describe_parts_once(alloc: Global, parts: WorkedParts) -> Result<String, NoMemory> {
+fn describe_chunks_once(alloc: Global, chunks: WorkedChunks) -> Result<String, NoMemory> {
     let words = usual_null_words(alloc)?;
-    let mut column = column_of(alloc, &words, parts.0, None)?;
-    let other = column_of(alloc, &words, parts.1, None)?;
+    let mut column = column_of(alloc, &words, chunks.0, None)?;
+    let other = column_of(alloc, &words, chunks.1, None)?;
     column.join(other)?;
     describe(alloc, &column.decide()?)
 }
 
-fn describe_parts(alloc: Global, parts: WorkedParts) -> Result<String, NoMemory> {
-    match describe_parts_once(alloc, parts) {
-        Err(NoMemory) => describe_parts_once(alloc, parts),
-        found => found,
+fn describe_chunks(alloc: Global, chunks: WorkedChunks) -> Result<String, NoMemory> {
+    match describe_chunks_once(alloc, chunks) {
+        Err(NoMemory) => describe_chunks_once(alloc, chunks),
+        described => described,
     }
 }
 
 #[test]
-fn parts_of_columns_are_joined(rt: HostRuntime) -> Result<(), NoMemory> {
-    for parts in PARTS {
-        let found = describe_parts(rt.alloc(), parts)?;
-        assert!(rt; found.as_str() == parts.2, "{found}");
+fn chunks_of_columns_are_joined(rt: HostRuntime) -> Result<(), NoMemory> {
+    for chunks in CHUNKS {
+        let described = describe_chunks(rt.alloc(), chunks)?;
+        assert!(rt; described.as_str() == chunks.2, "{described}");
     }
     Ok(())
 }
@@ -125,7 +125,7 @@ fn parts_of_columns_are_joined(rt: HostRuntime) -> Result<(), NoMemory> {
 fn describe_texts_once(alloc: Global) -> Result<String, NoMemory> {
     let mut column = Candidates::of_texts(alloc);
     for field in ["12", "Hill", "", "12"] {
-        column.take(&[], field.as_bytes())?;
+        column.observe(&[], field.as_bytes())?;
     }
     describe(alloc, &column.decide()?)
 }
@@ -133,14 +133,14 @@ fn describe_texts_once(alloc: Global) -> Result<String, NoMemory> {
 fn describe_texts(alloc: Global) -> Result<String, NoMemory> {
     match describe_texts_once(alloc) {
         Err(NoMemory) => describe_texts_once(alloc),
-        found => found,
+        described => described,
     }
 }
 
 #[test]
 fn texts_are_gathered_alone(rt: HostRuntime) -> Result<(), NoMemory> {
-    let found = describe_texts(rt.alloc())?;
-    assert!(rt; found.as_str() == "text 2", "{found}");
+    let described = describe_texts(rt.alloc())?;
+    assert!(rt; described.as_str() == "text 2", "{described}");
     Ok(())
 }
 
@@ -155,14 +155,14 @@ fn column_of(
 {
     let mut column = Candidates::new(alloc, b'.', order)?;
     'fields: for field in fields {
-        column.take(words, field.as_bytes())?;
+        column.observe(words, field.as_bytes())?;
     }
     Ok(column)
 }
 
-/// Names what was found of a column.
-fn describe(alloc: Global, found: &Decision) -> Result<String, NoMemory> {
-    match found {
+/// Names what was decided of a column.
+fn describe(alloc: Global, described: &Decision) -> Result<String, NoMemory> {
+    match described {
         Decision::Column(column) => {
             let least = column.span.least;
             let greatest = column.span.greatest;

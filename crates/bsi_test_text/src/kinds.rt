@@ -1,7 +1,7 @@
-//! Worked texts of each kind. A refused allocation is tried again.
+//! Tests of worked texts of each kind: read, written, and compared as numbers. A refused allocation is tried again.
 
 use bsi_kinds::{
-    BooleanForm, DateForm, DateOrder, Dictionary, Kind, NoMemory, Op, TimeForm, TimeUnit,
+    BooleanForm, DateForm, DateOrder, Dictionary, ISO_DATE, Kind, NoMemory, Op, TimeForm, TimeUnit,
     compare_decimal, compare_time, read_date, read_decimal, read_rounded, read_time,
 };
 use std::alloc::Global;
@@ -80,11 +80,6 @@ fn decimals_are_rounded(rt: HostRuntime) {
     }
 }
 
-const ISO: DateForm = DateForm {
-    order: DateOrder::YearFirst,
-    sign: b'-',
-};
-
 const DOTTED: DateForm = DateForm {
     order: DateOrder::DayFirst,
     sign: b'.',
@@ -97,17 +92,17 @@ const SLASHED: DateForm = DateForm {
 
 /// Texts, and the days that they spell.
 const DATES: [(DateForm, &str, Option<i64>); 11] = [
-    (ISO, "1970-01-01", Some(0)),
-    (ISO, "2026-01-31", Some(20_484)),
-    (ISO, "2026-1-31", Some(20_484)),
+    (ISO_DATE, "1970-01-01", Some(0)),
+    (ISO_DATE, "2026-01-31", Some(20_484)),
+    (ISO_DATE, "2026-1-31", Some(20_484)),
     (DOTTED, "31.01.2026", Some(20_484)),
     (SLASHED, "01/31/2026", Some(20_484)),
     (SLASHED, "31/01/2026", None),
-    (ISO, "2026-02-30", None),
-    (ISO, "2024-02-29", Some(19_782)),
-    (ISO, "1900-02-29", None),
-    (ISO, "26-01-31", None),
-    (ISO, "2026-01-31T", None),
+    (ISO_DATE, "2026-02-30", None),
+    (ISO_DATE, "2024-02-29", Some(19_782)),
+    (ISO_DATE, "1900-02-29", None),
+    (ISO_DATE, "26-01-31", None),
+    (ISO_DATE, "2026-01-31T", None),
 ];
 
 #[test]
@@ -118,7 +113,7 @@ fn dates_are_read(rt: HostRuntime) {
 }
 
 const LOCAL_SECONDS: TimeForm = TimeForm {
-    date: ISO,
+    date: ISO_DATE,
     unit: TimeUnit::Seconds,
     utc: false,
 };
@@ -130,7 +125,7 @@ const LOCAL_MILLISECONDS: TimeForm = TimeForm {
 };
 
 const UTC_MICROSECONDS: TimeForm = TimeForm {
-    date: ISO,
+    date: ISO_DATE,
     unit: TimeUnit::Microseconds,
     utc: true,
 };
@@ -209,9 +204,9 @@ const MOMENTS: [(Op, &str, Op, i128); 5] = [
 #[test]
 fn times_are_brought_down(rt: HostRuntime) {
     for (op, text, sign, number) in MOMENTS {
-        let found = compare_time(op, LOCAL_MILLISECONDS, text.as_bytes());
+        let compared = compare_time(op, LOCAL_MILLISECONDS, text.as_bytes());
         assert!(rt;
-            found.is_some_and(|found| found.op == sign && found.number == number),
+            compared.is_some_and(|compared| compared.op == sign && compared.number == number),
             "{text}"
         );
     }
@@ -253,21 +248,21 @@ fn clock_once(alloc: Global, form: TimeForm, text: &str) -> Result<Option<Vec<u8
 }
 
 // Whether a time is written so again.
-fn is_rewritten(alloc: Global, form: TimeForm, text: &str, wanted: &str) -> bool {
+fn is_rewritten(alloc: Global, form: TimeForm, text: &str, expected: &str) -> bool {
     let line = match clock_once(alloc, form, text) {
         Err(_) => clock_once(alloc, form, text),
         line => line,
     };
     match line {
-        Ok(Some(line)) => line.as_slice() == wanted.as_bytes(),
+        Ok(Some(line)) => line.as_slice() == expected.as_bytes(),
         _ => false,
     }
 }
 
 #[test]
 fn times_are_written(rt: HostRuntime) {
-    for (form, text, wanted) in CLOCKS {
-        assert!(rt; is_rewritten(rt.alloc(), form, text, wanted), "{text}");
+    for (form, text, expected) in CLOCKS {
+        assert!(rt; is_rewritten(rt.alloc(), form, text, expected), "{text}");
     }
 }
 
@@ -286,9 +281,9 @@ const CONSTANTS: [(Op, &str, Op, i128); 8] = [
 #[test]
 fn constants_are_brought_down(rt: HostRuntime) {
     for (op, text, sign, number) in CONSTANTS {
-        let found = compare_decimal(op, b'.', 2, text.as_bytes());
+        let compared = compare_decimal(op, b'.', 2, text.as_bytes());
         assert!(rt;
-            found.is_some_and(|found| found.op == sign && found.number == number),
+            compared.is_some_and(|compared| compared.op == sign && compared.number == number),
             "{text}"
         );
     }
@@ -310,7 +305,7 @@ fn finds_stations(texts: &Dictionary) -> bool {
         && below.number == 1
 }
 
-// Whether texts are found by their places, and constants that are none of them compared.
+// Whether texts are found by their ranks, and constants that are none of them compared.
 fn stations_are_found(alloc: Global) -> bool {
     let made = match stations_once(alloc) {
         Err(_) => stations_once(alloc),
@@ -375,20 +370,20 @@ fn text_once(alloc: Global, number: i64) -> Result<Vec<u8>, NoMemory> {
 }
 
 // Whether a number is written so.
-fn is_written(alloc: Global, number: i64, wanted: &str) -> bool {
+fn is_written(alloc: Global, number: i64, expected: &str) -> bool {
     let line = match text_once(alloc, number) {
         Err(_) => text_once(alloc, number),
         line => line,
     };
     match line {
-        Ok(line) => line.as_slice() == wanted.as_bytes(),
+        Ok(line) => line.as_slice() == expected.as_bytes(),
         Err(_) => false,
     }
 }
 
 #[test]
 fn numbers_are_written(rt: HostRuntime) {
-    for (number, wanted) in WRITTEN {
-        assert!(rt; is_written(rt.alloc(), number, wanted), "{wanted}");
+    for (number, expected) in WRITTEN {
+        assert!(rt; is_written(rt.alloc(), number, expected), "{expected}");
     }
 }

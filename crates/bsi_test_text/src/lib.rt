@@ -1,10 +1,12 @@
-//! Tests of calls on texts, schemas, row files and their faults, and scripts that come in parts. No crate uses it.
+//! Tests of calls on texts, schemas, row files and their faults, and scripts that come in chunks. No crate uses it.
 #![tactic(auto)]
 
 #[cfg(test)]
 mod blocks;
 #[cfg(test)]
 mod calls;
+#[cfg(test)]
+mod chunks;
 #[cfg(test)]
 mod ends;
 #[cfg(test)]
@@ -13,8 +15,6 @@ mod inferring;
 mod kinds;
 #[cfg(test)]
 mod logicals;
-#[cfg(test)]
-mod parts;
 #[cfg(test)]
 mod row_files;
 #[cfg(test)]

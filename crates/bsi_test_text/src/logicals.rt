@@ -1,11 +1,11 @@
-//! The texts of schemas of kinds, and what their columns make of fields, constants and numbers.
+//! Tests of the texts of logical schemas, and of what their columns make of fields, constants and numbers.
 
 use crate::ends::{broken, whole};
 use bsi_fixtures::TextReader;
+use bsi_input::SourceFault;
 use bsi_logical::{
     Comparison, LogicalFault, LogicalSchema, NoMemory, Op, Refusal, describe_logical, read_logical,
 };
-use bsi_reading::SourceFault;
 use std::alloc::Global;
 use std::test::Fail;
 
@@ -55,15 +55,15 @@ const REFUSED: [(&str, Refusal); 37] = [
     ("dialect,\",\",\",\"\n", Refusal::BadDialect),
     ("dialect,\",\",.\n", Refusal::BadDialect),
     ("dialect,\"\"\"\",.\n", Refusal::BadDialect),
-    ("dialect,;,.\ndialect,|,.\n", Refusal::DialectStands),
+    ("dialect,;,.\ndialect,|,.\n", Refusal::DialectDeclared),
     ("null\n", Refusal::BadNull),
     ("null,NA,none\n", Refusal::BadNull),
-    ("null,\n", Refusal::NullStands),
-    ("null,NA\nnull,NA\n", Refusal::NullStands),
+    ("null,\n", Refusal::NullDeclared),
+    ("null,NA\nnull,NA\n", Refusal::NullDeclared),
     ("title,a\n", Refusal::BadTitle),
     ("title,c,C\n", Refusal::NoColumn),
     ("title,a,A\ntitle,A,B\n", Refusal::NoColumn),
-    ("title,a,A\ntitle,a,B\n", Refusal::TitleStands),
+    ("title,a,A\ntitle,a,B\n", Refusal::TitleDeclared),
     ("title,a,a\n", Refusal::TitleTaken),
     ("title,a,b\n", Refusal::TitleTaken),
     ("title,a,A\ntitle,b,A\n", Refusal::TitleTaken),
@@ -74,7 +74,7 @@ const REFUSED: [(&str, Refusal); 37] = [
     ("kind,a,time,h,utc\n", Refusal::BadKind),
     ("kind,a,boolean,yes,yes\n", Refusal::BadKind),
     ("kind,c,text\n", Refusal::NoColumn),
-    ("kind,a,text\nkind,a,decimal,2\n", Refusal::KindStands),
+    ("kind,a,text\nkind,a,decimal,2\n", Refusal::KindDeclared),
     ("text,a,Hill\n", Refusal::NoTexts),
     (
         "kind,t,text\ntext,t,Hill\ntext,t,Harbour\n",

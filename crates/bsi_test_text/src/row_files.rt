@@ -1,4 +1,4 @@
-//! The rows of row files.
+//! Tests of the rows that a source reads from a row file, and that its end or its fault stays.
 
 use crate::ends::{broken, whole};
 use bsi_fixtures::TextReader;
@@ -44,12 +44,12 @@ fn next<R: Read + Drop>(
     }
 }
 
-// Whether a call filled the row with these entries, or told the rest.
-fn is_given(found: Result<bool, SourceFault>, row: &Row, want: GivenRow<'_>) -> bool {
-    match (found, want) {
+// Whether a call filled the row with these entries, or answered the rest.
+fn is_given(answer: Result<bool, SourceFault>, row: &Row, want: GivenRow<'_>) -> bool {
+    match (answer, want) {
         (Ok(false), Ok(None)) => true,
         (Ok(true), Ok(Some(entries))) => row.values() == entries,
-        (Err(fault), Err(wanted)) => fault == wanted,
+        (Err(fault), Err(expected)) => fault == expected,
         _ => false,
     }
 }
@@ -63,12 +63,12 @@ fn gives_each<R: Read + Drop>(
     is_own: bool,
 ) -> Result<bool, SourceFault> {
     for given in file.want {
-        let found = next(source, row, is_own);
-        if found == Err(SourceFault::NoMemory) {
+        let answer = next(source, row, is_own);
+        if answer == Err(SourceFault::NoMemory) {
             let again = next(source, row, is_own);
-            return if again == found { found } else { Ok(false) };
+            return if again == answer { answer } else { Ok(false) };
         }
-        if !is_given(found, row, *given) {
+        if !is_given(answer, row, *given) {
             return Ok(false);
         }
     }

@@ -1,8 +1,8 @@
-//! The texts of schemas.
+//! Tests of schemas that are read from their texts, and described as texts again.
 
 use crate::ends::{broken, whole};
 use bsi_fixtures::TextReader;
-use bsi_reading::describe_schema;
+use bsi_input::describe_schema;
 use bsi_text::{SchemaFault, SourceFault, read_schema};
 use std::alloc::Global;
 

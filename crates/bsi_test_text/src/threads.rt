@@ -1,4 +1,4 @@
-//! What threads may hand to one another.
+//! Tests that rows, queries, answers and indexes may go from thread to thread.
 
 use bsi_table::{Answer, Index, Query, Row, Schema};
 use bsi_text::RowSource;

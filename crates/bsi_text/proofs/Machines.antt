@@ -7,7 +7,7 @@ use Rattle.std.proofs.lemmas.List.Elements.{All-get_or}
 use Rattle.std.proofs.lemmas.List.Sums.{position_or_len_is}
 use Rattle.bsi_rows.specs.Sizes.{is_out_of_range, sizes_refusal}
 use Rattle.bsi_schema.specs.Columns.{Declared}
-use Rattle.bsi_records.specs.Setups.{IsSetup}
+use Rattle.bsi_syntax.specs.Setups.{IsSetup}
 
 in_range : (n : ℕ) → (1 ≤ n) × (n ≤ 65536) → is_out_of_range n ≡ false
 in_range n is =

@@ -4,24 +4,24 @@ ghost use Rattle.std.specs.Prelude.{◌≡◌, ◌≢◌, ◌++◌, [], Err, OnO
 ghost use Rattle.std.specs.Io.KnownBytes.{Appends};
 ghost use Rattle.csv.specs.Reading.{reader_state, source_of};
 ghost use Rattle.csv.specs.declared.parser.State.TheVariants as st;
-ghost use Rattle.bsi_records.specs.Setups.{nothing_declared};
+ghost use Rattle.bsi_syntax.specs.Setups.{nothing_declared};
 ghost use Rattle.bsi_text.specs.FaultTexts.{script_fault_text};
-ghost use Rattle.bsi_reading.specs.Scripts.{Declaring};
+ghost use Rattle.bsi_input.specs.Scripts.{Declaring};
 ghost use Rattle.bsi_text.specs.Sessions.{phase_of};
-ghost use Rattle.bsi_reading.specs.Sources.{IsPlain};
-ghost use Rattle.bsi_reading.specs.Texts.{FromText, IfKnown, IsAnswered, IsBegun, IsStopped, IsTooLong, OnceServed};
-ghost use Rattle.bsi_reading.specs.Waiting.{IsCut, IsPut, WhileWritten};
+ghost use Rattle.bsi_input.specs.Sources.{IsPlainReader};
+ghost use Rattle.bsi_input.specs.Texts.{ForText, ForTextAfterFlush, IfBytesKnown, IsAnswered, IsTooLong, WrotePrefix, WroteWholeLines};
+ghost use Rattle.bsi_input.specs.Waiting.{AppendsAllBut, AppendsPrefix, HoldsAfterAnyPartialFlush};
 
 use crate::session::Session;
 use crate::{NoMemory, WriteFault, write_bytes};
-use bsi_reading::{MAX_RECORDS, Watched, has_whole_record, plain_reader, read_next};
+use bsi_input::{MAX_RECORDS, RecordAwareReader, has_buffered_record, plain_reader, read_next};
 use csv::{ByteRecord, Reader};
 use std::alloc::Global;
 use std::io::{Read, Write};
 use thiserror::Error;
 
-/// The most bytes of waiting lines.
-const MAX_GATHERED: usize = 1 << 16;
+/// The most bytes of buffered lines.
+const MAX_BUFFERED: usize = 1 << 16;
 
 /// Why a script ends before its input does. `run_script` says what was written.
 #[derive(Clone, Copy, Debug, PartialEq, Eq, Error)]
@@ -104,29 +104,29 @@ pub fn run_script<R: Read + Drop, W: Write>(
     writer: &mut W,
 ) -> Result<(), ScriptFault>
     ensures ok { OnOk result
-        (IfKnown (R.remaining reader) IsAnswered (W.contents writer.old) (W.contents writer.new)) }
+        (IfBytesKnown (R.remaining reader) IsAnswered (W.contents writer.old) (W.contents writer.new)) }
     ensures too_long { result ≡ Err ScriptFault.TooLong →
-        IfKnown (R.remaining reader) IsTooLong (W.contents writer.old) (W.contents writer.new) }
+        IfBytesKnown (R.remaining reader) IsTooLong (W.contents writer.old) (W.contents writer.new) }
     ensures fault { OnErr result
-        (IfKnown (R.remaining reader) IsBegun (W.contents writer.old) (W.contents writer.new)) }
+        (IfBytesKnown (R.remaining reader) WrotePrefix (W.contents writer.old) (W.contents writer.new)) }
     ensures whole { IfErr result (λ fault. fault ≢ ScriptFault.Write →
-        IfKnown (R.remaining reader) IsStopped (W.contents writer.old) (W.contents writer.new)) }
+        IfBytesKnown (R.remaining reader) WroteWholeLines (W.contents writer.old) (W.contents writer.new)) }
 {
-    let mut input = plain_reader(alloc, Watched::new(reader));
+    let mut input = plain_reader(alloc, RecordAwareReader::new(reader));
     let mut session = Session::new(alloc);
     let mut fields = ByteRecord::new(alloc);
     let mut line = Vec::new(alloc);
-    let mut waiting = Vec::new(alloc);
+    let mut buffer = Vec::new(alloc);
     let ended = serve(
         alloc,
         &mut session,
         &mut input,
         &mut fields,
         &mut line,
-        &mut waiting,
+        &mut buffer,
         writer,
     );
-    write_waiting(&mut waiting, writer)?;
+    flush_buffer(&mut buffer, writer)?;
     ended
 }
 
@@ -135,89 +135,93 @@ pub fn run_script<R: Read + Drop, W: Write>(
 fn serve<R: Read + Drop, W: Write>(
     alloc: Global,
     session: &mut Session,
-    input: &mut Reader<Watched<R>>,
+    input: &mut Reader<RecordAwareReader<R>>,
     fields: &mut ByteRecord,
     line: &mut Vec<u8>,
-    waiting: &mut Vec<u8>,
+    buffer: &mut Vec<u8>,
     writer: &mut W,
 ) -> Result<(), ScriptFault>
     requires first { phase_of session.old ≡ Declaring nothing_declared }
-    requires plain { IsPlain input.old }
+    requires plain { IsPlainReader input.old }
     requires start { reader_state input.old ≡ st.StartRecord }
-    requires none { waiting.old.items ≡ [] }
+    requires none { buffer.old.items ≡ [] }
     ensures ok { OnOk result
-        (OnceServed (source_of (λ w. R.remaining w.inner) input.old) IsAnswered
-        (W.contents writer.old) (W.contents writer.new) waiting.new.items) }
+        (ForTextAfterFlush (source_of (λ w. R.remaining w.inner) input.old) IsAnswered
+        (W.contents writer.old) (W.contents writer.new) buffer.new.items) }
     ensures too_long { result ≡ Err ScriptFault.TooLong →
-        OnceServed (source_of (λ w. R.remaining w.inner) input.old) IsTooLong
-        (W.contents writer.old) (W.contents writer.new) waiting.new.items }
+        ForTextAfterFlush (source_of (λ w. R.remaining w.inner) input.old) IsTooLong
+        (W.contents writer.old) (W.contents writer.new) buffer.new.items }
     ensures whole { IfErr result (λ fault. fault ≢ ScriptFault.Write →
-        OnceServed (source_of (λ w. R.remaining w.inner) input.old) IsStopped
-        (W.contents writer.old) (W.contents writer.new) waiting.new.items) }
-    ensures part { FromText (source_of (λ w. R.remaining w.inner) input.old)
-        (λ bytes. WhileWritten (W.contents writer.new) waiting.new.items
-        (IsBegun bytes (W.contents writer.old))) }
+        ForTextAfterFlush (source_of (λ w. R.remaining w.inner) input.old) WroteWholeLines
+        (W.contents writer.old) (W.contents writer.new) buffer.new.items) }
+    ensures prefix { ForText (source_of (λ w. R.remaining w.inner) input.old)
+        (λ bytes. HoldsAfterAnyPartialFlush (W.contents writer.new) buffer.new.items
+        (WrotePrefix bytes (W.contents writer.old))) }
 {
     'records: for count in 0..MAX_RECORDS {
-        make_way(input, waiting, writer)?;
+        flush_unless_buffered(input, buffer, writer)?;
         if !read_next(input, fields)? {
             return Ok(());
         }
         session.answer(alloc, fields, line)?;
-        let_wait(line.as_slice(), waiting, writer)?;
+        buffer_line(line.as_slice(), buffer, writer)?;
     }
-    make_way(input, waiting, writer)?;
+    flush_unless_buffered(input, buffer, writer)?;
     if read_next(input, fields)? {
         return Err(ScriptFault::TooLong);
     }
     Ok(())
 }
 
-/// Writes the waiting lines, unless the next record was already read as a whole.
-fn make_way<R: Read + Drop, W: Write>(
-    input: &Reader<Watched<R>>,
-    waiting: &mut Vec<u8>,
+/// Flushes the buffered lines, unless the next record was already read as a whole.
+fn flush_unless_buffered<R: Read + Drop, W: Write>(
+    input: &Reader<RecordAwareReader<R>>,
+    buffer: &mut Vec<u8>,
     writer: &mut W,
 ) -> Result<(), WriteFault>
     ensures ok { OnOk result
-        (IsPut (W.contents writer.old) (W.contents writer.new) waiting.new.items
-        waiting.old.items) }
-    ensures part { OnErr result
-        (IsCut (W.contents writer.old) (W.contents writer.new) waiting.old.items) }
-    ensures none { OnErr result (waiting.new.items ≡ []) }
+        (AppendsAllBut (W.contents writer.old) (W.contents writer.new) buffer.new.items
+        buffer.old.items) }
+    ensures prefix { OnErr result
+        (AppendsPrefix (W.contents writer.old) (W.contents writer.new) buffer.old.items) }
+    ensures none { OnErr result (buffer.new.items ≡ []) }
 {
-    if has_whole_record(input) {
+    if has_buffered_record(input) {
         return Ok(());
     }
-    write_waiting(waiting, writer)
+    flush_buffer(buffer, writer)
 }
 
-/// Lets a line wait after the others. If there would be too many bytes, or memory is refused, it writes all lines.
-fn let_wait<W: Write>(line: &[u8], waiting: &mut Vec<u8>, writer: &mut W) -> Result<(), WriteFault>
+/// Appends a line to the buffer. If there would be too many bytes, or memory is refused, it writes all lines.
+fn buffer_line<W: Write>(
+    line: &[u8],
+    buffer: &mut Vec<u8>,
+    writer: &mut W,
+) -> Result<(), WriteFault>
     ensures ok { OnOk result
-        (IsPut (W.contents writer.old) (W.contents writer.new) waiting.new.items
-        (waiting.old.items ++ line.now)) }
-    ensures part { OnErr result
-        (IsCut (W.contents writer.old) (W.contents writer.new) (waiting.old.items ++ line.now)) }
-    ensures none { OnErr result (waiting.new.items ≡ []) }
+        (AppendsAllBut (W.contents writer.old) (W.contents writer.new) buffer.new.items
+        (buffer.old.items ++ line.now)) }
+    ensures prefix { OnErr result
+        (AppendsPrefix (W.contents writer.old) (W.contents writer.new) (buffer.old.items ++ line.now)) }
+    ensures none { OnErr result (buffer.new.items ≡ []) }
 {
-    let many = waiting.len().saturating_add(line.len()) > MAX_GATHERED;
-    if !many && waiting.extend_from_slice(line).is_ok() {
+    let many = buffer.len().saturating_add(line.len()) > MAX_BUFFERED;
+    if !many && buffer.extend_from_slice(line).is_ok() {
         return Ok(());
     }
-    write_waiting(waiting, writer)?;
+    flush_buffer(buffer, writer)?;
     write_bytes(writer, line)
 }
 
-/// Writes the waiting lines. From then on none waits.
-fn write_waiting<W: Write>(waiting: &mut Vec<u8>, writer: &mut W) -> Result<(), WriteFault>
+/// Flushes the buffer, which is empty from then on.
+fn flush_buffer<W: Write>(buffer: &mut Vec<u8>, writer: &mut W) -> Result<(), WriteFault>
     ensures ok { OnOk result
-        (Appends (W.contents writer.old) (W.contents writer.new) waiting.old.items) }
-    ensures part { OnErr result
-        (IsCut (W.contents writer.old) (W.contents writer.new) waiting.old.items) }
-    ensures none { waiting.new.items ≡ [] }
+        (Appends (W.contents writer.old) (W.contents writer.new) buffer.old.items) }
+    ensures prefix { OnErr result
+        (AppendsPrefix (W.contents writer.old) (W.contents writer.new) buffer.old.items) }
+    ensures none { buffer.new.items ≡ [] }
 {
-    let written = write_bytes(writer, waiting.as_slice());
-    waiting.clear();
+    let written = write_bytes(writer, buffer.as_slice());
+    buffer.clear();
     written
 }

@@ -2,13 +2,13 @@
 
 ghost use Rattle.std.specs.Prelude.{◌≡◌, ◌++◌, [], IfOk, IsTrue, OnOk};
 ghost use Rattle.csv.specs.Records.{fields_of};
-ghost use Rattle.bsi_records.specs.Lines.{done_line};
-ghost use Rattle.bsi_records.specs.Setups.{can_begin, machine_of};
-ghost use Rattle.bsi_reading.specs.Scripts.{IsTurn, Running};
+ghost use Rattle.bsi_syntax.specs.Lines.{done_line};
+ghost use Rattle.bsi_syntax.specs.Setups.{can_begin, machine_of};
+ghost use Rattle.bsi_input.specs.Scripts.{IsTurn, Running};
 
 use crate::NoMemory;
 use bsi_load::{Core, MakeError};
-use bsi_records::{Setup, is_begin, read_event, write_bad, write_reply};
+use bsi_syntax::{Setup, is_begin, read_event, write_bad, write_reply};
 use csv::ByteRecord;
 use std::alloc::Global;
 use std::mem;
@@ -23,8 +23,8 @@ pub(crate) enum Session {
 }
 
 impl Session {
-    ghost use Rattle.bsi_records.specs.Setups.{nothing_declared};
-    ghost use Rattle.bsi_reading.specs.Scripts.{Declaring};
+    ghost use Rattle.bsi_syntax.specs.Setups.{nothing_declared};
+    ghost use Rattle.bsi_input.specs.Scripts.{Declaring};
     ghost use Rattle.bsi_text.specs.Sessions.{phase_of};
 
     /// Makes a script of which no record has been read.

@@ -6,7 +6,7 @@
 
 ghost use Rattle.std.specs.Prelude.{◌≡◌, ◌+◌, ◌*◌, ◌≤◌, length, sum_by, take, count_ones};
 ghost use Rattle.std.specs.Simd.Lanes.{chunk, zip2};
-ghost use Rattle.bsi_bits.specs.Adders.{held};
+ghost use Rattle.bsi_bits.specs.Adders.{added_ones};
 
 use crate::lanes::operations::Operation;
 use crate::lanes::{LANES, MAX_COUNTED, ones_in};
@@ -51,8 +51,8 @@ impl Adders {
     fn add_two<O: Operation>(&mut self, a: &[u64], b: &[u64], at: usize) -> u64x4
         requires same { length a.now ≡ length b.now }
         requires within { at + 2 * LANES ≤ length a.now }
-        ensures added { held self.new.ones self.new.twos self.new.fours + 2 * sum_by count_ones result
-            ≡ held self.old.ones self.old.twos self.old.fours
+        ensures added { added_ones self.new.ones self.new.twos self.new.fours + 2 * sum_by count_ones result
+            ≡ added_ones self.old.ones self.old.twos self.old.fours
             + sum_by count_ones (chunk at (2 * LANES) (zip2 O.word_of a.now b.now)) }
         ensures few { sum_by count_ones (chunk at (2 * LANES) (zip2 O.word_of a.now b.now))
             ≤ 64 * (2 * LANES) }
@@ -69,8 +69,8 @@ impl Adders {
     fn add_four<O: Operation>(&mut self, a: &[u64], b: &[u64], at: usize) -> u64x4
         requires same { length a.now ≡ length b.now }
         requires within { at + 4 * LANES ≤ length a.now }
-        ensures added { held self.new.ones self.new.twos self.new.fours + 4 * sum_by count_ones result
-            ≡ held self.old.ones self.old.twos self.old.fours
+        ensures added { added_ones self.new.ones self.new.twos self.new.fours + 4 * sum_by count_ones result
+            ≡ added_ones self.old.ones self.old.twos self.old.fours
             + sum_by count_ones (chunk at (4 * LANES) (zip2 O.word_of a.now b.now)) }
         ensures few { sum_by count_ones (chunk at (4 * LANES) (zip2 O.word_of a.now b.now))
             ≤ 64 * (4 * LANES) }
@@ -86,8 +86,8 @@ impl Adders {
     fn add_eight<O: Operation>(&mut self, a: &[u64], b: &[u64], at: usize) -> u64x4
         requires same { length a.now ≡ length b.now }
         requires within { at + ADDED ≤ length a.now }
-        ensures added { held self.new.ones self.new.twos self.new.fours + 8 * sum_by count_ones result
-            ≡ held self.old.ones self.old.twos self.old.fours
+        ensures added { added_ones self.new.ones self.new.twos self.new.fours + 8 * sum_by count_ones result
+            ≡ added_ones self.old.ones self.old.twos self.old.fours
             + sum_by count_ones (chunk at ADDED (zip2 O.word_of a.now b.now)) }
         ensures few { sum_by count_ones (chunk at ADDED (zip2 O.word_of a.now b.now)) ≤ 64 * ADDED }
     {
@@ -130,7 +130,7 @@ pub(crate) fn count_blocks<O: Operation>(a: &[u64], b: &[u64], count: usize) -> 
         fours: none,
     };
     let (mut eights, mut singles) = (0u64, 0u64);
-    'parts: for k in 0..count {
+    'chunks: for k in 0..count {
         singles += count_singly::<O>(a, b, BLOCK * k + ADDED);
         eights += ones_in(adders.add_eight::<O>(a, b, BLOCK * k));
     }

@@ -1,18 +1,18 @@
-use Rattle.bsi_ffi.proofs.Telling.{where_done, where_other, where_refused}
-use Rattle.bsi_ffi.specs.declared.refusal.Refusal.TheVariants.{NoRoom}
+use Rattle.bsi_ffi.proofs.Statuses.{where_done, where_other, where_refused}
+use Rattle.bsi_ffi.specs.declared.refusal.Refusal.TheVariants.{BufferTooSmall}
 use Rattle.bsi_c.proofs.bsi_open_kept.Goals as goal
 
-pub returns-clause-told : goal.returns-clause-told
-returns-clause-told c = (c.open_kept.result, c.status_of.ensures, c.open_kept.ensures.ending)
+pub returns-clause-status : goal.returns-clause-status
+returns-clause-status c = (c.open_saved.result, c.status_of.ensures, c.open_saved.ensures.ending)
 
-pub returns-clause-left : goal.returns-clause-left
-returns-clause-left c = where_other NoRoom _ c.open_kept.result _ c.status_of.ensures c.open_kept.ensures.left
+pub returns-clause-size_unchanged : goal.returns-clause-size_unchanged
+returns-clause-size_unchanged c = where_other BufferTooSmall _ c.open_saved.result _ c.status_of.ensures c.open_saved.ensures.size_unchanged
 
-pub returns-clause-unfilled : goal.returns-clause-unfilled
-returns-clause-unfilled c = where_refused _ c.open_kept.result _ c.status_of.ensures c.open_kept.ensures.unfilled
+pub returns-clause-notes_unchanged : goal.returns-clause-notes_unchanged
+returns-clause-notes_unchanged c = where_refused _ c.open_saved.result _ c.status_of.ensures c.open_saved.ensures.notes_unchanged
 
-pub returns-clause-rest : goal.returns-clause-rest
-returns-clause-rest c = where_done _ c.open_kept.result _ c.status_of.ensures c.open_kept.ensures.rest
+pub returns-clause-rest_unchanged : goal.returns-clause-rest_unchanged
+returns-clause-rest_unchanged c = where_done _ c.open_saved.result _ c.status_of.ensures c.open_saved.ensures.rest_unchanged
 
-pub returns-clause-kept : goal.returns-clause-kept
-returns-clause-kept c = where_refused _ c.open_kept.result _ c.status_of.ensures c.open_kept.ensures.kept
+pub returns-clause-unchanged : goal.returns-clause-unchanged
+returns-clause-unchanged c = where_refused _ c.open_saved.result _ c.status_of.ensures c.open_saved.ensures.unchanged

@@ -1,8 +1,8 @@
-use Rattle.bsi_ffi.proofs.Telling.{where_refused}
+use Rattle.bsi_ffi.proofs.Statuses.{where_refused}
 use Rattle.bsi_c.proofs.bsi_rows.Goals as goal
 
-pub returns-clause-told : goal.returns-clause-told
-returns-clause-told c = (c.count.result, c.status_of.ensures, c.count.ensures.ending)
+pub returns-clause-status : goal.returns-clause-status
+returns-clause-status c = (c.count.result, c.status_of.ensures, c.count.ensures.ending)
 
-pub returns-clause-left : goal.returns-clause-left
-returns-clause-left c = where_refused _ c.count.result _ c.status_of.ensures c.count.ensures.left
+pub returns-clause-rows_unchanged : goal.returns-clause-rows_unchanged
+returns-clause-rows_unchanged c = where_refused _ c.count.result _ c.status_of.ensures c.count.ensures.rows_unchanged

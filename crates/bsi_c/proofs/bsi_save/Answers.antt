@@ -1,15 +1,15 @@
-use Rattle.bsi_ffi.proofs.Telling.{where_done, where_other, where_refused}
-use Rattle.bsi_ffi.specs.declared.refusal.Refusal.TheVariants.{NoRoom}
+use Rattle.bsi_ffi.proofs.Statuses.{where_done, where_other, where_refused}
+use Rattle.bsi_ffi.specs.declared.refusal.Refusal.TheVariants.{BufferTooSmall}
 use Rattle.bsi_c.proofs.bsi_save.Goals as goal
 
-pub returns-clause-told : goal.returns-clause-told
-returns-clause-told c = (c.save.result, c.status_of.ensures, c.save.ensures.ending)
+pub returns-clause-status : goal.returns-clause-status
+returns-clause-status c = (c.save.result, c.status_of.ensures, c.save.ensures.ending)
 
-pub returns-clause-left : goal.returns-clause-left
-returns-clause-left c = where_other NoRoom _ c.save.result _ c.status_of.ensures c.save.ensures.left
+pub returns-clause-size_unchanged : goal.returns-clause-size_unchanged
+returns-clause-size_unchanged c = where_other BufferTooSmall _ c.save.result _ c.status_of.ensures c.save.ensures.size_unchanged
 
-pub returns-clause-unfilled : goal.returns-clause-unfilled
-returns-clause-unfilled c = where_refused _ c.save.result _ c.status_of.ensures c.save.ensures.unfilled
+pub returns-clause-bytes_unchanged : goal.returns-clause-bytes_unchanged
+returns-clause-bytes_unchanged c = where_refused _ c.save.result _ c.status_of.ensures c.save.ensures.bytes_unchanged
 
-pub returns-clause-rest : goal.returns-clause-rest
-returns-clause-rest c = where_done _ c.save.result _ c.status_of.ensures c.save.ensures.rest
+pub returns-clause-rest_unchanged : goal.returns-clause-rest_unchanged
+returns-clause-rest_unchanged c = where_done _ c.save.result _ c.status_of.ensures c.save.ensures.rest_unchanged

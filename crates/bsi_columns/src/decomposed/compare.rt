@@ -1,6 +1,6 @@
 //! The evaluator of comparisons with a constant, digit by digit: RangeEval-Opt (Chan and Ioannidis 1998).
 //!
-//! It reads digits only where the constant alone does not decide. The rows that it finds are narrowed by the not-null
+//! It reads digits only where the constant alone does not decide. The rows in the relation are narrowed by the not-null
 //! bitmap, so that a complement selects no null.
 //!
 //! A span of 1,024 words is written by the lowest component, narrowed by each further one, complemented if needed, and
@@ -12,17 +12,17 @@ ghost use Rattle.std.specs.Prelude.{◌≡◌, ℕ, ◌+◌, ◌*◌, ◌≤◌,
 ghost use Rattle.bsi_bits.specs.BitList.{word_count};
 ghost use Rattle.bsi_bits.specs.Packed.{bit_of};
 ghost use Rattle.bsi_digits.specs.Digits.{product};
-ghost use Rattle.bsi_orders.specs.Rows.{number_or_zero, selects};
-ghost use Rattle.bsi_columns.specs.DigitTests.{wants};
-ghost use Rattle.bsi_slices.specs.Spans.{KeepsRows};
-ghost use Rattle.bsi_slices.specs.Decisions.{as_wanted, relates};
+ghost use Rattle.bsi_digits.specs.Comparisons.{number_or_zero, selects};
+ghost use Rattle.bsi_columns.specs.DigitTests.{passes_entry};
+ghost use Rattle.bsi_slices.specs.Spans.{AndsRows};
+ghost use Rattle.bsi_slices.specs.Decisions.{as_expected, relates};
 
 use crate::decomposed::Decomposed;
 use crate::decomposed::narrowing::narrow_digit;
 use crate::{Encoding, NoMemory, Op};
 use bsi_bits::{Bits, know_fits, lanes};
+use bsi_kernels::spans::{MAX_SPAN_WORDS, flip};
 use bsi_slices::{Decision, Test, decide};
-use bsi_words::spans::{MAX_SPAN_WORDS, flip};
 
 impl<E: Encoding> Decomposed<E> {
     /// Returns the rows whose number satisfies the comparison `op` with `constant`. It reads no component if the answer
@@ -42,56 +42,56 @@ impl<E: Encoding> Decomposed<E> {
     /// Keeps in a span of at most 1,024 words the rows whose number satisfies the comparison `op` with `constant`,
     /// which may be past the size. The first word stands for the 64 rows from row `64 * at` on. A null row is not kept,
     /// nor a bit past the last row. It takes no memory. The encoding works on spans.
-    pub fn keep_selected(&self, op: Op, constant: u64, at: usize, span: &mut [u64])
+    pub fn and_compare(&self, op: Op, constant: u64, at: usize, span: &mut [u64])
         requires spans { IsTrue E.works_on_spans }
         requires few { length span.old ≤ MAX_SPAN_WORDS }
         requires within { at + length span.old ≤ word_count (length self.now.entries) }
-        ensures { KeepsRows (selects op constant) self.now.entries at span.old span.new }
+        ensures { AndsRows (selects op constant) self.now.entries at span.old span.new }
     {
         match decide(op, constant, self.bases.size()) {
             Decision::Nothing => span.fill(0),
-            Decision::Everything => self.not_null.keep_in(at, span),
-            Decision::Tested(test) => self.keep_tested(test, at, span),
+            Decision::Everything => self.not_null.and_assign(at, span),
+            Decision::Tested(test) => self.and_test(test, at, span),
         }
     }
 
-    /// Keeps in a span the rows that a test wants, whose constant is below the size.
-    fn keep_tested(&self, test: Test, at: usize, span: &mut [u64])
+    /// Keeps in a span the rows that pass a test, whose constant is below the size.
+    fn and_test(&self, test: Test, at: usize, span: &mut [u64])
         requires spans { IsTrue E.works_on_spans }
         requires below { test.constant < product self.now.bases }
         requires few { length span.old ≤ MAX_SPAN_WORDS }
         requires within { at + length span.old ≤ word_count (length self.now.entries) }
-        ensures { KeepsRows (wants test) self.now.entries at span.old span.new }
+        ensures { AndsRows (passes_entry test) self.now.entries at span.old span.new }
     {
         let mut buffer = [0; MAX_SPAN_WORDS];
-        let found = &mut buffer[..span.len()];
-        self.find_span(test, at, found);
-        keep_wanted(found, test.wanted, span);
-        self.not_null.keep_in(at, span);
+        let selection = &mut buffer[..span.len()];
+        self.find_span(test, at, selection);
+        and_expected(selection, test.expected, span);
+        self.not_null.and_assign(at, span);
     }
 
-    /// Returns the rows that a test wants, whose constant is below the size.
+    /// Returns the rows that pass a test, whose constant is below the size.
     fn select(&self, test: Test) -> Result<Bits, NoMemory>
         requires { test.constant < product self.now.bases }
-        ensures { IfOk result (λ b. b.bits ≡ map (wants test) self.now.entries) }
+        ensures { IfOk result (λ b. b.bits ≡ map (passes_entry test) self.now.entries) }
     {
         if E::on_spans() {
             let words = self.select_words(test)?;
             Ok(Bits::from_words(words, self.not_null.len()))
         } else {
-            let found = self.not_null.bits().copy()?;
-            self.select_vectors(test, found)
+            let selection = self.not_null.bits().copy()?;
+            self.select_vectors(test, selection)
         }
     }
 
-    /// Returns the words of the rows that a test wants.
+    /// Returns the words of the rows that pass a test.
     fn select_words(&self, test: Test) -> Result<Vec<u64>, NoMemory>
         requires spans { IsTrue E.works_on_spans }
         requires below { test.constant < product self.now.bases }
         ensures few { IfOk result (λ words. length words.items
             ≡ word_count (length self.now.entries)) }
         ensures bits { IfOk result (λ words. (p : ℕ) → p < length self.now.entries →
-            bit_of words.items p ≡ slice_index_or (map (wants test) self.now.entries) p false) }
+            bit_of words.items p ≡ slice_index_or (map (passes_entry test) self.now.entries) p false) }
     {
         let len = self.not_null.bits().words().len();
         let mut words = Vec::with_capacity(*self.components.allocator(), len)?;
@@ -105,24 +105,24 @@ impl<E: Encoding> Decomposed<E> {
         Ok(words)
     }
 
-    /// Writes in a span the rows that a test wants. The first word stands for the 64 rows from row `64 * at` on.
+    /// Writes in a span the rows that pass a test. The first word stands for the 64 rows from row `64 * at` on.
     fn select_span(&self, test: Test, at: usize, span: &mut [u64])
         requires spans { IsTrue E.works_on_spans }
         requires below { test.constant < product self.now.bases }
         requires within { at + length span.old ≤ word_count (length self.now.entries) }
         ensures { (p : ℕ) → p < 64 * length span.old →
             64 * at + p < length self.now.entries → bit_of span.new p
-            ≡ slice_index_or (map (wants test) self.now.entries) (64 * at + p) false }
+            ≡ slice_index_or (map (passes_entry test) self.now.entries) (64 * at + p) false }
     {
         self.find_span(test, at, span);
-        if !test.wanted {
+        if !test.expected {
             flip(span);
         }
-        self.not_null.keep_in(at, span);
+        self.not_null.and_assign(at, span);
     }
 
-    /// Writes in a span the rows whose number is in the test's relation to the constant, be that wanted or not. A null
-    /// row counts as 0.
+    /// Writes in a span the rows whose number is in the test's relation to the constant, be that expected or not. A
+    /// null row counts as 0.
     fn find_span(&self, test: Test, at: usize, span: &mut [u64])
         requires spans { IsTrue E.works_on_spans }
         requires below { test.constant < product self.now.bases }
@@ -146,17 +146,17 @@ impl<E: Encoding> Decomposed<E> {
     }
 }
 
-/// Keeps in a span the rows that are in `found` or, if those are not wanted, the rows that are not.
-pub(crate) fn keep_wanted(found: &[u64], wanted: bool, span: &mut [u64])
-    requires { length found.now ≡ length span.old }
+/// Keeps in a span the rows that are in `selection` or, unless `expected`, the rows that are not.
+pub(crate) fn and_expected(selection: &[u64], expected: bool, span: &mut [u64])
+    requires { length selection.now ≡ length span.old }
     ensures len { length span.new ≡ length span.old }
     ensures bits { (p : ℕ) → p < 64 * length span.old →
-        bit_of span.new p ≡ (bit_of span.old p && as_wanted wanted (bit_of found.now p)) }
+        bit_of span.new p ≡ (bit_of span.old p && as_expected expected (bit_of selection.now p)) }
 {
-    if wanted {
-        lanes::and(span, found);
+    if expected {
+        lanes::and(span, selection);
     } else {
-        know_fits(found);
-        lanes::and_not(span, found);
+        know_fits(selection);
+        lanes::and_not(span, selection);
     }
 }

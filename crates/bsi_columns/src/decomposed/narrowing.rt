@@ -1,18 +1,18 @@
-//! One digit of a test, taken into a span of words.
+//! Compares one more digit of the rows of a span with that of a constant, chunk by chunk of the span (`narrow_digit`).
 
 ghost use Rattle.std.specs.Prelude.{◌≡◌, ℕ, ◌+◌, ◌*◌, ◌≤◌, ◌<◌, ◌||◌, length, slice_index, IsTrue};
 ghost use Rattle.bsi_bits.specs.BitList.{max_len, word_count};
 ghost use Rattle.bsi_bits.specs.Packed.{bit_of};
-ghost use Rattle.bsi_columns.specs.DigitTests.{relates_from};
+ghost use Rattle.bsi_columns.specs.DigitTests.{relates_step};
 
 use crate::Encoding;
 use bsi_slices::Relation;
 
-/// The number of words in a part of a span. A component narrows a part by all the bitmaps that it reads before it goes
-/// on to the next part, so that it reads them side by side.
-const PART_WORDS: usize = 64;
+/// The number of words in a chunk of a span. A component narrows a chunk by all the bitmaps that it reads before it
+/// goes on to the next chunk, so that it reads them side by side.
+const CHUNK_WORDS: usize = 64;
 
-/// Takes one more digit into the test of a span, part by part. At the lowest digit it ignores what the span holds.
+/// Compares one more digit in the test of a span, chunk by chunk. At the lowest digit it ignores what the span holds.
 pub(crate) fn narrow_digit<E: Encoding>(
     component: &E,
     relation: Relation,
@@ -26,15 +26,15 @@ pub(crate) fn narrow_digit<E: Encoding>(
     requires within { at + length span.old ≤ word_count (length (E.digits component.now)) }
     ensures { (p : ℕ) → p < 64 * length span.old →
         64 * at + p < length (E.digits component.now) → bit_of span.new p
-        ≡ relates_from relation (is_lowest || bit_of span.old p)
+        ≡ relates_step relation (is_lowest || bit_of span.old p)
         (slice_index (E.digits component.now) (64 * at + p)) digit }
 {
     know_rows(component);
     let len = span.len();
-    'parts: for k in 0..len.div_ceil(PART_WORDS) {
-        let from = PART_WORDS * k;
-        let part = &mut span[from..from + PART_WORDS.min(len - from)];
-        narrow_part(component, relation, digit, is_lowest, at + from, part);
+    'chunks: for k in 0..len.div_ceil(CHUNK_WORDS) {
+        let from = CHUNK_WORDS * k;
+        let chunk = &mut span[from..from + CHUNK_WORDS.min(len - from)];
+        narrow_chunk(component, relation, digit, is_lowest, at + from, chunk);
     }
 }
 
@@ -45,8 +45,8 @@ fn know_rows<E: Encoding>(component: &E)
     let _rows = component.len();
 }
 
-/// Takes one more digit into the test of a part of a span.
-fn narrow_part<E: Encoding>(
+/// Compares one more digit in the test of a chunk of a span.
+fn narrow_chunk<E: Encoding>(
     component: &E,
     relation: Relation,
     digit: u32,
@@ -59,7 +59,7 @@ fn narrow_part<E: Encoding>(
     requires within { at + length span.old ≤ word_count (length (E.digits component.now)) }
     ensures { (p : ℕ) → p < 64 * length span.old →
         64 * at + p < length (E.digits component.now) → bit_of span.new p
-        ≡ relates_from relation (is_lowest || bit_of span.old p)
+        ≡ relates_step relation (is_lowest || bit_of span.old p)
         (slice_index (E.digits component.now) (64 * at + p)) digit }
 {
     match relation {

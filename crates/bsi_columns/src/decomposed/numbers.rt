@@ -3,14 +3,14 @@
 ghost use Rattle.std.specs.Prelude.{◌≡◌, ℕ, ◌+◌, ◌*◌, ◌<◌, ◌≤◌, length, slice_index};
 ghost use Rattle.bsi_bits.specs.BitList.{max_block, word_count};
 ghost use Rattle.bsi_bits.specs.Packed.{bit_of, end_of_u64};
-ghost use Rattle.bsi_columns.specs.Ends.{number_at};
+ghost use Rattle.bsi_columns.specs.Extremes.{number_at};
 ghost use Rattle.bsi_columns.specs.NumberPlaces.{IsNumberAt};
 ghost use Rattle.bsi_slices.specs.Blocks.{AreNumbersFrom};
-ghost use Rattle.bsi_words.specs.Places.{has_place};
+ghost use Rattle.bsi_kernels.specs.Places.{has_place};
 
 use crate::BinaryPlaces;
 use crate::decomposed::Decomposed;
-use crate::places::{BLOCK_WORDS, add_times};
+use crate::places::{REGISTER_BLOCK_WORDS, add_times};
 use bsi_bits::MAX_BLOCK;
 use bsi_components::place_count;
 use bsi_slices::transposing::transpose;
@@ -28,7 +28,7 @@ impl<E: BinaryPlaces> Decomposed<E> {
         let bases = self.bases();
         'components: for i in (0..bases.len()).rev() {
             digits_into(self.component(i), at, &mut digits);
-            take_in(u64::from(bases.base(i)), &digits, numbers);
+            push_digit(u64::from(bases.base(i)), &digits, numbers);
         }
     }
 
@@ -39,10 +39,10 @@ impl<E: BinaryPlaces> Decomposed<E> {
         &self,
         at: usize,
         words: usize,
-        above: &mut [[u64; BLOCK_WORDS]],
-        places: &mut [[u64; BLOCK_WORDS]],
+        above: &mut [[u64; REGISTER_BLOCK_WORDS]],
+        places: &mut [[u64; REGISTER_BLOCK_WORDS]],
     )
-        requires block { words ≤ BLOCK_WORDS }
+        requires block { words ≤ REGISTER_BLOCK_WORDS }
         requires room { length above.old ≡ length places.old }
         requires within { at + words ≤ word_count (length self.now.entries) }
         ensures long { length places.new ≡ length places.old }
@@ -65,9 +65,9 @@ fn digit_places<E: BinaryPlaces>(
     component: &E,
     at: usize,
     words: usize,
-    places: &mut [[u64; BLOCK_WORDS]],
+    places: &mut [[u64; REGISTER_BLOCK_WORDS]],
 )
-    requires block { words ≤ BLOCK_WORDS }
+    requires block { words ≤ REGISTER_BLOCK_WORDS }
     requires within { at + words ≤ word_count (length (E.digits component.now)) }
     ensures long { length places.new ≡ length places.old }
     ensures digits { (p : ℕ) → p < 64 * words → 64 * at + p < length (E.digits component.now) →
@@ -84,9 +84,9 @@ fn digit_place<E: BinaryPlaces>(
     k: usize,
     at: usize,
     words: usize,
-    place: &mut [u64; BLOCK_WORDS],
+    place: &mut [u64; REGISTER_BLOCK_WORDS],
 )
-    requires block { words ≤ BLOCK_WORDS }
+    requires block { words ≤ REGISTER_BLOCK_WORDS }
     requires within { at + words ≤ word_count (length (E.digits component.now)) }
     ensures { (p : ℕ) → p < 64 * words → 64 * at + p < length (E.digits component.now) →
         bit_of place.new p ≡ has_place k (slice_index (E.digits component.now) (64 * at + p)) }
@@ -114,7 +114,7 @@ fn digits_into<E: BinaryPlaces>(component: &E, at: usize, digits: &mut [u64; MAX
 
 /// Appends to each number a digit under a base, the least significant one so far. A number past 64 bits, which no row
 /// has, is cut.
-fn take_in(base: u64, digits: &[u64; MAX_BLOCK], numbers: &mut [u64; MAX_BLOCK])
+fn push_digit(base: u64, digits: &[u64; MAX_BLOCK], numbers: &mut [u64; MAX_BLOCK])
     ensures long { length numbers.new ≡ max_block }
     ensures numbers { (r : ℕ) → r < max_block →
         slice_index numbers.old r * base + slice_index digits.now r < end_of_u64 →

@@ -1,43 +1,43 @@
-//! The totals of a found set: the sum, by the sums of the digits, and the number of a rank, by narrowing the found set
+//! The totals of a selection: the sum, by the sums of the digits, and the number of a rank, by narrowing the selection
 //! from the most significant component down.
 //!
 //! Each component goes over the rows by itself: one pass for all would need a further call of `Encoding`, and would
-//! read the found set once in place of once a component.
+//! read the selection once in place of once a component.
 
 ghost use Rattle.std.specs.Prelude.{◌≡◌, ◌<◌, length, sum, IfOk};
 ghost use Rattle.bsi_bits.specs.BitList.{sum_end};
-ghost use Rattle.bsi_orders.specs.Orders.{values_at};
-ghost use Rattle.bsi_orders.specs.Totals.{IsRanked};
+ghost use Rattle.bsi_digits.specs.Orders.{values_at};
+ghost use Rattle.bsi_digits.specs.Totals.{IsRanked};
 
 use crate::decomposed::Decomposed;
 use crate::{Column, Encoding, NoMemory};
 use bsi_bits::{Bits, MAX_LEN};
 
 impl<E: Encoding> Decomposed<E> {
-    /// Returns the sum of the numbers at the rows of a found set: for each component, its sum of digits times its
+    /// Returns the sum of the numbers at the rows of a selection: for each component, its sum of digits times its
     /// weight.
-    pub(crate) fn sum_found(&self, found: &Bits) -> u128
-        requires { length self.now.entries ≡ length found.now.bits }
-        ensures sum { result ≡ sum (values_at found.now.bits self.now.entries) }
+    pub(crate) fn sum_selected(&self, selection: &Bits) -> u128
+        requires { length self.now.entries ≡ length selection.now.bits }
+        ensures sum { result ≡ sum (values_at selection.now.bits self.now.entries) }
         ensures within { result < sum_end }
     {
         // The proof takes from this that at most 2^32 numbers, each below 2^63, add up to less than 2^95.
-        prove!(found.len() <= MAX_LEN);
+        prove!(selection.len() <= MAX_LEN);
         let bases = self.bases();
         let mut total = 0;
         'components: for i in 0..bases.len() {
-            total += self.component(i).digit_sum(found) * u128::from(bases.weight(i));
+            total += self.component(i).digit_sum(selection) * u128::from(bases.weight(i));
         }
         total
     }
 
-    /// Returns the number of a rank, from 0, among those at the rows of a found set.
-    pub(crate) fn number_of_rank(&self, found: &Bits, rank: u64) -> Result<u64, NoMemory>
-        requires same { length self.now.entries ≡ length found.now.bits }
-        requires there { rank < length (values_at found.now.bits self.now.entries) }
-        ensures { IfOk result (IsRanked (values_at found.now.bits self.now.entries) rank) }
+    /// Returns the number of a rank, from 0, among those at the rows of a selection.
+    pub(crate) fn number_of_rank(&self, selection: &Bits, rank: u64) -> Result<u64, NoMemory>
+        requires same { length self.now.entries ≡ length selection.now.bits }
+        requires there { rank < length (values_at selection.now.bits self.now.entries) }
+        ensures { IfOk result (IsRanked (values_at selection.now.bits self.now.entries) rank) }
     {
-        let mut chosen = found.copy()?;
+        let mut chosen = selection.copy()?;
         chosen.and_with(self.not_null());
         let bases = self.bases();
         let (mut number, mut left) = (0, rank);

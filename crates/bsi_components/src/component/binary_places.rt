@@ -1,14 +1,14 @@
-//! A component of bitmaps by the binary places of its digits.
+//! Implements `BinaryPlaces` for `Component`: reads the binary places of its digits, and makes a component of them.
 
 use crate::NoMemory;
 use crate::binary_places::BinaryPlaces;
 use crate::building::{are_below, digit_of_place, make_bitmaps, with_places};
 use crate::component::Component;
 use crate::encoding::Encoding;
-use crate::places::kept_places;
+use crate::places::stored_places;
 use crate::reads::Reads;
 use bsi_bits::{Bitmaps, Bits};
-use bsi_words::spans::copy_in;
+use bsi_kernels::spans::assign;
 use std::marker::PhantomData;
 
 impl<M: Reads> BinaryPlaces for Component<M> {
@@ -36,7 +36,7 @@ impl<M: Reads> BinaryPlaces for Component<M> {
         if places.is_empty() {
             self.eq_span_into(digit_of_place(self.base(), k), at, span);
         } else {
-            copy_in(&places[k], at, span);
+            assign(&places[k], at, span);
         }
     }
 
@@ -45,9 +45,9 @@ impl<M: Reads> BinaryPlaces for Component<M> {
         if !are_below(alloc, &places, base)? {
             return Ok(None);
         }
-        let kept = kept_places(base);
-        let made = make_bitmaps::<M>(alloc, &places, base, kept)?;
-        let bitmaps = Bitmaps::from_vectors(with_places(made, places, kept));
+        let stored = stored_places(base);
+        let made = make_bitmaps::<M>(alloc, &places, base, stored)?;
+        let bitmaps = Bitmaps::from_vectors(with_places(made, places, stored));
         Ok(Some(Component {
             base,
             bitmaps,

@@ -1,4 +1,4 @@
-//! The calls of a component of bitmaps as an encoding.
+//! Implements the trait `Encoding` for `Component`, by `Reads` or by the binary places that are stored.
 
 ghost use Rattle.std.specs.Prelude.{◌≡◌, ℕ, ◌<◌, true, slice_index};
 ghost use Rattle.bsi_digits.specs.Digits.{IsBase};
@@ -6,10 +6,10 @@ ghost use Rattle.bsi_digits.specs.Digits.{IsBase};
 use crate::NoMemory;
 use crate::component::{Component, push_block};
 use crate::encoding::Encoding;
-use crate::places::{kept_places, push_digit};
+use crate::places::{push_digit, stored_places};
 use crate::reads::Reads;
 use bsi_bits::{Bitmaps, Bits};
-use bsi_words::{RankedRows, sum_by_places};
+use bsi_kernels::{RankedRows, sum_by_places};
 use std::alloc::Global;
 use std::marker::PhantomData;
 
@@ -28,7 +28,7 @@ impl<M: Reads> Encoding for Component<M> {
 
     fn make(alloc: Global, base: u32) -> Result<Self, NoMemory> {
         let own = (base - M::first_stored(base)) as usize;
-        let bitmaps = Bitmaps::new(alloc, own + kept_places(base))?;
+        let bitmaps = Bitmaps::new(alloc, own + stored_places(base))?;
         Ok(Component {
             base,
             bitmaps,
@@ -62,7 +62,7 @@ impl<M: Reads> Encoding for Component<M> {
 
     fn push_reserved(&mut self, digit: u32) {
         let own = (self.base - M::first_stored(self.base)) as usize;
-        let (from, to) = M::places_of(self.base, digit);
+        let (from, to) = M::marked_range(self.base, digit);
         push_digit(&mut self.bitmaps, own, from, to, digit);
     }
 
@@ -82,22 +82,22 @@ impl<M: Reads> Encoding for Component<M> {
         M::le_into(self, d, out);
     }
 
-    fn digit_sum(&self, found: &Bits) -> u128 {
+    fn digit_sum(&self, selection: &Bits) -> u128 {
         let places = self.places();
         if places.is_empty() {
-            M::sum_by_bitmaps(self, found)
+            M::sum_by_bitmaps(self, selection)
         } else {
-            sum_by_places(places, found)
+            sum_by_places(places, selection)
         }
     }
 
     // It writes no vector.
-    fn count_le(&self, d: u32, found: &Bits, _scratch: &mut Bits) -> u64 {
-        M::count_le(self, d, found)
+    fn count_le(&self, d: u32, selection: &Bits, _scratch: &mut Bits) -> u64 {
+        M::count_le(self, d, selection)
     }
 
-    fn rows_of_rank(&self, rank: u64, found: Bits) -> Result<RankedRows, NoMemory> {
-        Ok(M::rows_of_rank(self, rank, found))
+    fn rows_of_rank(&self, rank: u64, selection: Bits) -> Result<RankedRows, NoMemory> {
+        Ok(M::rows_of_rank(self, rank, selection))
     }
 
     fn copy(&self) -> Result<Self, NoMemory> {

@@ -1,11 +1,12 @@
-//! The reads of an equality encoded component.
+//! Implements `Reads` for equality encoding: comparisons, sums, ranks and extremes by a bitmap for each digit.
 
-use crate::equality::ends::just_below;
+use crate::equality::extremes::just_below;
 use crate::equality::{Equality, EqualityComponent};
 use crate::reads::Reads;
 use bsi_bits::Bits;
-use bsi_words::spans::{copy_in, drop_in, keep_in};
-use bsi_words::{End, RankedRows, order_by_places, rows_of_rank};
+use bsi_digits::Extreme;
+use bsi_kernels::spans::{and_assign, and_not_assign, assign};
+use bsi_kernels::{RankedRows, order_by_places, rows_of_rank};
 
 impl Reads for Equality {
     fn eq_into(component: &EqualityComponent, d: u32, out: &mut Bits) {
@@ -34,39 +35,39 @@ impl Reads for Equality {
     }
 
     // Each digit but 0 times the number of the rows that have it.
-    fn sum_by_bitmaps(component: &EqualityComponent, found: &Bits) -> u128 {
+    fn sum_by_bitmaps(component: &EqualityComponent, selection: &Bits) -> u128 {
         let mut sum = 0u128;
         'digits: for j in 1..component.own_base() {
-            sum += j as u128 * found.count_and(component.bitmap(j)) as u128;
+            sum += j as u128 * selection.count_and(component.bitmap(j)) as u128;
         }
         sum
     }
 
     // It counts by the bitmaps up to the digit, or by those past it, whichever are fewer.
-    fn count_le(component: &EqualityComponent, d: u32, found: &Bits) -> u64 {
+    fn count_le(component: &EqualityComponent, d: u32, selection: &Bits) -> u64 {
         let base = component.own_base();
         if 2 * (d + 1) <= base {
-            component.count_among(0, d + 1, found)
+            component.count_among(0, d + 1, selection)
         } else {
-            found.count() - component.count_among(d + 1, base, found)
+            selection.count() - component.count_among(d + 1, base, selection)
         }
     }
 
     // It goes down the binary places of the digits, which are fewer than their bitmaps.
-    fn rows_of_rank(component: &EqualityComponent, rank: u64, found: Bits) -> RankedRows {
+    fn rows_of_rank(component: &EqualityComponent, rank: u64, selection: Bits) -> RankedRows {
         let places = component.places();
         if places.is_empty() {
-            component.rows_by_counts(rank, found)
+            component.rows_by_counts(rank, selection)
         } else {
-            rows_of_rank(places, rank, found)
+            rows_of_rank(places, rank, selection)
         }
     }
 
     fn eq_span(component: &EqualityComponent, d: u32, at: usize, span: &mut [u64]) {
         if component.is_stored(d) {
-            keep_in(component.bitmap(d), at, span);
+            and_assign(component.bitmap(d), at, span);
         } else {
-            drop_in(component.bitmap(1), at, span);
+            and_not_assign(component.bitmap(1), at, span);
         }
     }
 
@@ -85,7 +86,7 @@ impl Reads for Equality {
     // It copies one bitmap, but for digit 0 under base 2, which has none.
     fn eq_span_into(component: &EqualityComponent, d: u32, at: usize, span: &mut [u64]) {
         if component.is_stored(d) {
-            copy_in(component.bitmap(d), at, span);
+            assign(component.bitmap(d), at, span);
         } else {
             span.fill(u64::MAX);
             Self::eq_span(component, d, at, span);
@@ -106,7 +107,7 @@ impl Reads for Equality {
     ) -> Option<u32> {
         let places = component.places().len();
         if 0 < places && places <= bound as usize {
-            component.end_in_span(End::Least, Some(u64::from(bound) + 1), at, span)
+            component.extreme_in_span(Extreme::Least, Some(u64::from(bound) + 1), at, span)
         } else {
             component.least_by_bitmaps(bound, at, span)
         }
@@ -121,7 +122,7 @@ impl Reads for Equality {
     ) -> Option<u32> {
         let places = component.places().len();
         if 0 < places && places < (component.own_base() - bound) as usize {
-            component.end_in_span(End::Greatest, just_below(bound), at, span)
+            component.extreme_in_span(Extreme::Greatest, just_below(bound), at, span)
         } else {
             component.greatest_by_bitmaps(bound, at, span)
         }

@@ -7,8 +7,8 @@ ghost use Rattle.bsi_bits.specs.BitList.{max_len, word_count};
 ghost use Rattle.bsi_components.specs.Component.{IsRankedDigit};
 ghost use Rattle.bsi_components.specs.Ranks.{IsBetween};
 
-use crate::answers::RankedDigit;
 use crate::range::RangeComponent;
+use crate::ranked_digit::RankedDigit;
 use bsi_bits::{Bits, MAX_LEN};
 
 /// The number of spans in a sample, which lie evenly among all.
@@ -23,7 +23,7 @@ const MIN_SAMPLED_WORDS: usize = 1 << 13;
 /// The least rank in the sample that tells a digit: a few rows tell little.
 const MIN_SAMPLED_RANK: u64 = 128;
 
-/// The digits among which that of a rank is, and how many found rows have a digit below them.
+/// The digits among which that of a rank is, and how many selected rows have a digit below them.
 #[derive(Clone, Copy)]
 struct DigitRange {
     low: u32,
@@ -32,29 +32,29 @@ struct DigitRange {
 }
 
 impl RangeComponent {
-    /// Returns the digit of the row of rank `rank` among the rows of a found set, and its rank among those of its
+    /// Returns the digit of the row of rank `rank` among the rows of a selection, and its rank among those of its
     /// digit.
-    pub(crate) fn find_rank(&self, rank: u64, found: &Bits) -> RankedDigit
-        requires same { length self.now.digits ≡ length found.now.bits }
-        requires there { rank < count_by (λ b. b) found.now.bits }
+    pub(crate) fn find_rank(&self, rank: u64, selection: &Bits) -> RankedDigit
+        requires same { length self.now.digits ≡ length selection.now.bits }
+        requires there { rank < count_by (λ b. b) selection.now.bits }
         ensures digit { result.digit < self.now.base }
-        ensures ranked { IsRankedDigit rank found.now.bits self.now.digits result }
+        ensures ranked { IsRankedDigit rank selection.now.bits self.now.digits result }
     {
         // The proof takes from this that a rank is below 2^32.
-        prove!(found.len() <= MAX_LEN);
+        prove!(selection.len() <= MAX_LEN);
         let mut between = DigitRange {
             low: 0,
             high: self.top(),
             below: 0,
         };
-        if let Some(digit) = self.likely_digit(rank, found) {
-            between = self.narrowed(between, digit, rank, found);
-            between = self.narrowed(between, digit.max(1) - 1, rank, found);
-            between = self.narrowed(between, digit + 1, rank, found);
+        if let Some(digit) = self.likely_digit(rank, selection) {
+            between = self.narrowed(between, digit, rank, selection);
+            between = self.narrowed(between, digit.max(1) - 1, rank, selection);
+            between = self.narrowed(between, digit + 1, rank, selection);
         }
         'digits: while between.low < between.high {
             let middle = between.low + (between.high - between.low) / 2;
-            between = self.narrowed(between, middle, rank, found);
+            between = self.narrowed(between, middle, rank, selection);
         }
         RankedDigit {
             digit: between.low,
@@ -62,8 +62,8 @@ impl RangeComponent {
         }
     }
 
-    /// Keeps of a set of rows those whose digit is `d`.
-    pub(crate) fn keep_digit(&self, d: u32, rows: &mut Bits)
+    /// Clears in a set of rows those whose digit is not `d`.
+    pub(crate) fn and_digit(&self, d: u32, rows: &mut Bits)
         requires below { d < self.now.base }
         requires same { length self.now.digits ≡ length rows.old.bits }
         ensures { rows.new.bits ≡ zip2 (λ f v. f && nat_eq v d) rows.old.bits self.now.digits }
@@ -78,13 +78,13 @@ impl RangeComponent {
         }
     }
 
-    /// Counts the found rows of a digit of at most `d`, and returns the digits that are left. It counts nothing if that
-    /// tells nothing new.
-    fn narrowed(&self, between: DigitRange, d: u32, rank: u64, found: &Bits) -> DigitRange
-        requires same { length self.now.digits ≡ length found.now.bits }
-        requires holds { IsBetween self.now.base rank found.now.bits self.now.digits
+    /// Counts the selected rows of a digit of at most `d`, and returns the digits that are left. It counts nothing if
+    /// that tells nothing new.
+    fn narrowed(&self, between: DigitRange, d: u32, rank: u64, selection: &Bits) -> DigitRange
+        requires same { length self.now.digits ≡ length selection.now.bits }
+        requires holds { IsBetween self.now.base rank selection.now.bits self.now.digits
             between.low between.high between.below }
-        ensures holds { IsBetween self.now.base rank found.now.bits self.now.digits
+        ensures holds { IsBetween self.now.base rank selection.now.bits self.now.digits
             result.low result.high result.below }
         ensures fewer { between.low ≤ d → d < between.high →
             result.high - result.low < between.high - between.low }
@@ -92,7 +92,7 @@ impl RangeComponent {
         if d < between.low || d >= between.high {
             return between;
         }
-        let upto = found.count_and(self.bitmap(d));
+        let upto = selection.count_and(self.bitmap(d));
         if rank < upto {
             DigitRange { high: d, ..between }
         } else {
@@ -106,12 +106,12 @@ impl RangeComponent {
 
     /// Returns the digit that the row of a rank would have if all rows were as those of a sample, or none if there are
     /// few words or the rank in the sample is small.
-    fn likely_digit(&self, rank: u64, found: &Bits) -> Option<u32>
-        requires same { length self.now.digits ≡ length found.now.bits }
+    fn likely_digit(&self, rank: u64, selection: &Bits) -> Option<u32>
+        requires same { length self.now.digits ≡ length selection.now.bits }
         requires few { rank ≤ max_len }
         ensures { IfSome result (λ d. d < self.now.base) }
     {
-        let words = found.words().len();
+        let words = selection.words().len();
         if words < MIN_SAMPLED_WORDS {
             return None;
         }
@@ -122,7 +122,7 @@ impl RangeComponent {
         let (mut low, mut high) = (0, self.top());
         'digits: while low < high {
             let middle = low + (high - low) / 2;
-            if rank_there < self.count_sampled(middle, found) {
+            if rank_there < self.count_sampled(middle, selection) {
                 high = middle;
             } else {
                 low = middle + 1;
@@ -131,17 +131,17 @@ impl RangeComponent {
         Some(low)
     }
 
-    /// Returns how many found rows of the sample have a digit of at most `d`.
-    fn count_sampled(&self, d: u32, found: &Bits) -> u64
+    /// Returns how many selected rows of the sample have a digit of at most `d`.
+    fn count_sampled(&self, d: u32, selection: &Bits) -> u64
         requires below { d + 1 < self.now.base }
-        requires same { length self.now.digits ≡ length found.now.bits }
-        requires long { MIN_SAMPLED_WORDS ≤ word_count (length found.now.bits) }
+        requires same { length self.now.digits ≡ length selection.now.bits }
+        requires long { MIN_SAMPLED_WORDS ≤ word_count (length selection.now.bits) }
     {
-        let stride = found.words().len() / SAMPLE_SPANS;
+        let stride = selection.words().len() / SAMPLE_SPANS;
         let mut count = 0u64;
         for k in 0..SAMPLE_SPANS {
             let start = stride * k;
-            let rows = found.count_and_in(self.bitmap(d), start, start + SAMPLE_SPAN_WORDS);
+            let rows = selection.count_and_in(self.bitmap(d), start, start + SAMPLE_SPAN_WORDS);
             // The sum is at most 2^16. It saturates so that no proof has to say so.
             count = count.saturating_add(rows);
         }

@@ -1,10 +1,12 @@
-//! The reads of a range encoded component.
+//! Implements `Reads` for range encoding: comparisons, sums, ranks, extremes, by bitmaps of rows with at most a digit.
 
 use crate::range::{Range, RangeComponent};
 use crate::reads::Reads;
 use bsi_bits::Bits;
-use bsi_words::RankedRows;
-use bsi_words::spans::{add_in, copy_in, drop_in, keep_and_add, keep_but_drop, keep_in};
+use bsi_kernels::RankedRows;
+use bsi_kernels::spans::{
+    and_and_not_assign, and_assign, and_not_assign, and_or_assign, assign, or_assign,
+};
 
 impl Reads for Range {
     fn eq_into(component: &RangeComponent, d: u32, out: &mut Bits) {
@@ -31,27 +33,27 @@ impl Reads for Range {
         }
     }
 
-    // For each bitmap, the number of the found rows that it does not have.
-    fn sum_by_bitmaps(component: &RangeComponent, found: &Bits) -> u128 {
+    // For each bitmap, the number of the selected rows that it does not have.
+    fn sum_by_bitmaps(component: &RangeComponent, selection: &Bits) -> u128 {
         let mut sum = 0u128;
         'bitmaps: for j in 0..component.top() {
-            sum += found.count_and_not(component.bitmap(j)) as u128;
+            sum += selection.count_and_not(component.bitmap(j)) as u128;
         }
         sum
     }
 
-    fn count_le(component: &RangeComponent, d: u32, found: &Bits) -> u64 {
+    fn count_le(component: &RangeComponent, d: u32, selection: &Bits) -> u64 {
         if d < component.top() {
-            found.count_and(component.bitmap(d))
+            selection.count_and(component.bitmap(d))
         } else {
-            found.count()
+            selection.count()
         }
     }
 
-    fn rows_of_rank(component: &RangeComponent, rank: u64, found: Bits) -> RankedRows {
-        let ranked = component.find_rank(rank, &found);
-        let mut rows = found;
-        component.keep_digit(ranked.digit, &mut rows);
+    fn rows_of_rank(component: &RangeComponent, rank: u64, selection: Bits) -> RankedRows {
+        let ranked = component.find_rank(rank, &selection);
+        let mut rows = selection;
+        component.and_digit(ranked.digit, &mut rows);
         RankedRows {
             number: u64::from(ranked.digit),
             rank: ranked.rank,
@@ -61,21 +63,21 @@ impl Reads for Range {
 
     fn eq_span(component: &RangeComponent, d: u32, at: usize, span: &mut [u64]) {
         if d == component.top() {
-            drop_in(component.bitmap(d - 1), at, span);
+            and_not_assign(component.bitmap(d - 1), at, span);
         } else if d > 0 {
-            keep_but_drop(component.bitmap(d), component.bitmap(d - 1), at, span);
+            and_and_not_assign(component.bitmap(d), component.bitmap(d - 1), at, span);
         } else {
-            keep_in(component.bitmap(0), at, span);
+            and_assign(component.bitmap(0), at, span);
         }
     }
 
     fn le_span(component: &RangeComponent, d: u32, at: usize, span: &mut [u64]) {
         if d == component.top() {
-            add_in(component.bitmap(d - 1), at, span);
+            or_assign(component.bitmap(d - 1), at, span);
         } else if d > 0 {
-            keep_and_add(component.bitmap(d), component.bitmap(d - 1), at, span);
+            and_or_assign(component.bitmap(d), component.bitmap(d - 1), at, span);
         } else {
-            keep_in(component.bitmap(0), at, span);
+            and_assign(component.bitmap(0), at, span);
         }
     }
 
@@ -89,7 +91,7 @@ impl Reads for Range {
         if d == component.top() {
             span.fill(u64::MAX);
         } else {
-            copy_in(component.bitmap(d), at, span);
+            assign(component.bitmap(d), at, span);
         }
     }
 

@@ -1,4 +1,4 @@
-//! Whether two schemas of kinds are the same.
+//! Whether two logical schemas are the same.
 
 ghost use Rattle.std.specs.Prelude.{◌≡◌, ◌↔◌, map, IsTrue};
 

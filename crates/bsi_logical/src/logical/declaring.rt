@@ -1,17 +1,17 @@
-//! What records say of a schema, one after another.
+//! Carries out a record on a logical schema (`declare`): a column, limit, dialect, null word, title, kind or text.
 
 ghost use Rattle.std.specs.Prelude.{◌≡◌, ◌<◌, [], Some, get_or, length, option_map};
 ghost use Rattle.csv.specs.Records.{fields_of};
 ghost use Rattle.bsi_kinds.specs.Kinds.{IsKind};
-ghost use Rattle.bsi_records.specs.Reading.{texts};
-ghost use Rattle.bsi_logical.specs.Records.{column_said, dialect_given, dialect_of, dialect_said, is_whole, kind_given, kind_said, limit_said, null_given, null_said, record_said, pair_of, text_added, text_given, text_said, title_given, title_said, word_of, Does};
+ghost use Rattle.bsi_syntax.specs.Reading.{texts};
+ghost use Rattle.bsi_logical.specs.Records.{column_said, dialect_given, dialect_of, dialect_said, is_of_whole_numbers, kind_given, kind_said, limit_said, null_given, null_said, pair_of, record_said, text_added, text_given, text_said, title_given, title_said, word_of, Does};
 
 use crate::dialect::Dialect;
 use crate::kind_words::{read_byte, read_kind};
 use crate::logical::LogicalSchema;
 use crate::{DeclareError, Refusal};
 use bsi_kinds::Kind;
-use bsi_records::{field, lend_fields, read_setup};
+use bsi_syntax::{field, lend_fields, read_setup};
 use csv::ByteRecord;
 use std::alloc::Global;
 
@@ -116,12 +116,12 @@ impl LogicalSchema {
         }
     }
 
-    /// Sets another dialect than the usual one, which stands until then. If it is refused, the schema stays as it was.
+    /// Sets another dialect than the usual one, which the schema has until then. If it is refused, the schema stays as it was.
     pub fn set_dialect(&mut self, dialect: Dialect) -> Result<(), DeclareError>
         ensures { Does (dialect_given self.old dialect) self.old self.new result }
     {
         if !self.dialect.is_usual() {
-            return Err(DeclareError::Refused(Refusal::DialectStands));
+            return Err(DeclareError::Refused(Refusal::DialectDeclared));
         }
         if !dialect.is_valid() || dialect.is_usual() {
             return Err(DeclareError::Refused(Refusal::BadDialect));
@@ -146,7 +146,7 @@ impl LogicalSchema {
         ensures { Does (null_given self.old word.now) self.old self.new result }
     {
         if word.is_empty() || self.is_null_word(word) {
-            return Err(DeclareError::Refused(Refusal::NullStands));
+            return Err(DeclareError::Refused(Refusal::NullDeclared));
         }
         let word = Vec::from_slice(alloc, word)?;
         self.nulls.reserve(1)?;
@@ -174,7 +174,7 @@ impl LogicalSchema {
         ensures { Does (title_given self.old c title.now) self.old self.new result }
     {
         if self.title(c) != self.schema.name(c).as_bytes() {
-            return Err(DeclareError::Refused(Refusal::TitleStands));
+            return Err(DeclareError::Refused(Refusal::TitleDeclared));
         }
         if self.find(title).is_some() {
             return Err(DeclareError::Refused(Refusal::TitleTaken));
@@ -207,8 +207,8 @@ impl LogicalSchema {
         requires kind { IsKind kind }
         ensures { Does (kind_given self.old c kind) self.old self.new result }
     {
-        if !is_whole(self.kind(c)) {
-            return Err(DeclareError::Refused(Refusal::KindStands));
+        if !is_of_whole_numbers(self.kind(c)) {
+            return Err(DeclareError::Refused(Refusal::KindDeclared));
         }
         self.kinds[c as usize] = kind;
         Ok(())
@@ -261,8 +261,8 @@ fn read_dialect(fields: &[&[u8]]) -> Option<Dialect>
 }
 
 /// Returns whether a kind is of whole numbers.
-fn is_whole(kind: &Kind) -> bool
-    ensures { result ≡ is_whole kind.now }
+fn is_of_whole_numbers(kind: &Kind) -> bool
+    ensures { result ≡ is_of_whole_numbers kind.now }
 {
     matches!(kind, Kind::Decimal(0))
 }

@@ -1,4 +1,4 @@
-//! The schema of kinds of plain columns.
+//! Makes the logical schema of plain columns of whole numbers.
 
 ghost use Rattle.std.specs.Prelude.{◌≡◌, map, IfOk};
 ghost use Rattle.bsi_kinds.specs.declared.kind.Kind.TheVariants.{Decimal};

@@ -3,14 +3,15 @@
 ghost use Rattle.std.specs.Prelude.{◌≡◌, ◌<◌, ◌↔◌, ℤ, length, true, IfNone, IfSome, IsTrue, MatchOption, None, OnOk, Option};
 ghost use Rattle.std.specs.List.{list_any};
 ghost use Rattle.std.specs.Str.{bytes_eq};
+ghost use Rattle.bsi_kinds.specs.FieldNumbers.{comparison_of};
 ghost use Rattle.bsi_kinds.specs.Kinds.{value_at, ComparesValues, IsKind, IsNumber, Writes};
-ghost use Rattle.bsi_logical.specs.Entries.{constant_of, is_null, is_null_word, is_summed, is_text, AreAlike, IsEntry};
+ghost use Rattle.bsi_kinds.specs.Nulls.{is_null_word};
+ghost use Rattle.bsi_logical.specs.Entries.{asked_kind, constant_of, is_null, is_summed, is_text, HaveSameValues, IsEntry};
 ghost use Rattle.bsi_logical.specs.Logical.{kind_of};
 
 use crate::NoMemory;
-use crate::kind_words::ISO_DATE;
 use crate::logical::LogicalSchema;
-use bsi_kinds::{Comparison, Kind, Op, TimeForm};
+use bsi_kinds::{Comparison, ISO_DATE, Kind, Op, TimeForm};
 
 /// The decimal point of questions.
 const POINT: u8 = b'.';
@@ -53,14 +54,15 @@ impl LogicalSchema {
     /// however row files have them. It allocates no memory.
     pub fn compare(&self, c: u32, op: Op, constant: &[u8]) -> Option<Comparison>
         requires { c < length self.now.schema.columns }
-        ensures some { IfSome result (λ found. MatchOption (constant_of (kind_of self.now c) constant.now) ⊥
-            (λ value. ComparesValues (kind_of self.now c) op value found)) }
+        ensures exact { result ≡ comparison_of (asked_kind (kind_of self.now c)) op 46 constant.now }
+        ensures some { IfSome result (λ lowered. MatchOption (constant_of (kind_of self.now c) constant.now) ⊥
+            (λ value. ComparesValues (kind_of self.now c) op value lowered)) }
         ensures none { IfNone result (constant_of (kind_of self.now c) constant.now ≡ None) }
     {
         compare_asked(self.kind(c), op, constant)
     }
 
-    /// Appends the text of the value that a number of column `c` stands for, or a first part of it.
+    /// Appends the text of the value that a number of column `c` stands for, or a prefix of it.
     pub fn write(&self, c: u32, number: i64, line: &mut Vec<u8>) -> Result<(), NoMemory>
         requires column { c < length self.now.schema.columns }
         requires number { IsNumber (kind_of self.now c) number }
@@ -74,7 +76,7 @@ impl LogicalSchema {
     pub fn are_alike(&self, first: u32, second: u32) -> bool
         requires first { first < length self.now.schema.columns }
         requires second { second < length self.now.schema.columns }
-        ensures alike { IsTrue result ↔ AreAlike (kind_of self.now first) (kind_of self.now second) }
+        ensures alike { IsTrue result ↔ HaveSameValues (kind_of self.now first) (kind_of self.now second) }
         ensures values { result ≡ true → (n : ℤ) →
             value_at (kind_of self.now first) n ≡ value_at (kind_of self.now second) n }
     {
@@ -107,8 +109,9 @@ fn is_text(kind: &Kind) -> bool
 /// Brings a comparison with a constant of a question down to the numbers of a kind.
 fn compare_asked(kind: &Kind, op: Op, constant: &[u8]) -> Option<Comparison>
     requires { IsKind kind.now }
-    ensures some { IfSome result (λ found. MatchOption (constant_of kind.now constant.now) ⊥
-        (λ value. ComparesValues kind.now op value found)) }
+    ensures exact { result ≡ comparison_of (asked_kind kind.now) op 46 constant.now }
+    ensures some { IfSome result (λ lowered. MatchOption (constant_of kind.now constant.now) ⊥
+        (λ value. ComparesValues kind.now op value lowered)) }
     ensures none { IfNone result (constant_of kind.now constant.now ≡ None) }
 {
     match kind {
@@ -127,7 +130,7 @@ fn compare_asked(kind: &Kind, op: Op, constant: &[u8]) -> Option<Comparison>
 
 /// Returns whether numbers of two kinds stand for the same values.
 fn are_alike(first: &Kind, second: &Kind) -> bool
-    ensures alike { IsTrue result ↔ AreAlike first.now second.now }
+    ensures alike { IsTrue result ↔ HaveSameValues first.now second.now }
     ensures values { result ≡ true → (n : ℤ) → value_at first.now n ≡ value_at second.now n }
 {
     match (first, second) {

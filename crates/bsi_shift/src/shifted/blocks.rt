@@ -1,21 +1,21 @@
-//! 64 rows, read at once, and comparisons of two columns.
+//! Reads the whole numbers of 64 rows at once (`read_block`), and compares two columns (`and_compare_columns`).
 
 ghost use Rattle.std.specs.Prelude.{◌≡◌, ℕ, pos, ◌<ℤ◌, ◌+◌, ◌*◌, ◌<◌, ◌≤◌, ◌==◌, ◌&&◌, length, None, slice_index, slice_index_or};
 ghost use Rattle.std.specs.Int.{bit_at};
 ghost use Rattle.bsi_digits.specs.Digits.{max_size};
 ghost use Rattle.bsi_digits.specs.Signed.{end_of_i64};
 ghost use Rattle.bsi_bits.specs.BitList.{max_block, word_count};
-ghost use Rattle.bsi_orders.specs.Blocks.{value_entry};
-ghost use Rattle.bsi_orders.specs.Offsets.{number_of};
-ghost use Rattle.bsi_orders.specs.Orders.{compares_by};
-ghost use Rattle.bsi_orders.specs.WholeNumbers.{signed_order, signed_relates};
-ghost use Rattle.bsi_slices.specs.Related.{relates};
-ghost use Rattle.bsi_shift.specs.Blocks.{KeepsRelated};
+ghost use Rattle.bsi_digits.specs.Blocks.{value_entry};
+ghost use Rattle.bsi_digits.specs.Offsets.{number_of};
+ghost use Rattle.bsi_digits.specs.Orders.{compares_by};
+ghost use Rattle.bsi_digits.specs.WholeNumbers.{signed_order, signed_relates};
+ghost use Rattle.bsi_slices.specs.Related.{compares_numbers};
+ghost use Rattle.bsi_shift.specs.Related.{AndsCompared};
 ghost use Rattle.bsi_shift.specs.Shifted.{shifted_entries};
 
 use crate::Shifted;
 use bsi_bits::MAX_BLOCK;
-use bsi_columns::{Column, Op, Relating};
+use bsi_columns::{Column, ColumnComparison, Op};
 
 impl Shifted {
     /// Reads the 64 rows from row `64 * at` on: writes that of row `64 * at + r` as number `r`, and returns a word whose
@@ -39,34 +39,35 @@ impl Shifted {
     /// each of which is read once. It is fastest where both are of slices and their offsets lie less than 2^63 apart, and
     /// where both have the same bases and the same offset, in whichever encodings. Else numbers under bases are put
     /// together, place by place, which takes a few additions of places for each digit.
-    pub fn keep_related(&self, op: Op, other: &Shifted, at: usize, span: &mut [u64])
+    pub fn and_compare_columns(&self, op: Op, other: &Shifted, at: usize, span: &mut [u64])
         requires within { at + length span.old ≤ word_count (length (shifted_entries self.now)) }
         requires same { length (shifted_entries other.now) ≡ length (shifted_entries self.now) }
-        ensures { KeepsRelated op (shifted_entries self.now) (shifted_entries other.now) at
+        ensures { AndsCompared op (shifted_entries self.now) (shifted_entries other.now) at
             span.old span.new }
     {
-        let relating = relating_of(self.offset, op, other.offset);
-        self.stored.keep_related(relating, &other.stored, at, span);
+        let comparison = column_comparison(self.offset, op, other.offset);
+        self.stored
+            .and_compare_columns(comparison, &other.stored, at, span);
     }
 }
 
 /// Returns the comparison of stored numbers that says the same as `op` of numbers from these offsets on. Where the offsets
 /// lie 2^63 or more apart it adds 2^63, which stored numbers are below.
-fn relating_of(offset: i64, op: Op, other: i64) -> Relating
-    ensures small { (result.more ≤ max_size) × (result.others_more ≤ max_size) }
-    ensures agree { (x y : ℕ) → x < max_size → y < max_size → relates result x y
+fn column_comparison(offset: i64, op: Op, other: i64) -> ColumnComparison
+    ensures small { (result.left_addend ≤ max_size) × (result.right_addend ≤ max_size) }
+    ensures agree { (x y : ℕ) → x < max_size → y < max_size → compares_numbers result x y
         ≡ compares_by signed_order op (number_of offset x) (number_of other y) }
 {
     let apart = offset.abs_diff(other).min(1 << 63);
-    let (more, others_more) = if offset < other {
+    let (left_addend, right_addend) = if offset < other {
         (0, apart)
     } else {
         (apart, 0)
     };
-    Relating {
-        more,
+    ColumnComparison {
+        left_addend,
         op,
-        others_more,
+        right_addend,
     }
 }
 

@@ -7,11 +7,11 @@
 ghost use Rattle.std.specs.Prelude.{◌≡◌, ℕ, ℤ, ◌<ℤ◌, ◌+◌, ◌<◌, ◌≤◌, length, map, is_none, IfOk};
 ghost use Rattle.bsi_digits.specs.Digits.{max_size};
 ghost use Rattle.bsi_bits.specs.BitList.{word_count};
-ghost use Rattle.bsi_slices.specs.Spans.{KeepsRows};
-ghost use Rattle.bsi_orders.specs.Offsets.{number_of};
-ghost use Rattle.bsi_orders.specs.Orders.{compares_by};
-ghost use Rattle.bsi_orders.specs.Rows.{number_order};
-ghost use Rattle.bsi_orders.specs.WholeNumbers.{signed_order, signed_selects};
+ghost use Rattle.bsi_slices.specs.Spans.{AndsRows};
+ghost use Rattle.bsi_digits.specs.Offsets.{number_of};
+ghost use Rattle.bsi_digits.specs.Orders.{compares_by};
+ghost use Rattle.bsi_digits.specs.Comparisons.{number_order};
+ghost use Rattle.bsi_digits.specs.WholeNumbers.{signed_order, signed_selects};
 ghost use Rattle.bsi_shift.specs.Shifted.{shifted_entries};
 
 use crate::{NoMemory, Shifted};
@@ -48,24 +48,24 @@ impl Shifted {
     /// Keeps in a span of at most 1,024 words the rows whose number satisfies the comparison `op` with `constant`,
     /// which may be any number. The first word stands for the 64 rows from row `64 * at` on. A null row is not kept,
     /// nor a bit past the last row. It takes no memory.
-    pub fn keep_selected(&self, op: Op, constant: i128, at: usize, span: &mut [u64])
+    pub fn and_compare(&self, op: Op, constant: i128, at: usize, span: &mut [u64])
         requires few { length span.old ≤ MAX_SPAN_WORDS }
         requires within { at + length span.old ≤ word_count (length (shifted_entries self.now)) }
-        ensures { KeepsRows
+        ensures { AndsRows
             (signed_selects op constant) (shifted_entries self.now) at span.old span.new }
     {
         let comparison = stored_comparison(op, constant, self.offset);
         self.stored
-            .keep_selected(comparison.op, comparison.constant, at, span);
+            .and_compare(comparison.op, comparison.constant, at, span);
     }
 
     /// Keeps in a span of words the rows that are null. The first word stands for the 64 rows from row `64 * at` on.
     /// Bits past the last row stay as they are. It takes no memory.
-    pub fn keep_nulls(&self, at: usize, span: &mut [u64])
+    pub fn and_nulls(&self, at: usize, span: &mut [u64])
         requires { at + length span.old ≤ word_count (length (shifted_entries self.now)) }
-        ensures { KeepsRows is_none (shifted_entries self.now) at span.old span.new }
+        ensures { AndsRows is_none (shifted_entries self.now) at span.old span.new }
     {
-        self.stored.keep_nulls(at, span);
+        self.stored.and_nulls(at, span);
     }
 }
 

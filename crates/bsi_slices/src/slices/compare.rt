@@ -12,20 +12,20 @@
 ghost use Rattle.std.specs.Prelude.{◌≡◌, ℕ, ◌+◌, ◌*◌, ◌-◌, ◌/◌, ◌<◌, ◌≤◌, ◌^◌, ◌==◌, ◌&&◌, if◌then◌else◌, length, map, nat_lt, slice_index, slice_index_or, false, IfOk, bit_and, bit_or};
 ghost use Rattle.std.specs.Int.{bit_not, w64};
 ghost use Rattle.std.specs.Simd.Lanes.{zip2};
-ghost use Rattle.bsi_words.specs.Places.{max_places};
+ghost use Rattle.bsi_kernels.specs.Places.{max_places};
 ghost use Rattle.bsi_bits.specs.BitList.{max_words, word_count};
 ghost use Rattle.bsi_bits.specs.BitLists.{bits_at};
 ghost use Rattle.bsi_bits.specs.Packed.{bit_of, end_of_u64};
-ghost use Rattle.bsi_slices.specs.Spans.{max_lanes, IsKept, KeepsRows};
+ghost use Rattle.bsi_slices.specs.Spans.{max_lanes, IsIntersected, AndsRows};
 ghost use Rattle.bsi_slices.specs.Decisions.{passes};
-ghost use Rattle.bsi_orders.specs.Rows.{selects};
+ghost use Rattle.bsi_digits.specs.Comparisons.{selects};
 ghost use Rattle.bsi_slices.specs.Slices.{entries_in, number, IsSliced};
 
 use crate::decision::{Decision, Relation, Test, decide};
 use crate::not_null::NotNull;
 use crate::{NoMemory, Op};
 use bsi_bits::Bits;
-use bsi_words::registers::{REGISTER_WORDS, cut, span_at, words_of};
+use bsi_kernels::registers::{REGISTER_WORDS, and_maybe_not, span_at, words_of};
 use std::alloc::Global;
 use std::simd::Simd;
 
@@ -47,7 +47,7 @@ pub fn select(
         Decision::Everything => not_null.copy(),
         Decision::Tested(test) => {
             let mut words = not_null.copy()?.into_words();
-            keep(slices, test, 0, &mut words);
+            and_test(slices, test, 0, &mut words);
             Ok(Bits::from_words(words, not_null.len()))
         }
     }
@@ -55,7 +55,7 @@ pub fn select(
 
 /// Keeps in a span of words the rows whose number satisfies the comparison `op` with `constant`. The first word stands
 /// for the 64 rows from row `64 * at` on. It reads no slice if the answer is already known.
-pub fn keep_selected(
+pub fn and_compare(
     slices: &[Bits],
     not_null: &NotNull,
     op: Op,
@@ -65,37 +65,37 @@ pub fn keep_selected(
 )
     requires sliced { IsSliced not_null.now.bits slices.now }
     requires within { at + length span.old ≤ word_count (length not_null.now.bits) }
-    ensures { KeepsRows (selects op constant) (entries_in not_null.now.bits slices.now) at span.old
+    ensures { AndsRows (selects op constant) (entries_in not_null.now.bits slices.now) at span.old
         span.new }
 {
     match decide(op, constant, 1 << slices.len()) {
         Decision::Nothing => span.fill(0),
-        Decision::Everything => not_null.keep_in(at, span),
+        Decision::Everything => not_null.and_assign(at, span),
         Decision::Tested(test) => {
-            not_null.keep_in(at, span);
-            keep(slices, test, at, span);
+            not_null.and_assign(at, span);
+            and_test(slices, test, at, span);
         }
     }
 }
 
 /// Keeps in `words` the rows whose numbers pass the test. The first word stands for the 64 rows from row `64 * start`
 /// on. It works on whole spans first, and on single words after them.
-fn keep(slices: &[Bits], test: Test, start: usize, words: &mut [u64])
+fn and_test(slices: &[Bits], test: Test, start: usize, words: &mut [u64])
     requires few { length slices.now ≤ max_places }
     requires below { test.constant < 2 ^ length slices.now }
     requires small { start + length words.old ≤ max_words }
     requires long { (i : ℕ) → i < length slices.now →
         start + length words.old ≤ word_count (length (bits_at slices.now i)) }
-    ensures { IsKept (λ r. passes test (number slices.now (64 * start + r))) 0 (length words.old)
+    ensures { IsIntersected (λ r. passes test (number slices.now (64 * start + r))) 0 (length words.old)
         words.old words.new }
 {
     let whole = words.len() / REGISTER_WORDS * REGISTER_WORDS;
-    keep_spans::<REGISTER_WORDS>(slices, test, start, 0, words);
-    keep_spans::<1>(slices, test, start, whole, words);
+    and_test_spans::<REGISTER_WORDS>(slices, test, start, 0, words);
+    and_test_spans::<1>(slices, test, start, whole, words);
 }
 
 /// Keeps the rows whose numbers pass the test in the words from word `from` on, as far as whole spans of `N` words go.
-fn keep_spans<const N: usize>(
+fn and_test_spans<const N: usize>(
     slices: &[Bits],
     test: Test,
     start: usize,
@@ -109,19 +109,19 @@ fn keep_spans<const N: usize>(
     requires small { start + length words.old ≤ max_words }
     requires long { (i : ℕ) → i < length slices.now →
         start + length words.old ≤ word_count (length (bits_at slices.now i)) }
-    ensures { IsKept (λ r. passes test (number slices.now (64 * start + r))) from
+    ensures { IsIntersected (λ r. passes test (number slices.now (64 * start + r))) from
         (from + N * ((length words.old - from) / N)) words.old words.new }
 {
     let spans = (words.len() - from) / N;
     'span: for k in 0..spans {
         let at = from + N * k;
         let span = Simd::<u64, N>::from_slice(&words[at..]);
-        kept_span(slices, test, start + at, span).copy_to_slice(&mut words[at..]);
+        tested_span(slices, test, start + at, span).copy_to_slice(&mut words[at..]);
     }
 }
 
 /// Keeps in a span the rows whose numbers pass the test. The rows at most the constant are those not above it.
-fn kept_span<const N: usize>(
+fn tested_span<const N: usize>(
     slices: &[Bits],
     test: Test,
     at: usize,
@@ -137,8 +137,16 @@ fn kept_span<const N: usize>(
         ≡ (bit_of span.entry p && passes test (number slices.now (64 * at + p))) }
 {
     match test.relation {
-        Relation::Equal => cut(span, equal_span(slices, test.constant, at), !test.wanted),
-        Relation::AtMost => cut(span, above_span(slices, test.constant, at), test.wanted),
+        Relation::Equal => and_maybe_not(
+            span,
+            equal_span(slices, test.constant, at),
+            !test.expected,
+        ),
+        Relation::AtMost => and_maybe_not(
+            span,
+            above_span(slices, test.constant, at),
+            test.expected,
+        ),
     }
 }
 
@@ -159,8 +167,8 @@ fn above_span<const N: usize>(slices: &[Bits], constant: u64, at: usize) -> Simd
     let mut above = Simd::<u64, N>::splat(0);
     'slices: for (place, slice) in slices.iter().enumerate() {
         let words = words_of(slice);
-        let part = Simd::<u64, N>::from_slice(&words[at..]);
-        above = stepped(above, part, constant >> place & 1 == 1);
+        let digits = Simd::<u64, N>::from_slice(&words[at..]);
+        above = step_above(above, digits, constant >> place & 1 == 1);
     }
     above
 }
@@ -177,20 +185,28 @@ fn equal_span<const N: usize>(slices: &[Bits], constant: u64, at: usize) -> Simd
     ensures bits { (p : ℕ) → p < 64 * N →
         bit_of result p ≡ (constant == number slices.now (64 * at + p)) }
 {
-    let mut found = Simd::<u64, N>::splat(u64::MAX);
+    let mut equal = Simd::<u64, N>::splat(u64::MAX);
     'slices: for (place, slice) in slices.iter().enumerate() {
         let words = words_of(slice);
-        let part = Simd::<u64, N>::from_slice(&words[at..]);
-        found = cut(found, part, constant >> place & 1 == 0);
+        let digits = Simd::<u64, N>::from_slice(&words[at..]);
+        equal = and_maybe_not(equal, digits, constant >> place & 1 == 0);
     }
-    found
+    equal
 }
 
-/// Returns which rows are above the constant once one more binary place is taken in: `part` is the slice of that place
-/// at these rows, and `is_one` tells whether the place is 1 in the constant.
-fn stepped<const N: usize>(above: Simd<u64, N>, part: Simd<u64, N>, is_one: bool) -> Simd<u64, N>
-    ensures { result ≡ (if is_one then zip2 bit_and above.entry part.entry else zip2 bit_or
-        above.entry part.entry) }
+/// Returns which rows are above the constant once one more binary place is compared: `digits` is the slice of that
+/// place at these rows, and `is_one` tells whether the place is 1 in the constant.
+fn step_above<const N: usize>(
+    above: Simd<u64, N>,
+    digits: Simd<u64, N>,
+    is_one: bool,
+) -> Simd<u64, N>
+    ensures { result ≡ (if is_one then zip2 bit_and above.entry digits.entry else zip2 bit_or
+        above.entry digits.entry) }
 {
-    if is_one { above & part } else { above | part }
+    if is_one {
+        above & digits
+    } else {
+        above | digits
+    }
 }

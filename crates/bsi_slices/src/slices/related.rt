@@ -1,89 +1,102 @@
-//! Comparisons of the numbers of two columns of slices, block by block and from the least significant slices up.
+//! Compares two columns of slices row by row, block by block and from the least significant slices up.
 //!
-//! A number stands less its column's offset, so one of the two has an addend, and a carry takes it in (Rinfret, O'Neil and
-//! O'Neil 2001 add slices so).
+//! A number is stored less its column's offset, so one of the two has an addend, which is added with a carry
+//! (Rinfret, O'Neil and O'Neil 2001 add slices so).
 
 ghost use Rattle.std.specs.Prelude.{◌≡◌, ℕ, ◌+◌, ◌*◌, ◌-◌, ◌/◌, ◌<◌, ◌≤◌, ◌^◌, ◌&&◌, length, slice_index_or, false};
-ghost use Rattle.bsi_words.specs.Places.{max_places};
+ghost use Rattle.bsi_kernels.specs.Places.{max_places};
 ghost use Rattle.bsi_bits.specs.BitList.{max_words, word_count};
 ghost use Rattle.bsi_bits.specs.BitLists.{bits_at};
 ghost use Rattle.bsi_bits.specs.Packed.{bit_of};
 ghost use Rattle.bsi_digits.specs.Digits.{max_size};
-ghost use Rattle.bsi_orders.specs.Rows.{compares};
-ghost use Rattle.bsi_slices.specs.Related.{relates};
+ghost use Rattle.bsi_digits.specs.Comparisons.{compares};
+ghost use Rattle.bsi_slices.specs.Related.{compares_numbers};
 ghost use Rattle.bsi_slices.specs.Slices.{number};
-ghost use Rattle.bsi_slices.specs.Spans.{IsKept};
-ghost use Rattle.bsi_slices.specs.Standings.{stands};
+ghost use Rattle.bsi_slices.specs.Spans.{IsIntersected};
+ghost use Rattle.bsi_slices.specs.PairRelations.{relation_holds};
 
 use crate::Op;
-use crate::standing::{Standing, add_place};
+use crate::pair_relation::{PairRelation, add_place};
 use bsi_bits::{Bits, know_fits, lanes};
-use bsi_words::registers::words_of;
+use bsi_kernels::registers::words_of;
 
 /// The most words of a block. Those of both columns, the state and the sums take 20 KiB, so they stay in the first cache.
-const BLOCK_WORDS: usize = 512;
+const L1_BLOCK_WORDS: usize = 512;
 
 /// A comparison of two numbers, and what is added to each of them before, at most 2^63.
 #[derive(Clone, Copy)]
-pub struct Relating {
+pub struct ColumnComparison {
     /// What is added to the first number.
-    pub more: u64,
+    pub left_addend: u64,
     /// The comparison.
     pub op: Op,
     /// What is added to the second number.
-    pub others_more: u64,
+    pub right_addend: u64,
 }
 
-/// Keeps in a span of words the rows whose numbers in two lists of slices compare so. The first word stands for the 64
-/// rows from row `64 * start` on.
-pub(super) fn keep_related(
+/// Keeps in a span of words the rows whose numbers in two lists of slices compare as `comparison` says. The first word
+/// stands for the 64 rows from row `64 * start` on.
+pub(super) fn and_compare_columns(
     slices: &[Bits],
-    relating: Relating,
+    comparison: ColumnComparison,
     others: &[Bits],
     start: usize,
     words: &mut [u64],
 )
     requires few { (length slices.now ≤ max_places) × (length others.now ≤ max_places) }
-    requires more { (relating.more < max_size) × (relating.others_more < max_size) }
+    requires more { (comparison.left_addend < max_size) × (comparison.right_addend < max_size) }
     requires small { start + length words.old ≤ max_words }
     requires long { (i : ℕ) → i < length slices.now →
         start + length words.old ≤ word_count (length (bits_at slices.now i)) }
     requires others_long { (i : ℕ) → i < length others.now →
         start + length words.old ≤ word_count (length (bits_at others.now i)) }
-    ensures { IsKept (λ r. relates relating (number slices.now (64 * start + r))
+    ensures { IsIntersected (λ r. compares_numbers comparison (number slices.now (64 * start + r))
         (number others.now (64 * start + r))) 0 (length words.old) words.old words.new }
 {
     let len = words.len();
-    'blocks: for k in 0..len.div_ceil(BLOCK_WORDS) {
-        let from = BLOCK_WORDS * k;
-        let block = &mut words[from..len.min(from + BLOCK_WORDS)];
-        keep_block(slices, relating, others, start + from, block);
+    'blocks: for k in 0..len.div_ceil(L1_BLOCK_WORDS) {
+        let from = L1_BLOCK_WORDS * k;
+        let block = &mut words[from..len.min(from + L1_BLOCK_WORDS)];
+        and_compare_block(slices, comparison, others, start + from, block);
     }
 }
 
 /// Keeps those rows in a block. What is added to both numbers need not be, so one of them has an addend at most.
-fn keep_block(slices: &[Bits], relating: Relating, others: &[Bits], at: usize, words: &mut [u64])
-    requires block { length words.old ≤ BLOCK_WORDS }
+fn and_compare_block(
+    slices: &[Bits],
+    comparison: ColumnComparison,
+    others: &[Bits],
+    at: usize,
+    words: &mut [u64],
+)
+    requires block { length words.old ≤ L1_BLOCK_WORDS }
     requires few { (length slices.now ≤ max_places) × (length others.now ≤ max_places) }
-    requires more { (relating.more < max_size) × (relating.others_more < max_size) }
+    requires more { (comparison.left_addend < max_size) × (comparison.right_addend < max_size) }
     requires long { (i : ℕ) → i < length slices.now →
         at + length words.old ≤ word_count (length (bits_at slices.now i)) }
     requires others_long { (i : ℕ) → i < length others.now →
         at + length words.old ≤ word_count (length (bits_at others.now i)) }
     ensures long { length words.new ≡ length words.old }
     ensures bits { (p : ℕ) → p < 64 * length words.old → bit_of words.new p
-        ≡ (bit_of words.old p && relates relating (number slices.now (64 * at + p))
+        ≡ (bit_of words.old p && compares_numbers comparison (number slices.now (64 * at + p))
         (number others.now (64 * at + p))) }
 {
-    let Relating {
-        more,
+    let ColumnComparison {
+        left_addend,
         op,
-        others_more,
-    } = relating;
-    if more < others_more {
-        keep_sums(others, others_more - more, mirrored(op), slices, at, words);
+        right_addend,
+    } = comparison;
+    if left_addend < right_addend {
+        and_compare_sums(
+            others,
+            right_addend - left_addend,
+            mirrored(op),
+            slices,
+            at,
+            words,
+        );
     } else {
-        keep_sums(slices, more - others_more, op, others, at, words);
+        and_compare_sums(slices, left_addend - right_addend, op, others, at, words);
     }
 }
 
@@ -101,8 +114,15 @@ fn mirrored(op: Op) -> Op
 }
 
 /// Keeps in a block the rows whose number in the first slices, and so much more, compares so with that in the second.
-fn keep_sums(slices: &[Bits], more: u64, op: Op, others: &[Bits], at: usize, words: &mut [u64])
-    requires block { length words.old ≤ BLOCK_WORDS }
+fn and_compare_sums(
+    slices: &[Bits],
+    more: u64,
+    op: Op,
+    others: &[Bits],
+    at: usize,
+    words: &mut [u64],
+)
+    requires block { length words.old ≤ L1_BLOCK_WORDS }
     requires few { (length slices.now ≤ max_places) × (length others.now ≤ max_places) }
     requires more { more < max_size }
     requires long { (i : ℕ) → i < length slices.now →
@@ -114,11 +134,11 @@ fn keep_sums(slices: &[Bits], more: u64, op: Op, others: &[Bits], at: usize, wor
         ≡ (bit_of words.old p && compares op (number slices.now (64 * at + p) + more)
         (number others.now (64 * at + p))) }
 {
-    let (standing, wanted) = Standing::of(op);
+    let (relation, expected) = PairRelation::of(op);
     let mut buffer = no_rows();
     let state = &mut buffer[..words.len()];
-    stand(standing, slices, more, others, at, state);
-    if wanted {
+    relate_rows(relation, slices, more, others, at, state);
+    if expected {
         lanes::and(words, state);
     } else {
         know_fits(state);
@@ -126,17 +146,17 @@ fn keep_sums(slices: &[Bits], more: u64, op: Op, others: &[Bits], at: usize, wor
     }
 }
 
-/// Writes for the rows of a block whether the sum of their number in the first slices and of the addend stands so to
-/// that in the second.
-fn stand(
-    standing: Standing,
+/// Writes for the rows of a block whether the sum of their number in the first slices and of the addend is in the
+/// relation to that in the second.
+fn relate_rows(
+    relation: PairRelation,
     slices: &[Bits],
     more: u64,
     others: &[Bits],
     at: usize,
     state: &mut [u64],
 )
-    requires block { length state.old ≤ BLOCK_WORDS }
+    requires block { length state.old ≤ L1_BLOCK_WORDS }
     requires few { (length slices.now ≤ max_places) × (length others.now ≤ max_places) }
     requires more { more < max_size }
     requires long { (i : ℕ) → i < length slices.now →
@@ -145,18 +165,24 @@ fn stand(
         at + length state.old ≤ word_count (length (bits_at others.now i)) }
     ensures long { length state.new ≡ length state.old }
     ensures bits { (p : ℕ) → p < 64 * length state.old → bit_of state.new p
-        ≡ stands standing (number slices.now (64 * at + p) + more) (number others.now (64 * at + p)) }
+        ≡ relation_holds relation (number slices.now (64 * at + p) + more) (number others.now (64 * at + p)) }
 {
     if more == 0 {
-        stand_numbers(standing, slices, others, at, state);
+        relate_numbers(relation, slices, others, at, state);
     } else {
-        stand_sums(standing, slices, more, others, at, state);
+        relate_sums(relation, slices, more, others, at, state);
     }
 }
 
-/// Writes for the rows of a block whether their numbers stand so.
-fn stand_numbers(standing: Standing, slices: &[Bits], others: &[Bits], at: usize, state: &mut [u64])
-    requires block { length state.old ≤ BLOCK_WORDS }
+/// Writes for the rows of a block whether their numbers are in the relation.
+fn relate_numbers(
+    relation: PairRelation,
+    slices: &[Bits],
+    others: &[Bits],
+    at: usize,
+    state: &mut [u64],
+)
+    requires block { length state.old ≤ L1_BLOCK_WORDS }
     requires few { (length slices.now ≤ max_places) × (length others.now ≤ max_places) }
     requires long { (i : ℕ) → i < length slices.now →
         at + length state.old ≤ word_count (length (bits_at slices.now i)) }
@@ -164,28 +190,28 @@ fn stand_numbers(standing: Standing, slices: &[Bits], others: &[Bits], at: usize
         at + length state.old ≤ word_count (length (bits_at others.now i)) }
     ensures long { length state.new ≡ length state.old }
     ensures bits { (p : ℕ) → p < 64 * length state.old → bit_of state.new p
-        ≡ stands standing (number slices.now (64 * at + p)) (number others.now (64 * at + p)) }
+        ≡ relation_holds relation (number slices.now (64 * at + p)) (number others.now (64 * at + p)) }
 {
     let zeros = no_rows();
     let zeros = &zeros[..state.len()];
-    standing.begin(state);
+    relation.begin(state);
     'places: for place in 0..slices.len().max(others.len()) {
-        let part = part_of(slices, place, at, zeros);
-        let other = part_of(others, place, at, zeros);
-        standing.step(part, other, state);
+        let digits = digits_of(slices, place, at, zeros);
+        let other = digits_of(others, place, at, zeros);
+        relation.step(digits, other, state);
     }
 }
 
-/// Writes for the rows of a block whether such sums stand so.
-fn stand_sums(
-    standing: Standing,
+/// Writes for the rows of a block whether the sums of a number and of the addend are in the relation.
+fn relate_sums(
+    relation: PairRelation,
     slices: &[Bits],
     more: u64,
     others: &[Bits],
     at: usize,
     state: &mut [u64],
 )
-    requires block { length state.old ≤ BLOCK_WORDS }
+    requires block { length state.old ≤ L1_BLOCK_WORDS }
     requires few { (length slices.now ≤ max_places) × (length others.now ≤ max_places) }
     requires more { more < max_size }
     requires long { (i : ℕ) → i < length slices.now →
@@ -194,26 +220,26 @@ fn stand_sums(
         at + length state.old ≤ word_count (length (bits_at others.now i)) }
     ensures long { length state.new ≡ length state.old }
     ensures bits { (p : ℕ) → p < 64 * length state.old → bit_of state.new p
-        ≡ stands standing (number slices.now (64 * at + p) + more) (number others.now (64 * at + p)) }
+        ≡ relation_holds relation (number slices.now (64 * at + p) + more) (number others.now (64 * at + p)) }
 {
     let (zeros, mut carry, mut sum) = (no_rows(), no_rows(), no_rows());
     let zeros = &zeros[..state.len()];
     let (carry, sum) = (&mut carry[..state.len()], &mut sum[..state.len()]);
-    standing.begin(state);
+    relation.begin(state);
     'places: for place in 0..places_of(slices.len(), more, others.len()) {
-        let part = part_of(slices, place, at, zeros);
-        let other = part_of(others, place, at, zeros);
-        add_place(part, more >> place & 1 == 1, carry, sum);
-        standing.step(sum, other, state);
+        let digits = digits_of(slices, place, at, zeros);
+        let other = digits_of(others, place, at, zeros);
+        add_place(digits, more >> place & 1 == 1, carry, sum);
+        relation.step(sum, other, state);
     }
 }
 
 /// Returns the words of a block without a row.
-fn no_rows() -> [u64; BLOCK_WORDS]
-    ensures long { length result ≡ BLOCK_WORDS }
+fn no_rows() -> [u64; L1_BLOCK_WORDS]
+    ensures long { length result ≡ L1_BLOCK_WORDS }
     ensures bits { (p : ℕ) → bit_of result p ≡ false }
 {
-    [0; BLOCK_WORDS]
+    [0; L1_BLOCK_WORDS]
 }
 
 /// Returns so many binary places that the sums and the other numbers are below two to their power.
@@ -230,7 +256,7 @@ fn places_of(slices: usize, more: u64, others: usize) -> usize
 
 /// Returns a binary place of the numbers of a block's rows, which is 0 where there is no slice for it. There are as many
 /// zeros as words of the block.
-fn part_of<'a>(slices: &'a [Bits], place: usize, at: usize, zeros: &'a [u64]) -> &'a [u64]
+fn digits_of<'a>(slices: &'a [Bits], place: usize, at: usize, zeros: &'a [u64]) -> &'a [u64]
     requires long { (i : ℕ) → i < length slices.now →
         at + length zeros.now ≤ word_count (length (bits_at slices.now i)) }
     requires zeros { (p : ℕ) → bit_of zeros.now p ≡ false }

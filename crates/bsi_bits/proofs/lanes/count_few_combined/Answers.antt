@@ -14,9 +14,9 @@ returns-clause-ones g c =
     let whole = 64 * (length a / 64) in
     let left = length a - whole in
     let made = zip2 g.O.Operation.word_of a b in
-    let behind = c.count_by_fours-2.ensures.ones
+    let after = c.count_by_fours-2.ensures.ones
     ∙ ap (λ n. sum_by count_ones (zip2 g.O.Operation.word_of (take left (drop whole a)) (take (n - whole) (drop whole b)))) (sym c.requires.same)
     ∙ ap (sum_by count_ones) (sym (chunk-zip2 g.O.Operation.word_of whole left a b c.requires.same)) in
-    let both = summed_block count_ones made whole c.count_blocks.result c.count_blocks.ensures.ones left (length a) c.count_by_fours-2.result (omega arith) behind in
+    let both = summed_block count_ones made whole c.count_blocks.result c.count_blocks.ensures.ones left (length a) c.count_by_fours-2.result (omega arith) after in
     summed_all count_ones made (length a) (c.count_blocks.result + c.count_by_fours-2.result) both
     (omega (arith, length-zip2 g.O.Operation.word_of a b c.requires.same))

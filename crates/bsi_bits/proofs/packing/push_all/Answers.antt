@@ -1,5 +1,5 @@
 use Rattle.std.proofs.Common.{◌≡◌, length, get_or, ◌∙◌, refl, arith}
-use Rattle.bsi_bits.proofs.Joining.{Joins, joined_packed, joined_bits, joins_behind, carries_more, joins_carried, joins_whole}
+use Rattle.bsi_bits.proofs.Joining.{Joins, joined_packed, joined_bits, joins_after, carries_more, joins_carried, joins_whole}
 use Rattle.bsi_bits.proofs.packing.push_all.Goals as goal
 
 -- the words as they are
@@ -7,13 +7,13 @@ pub returns-then-place-eq0-clause-packed : goal.returns-then-place-eq0-clause-pa
 returns-then-place-eq0-clause-packed c =
     rw (rw c.unwrap.ensures at c.extend_from_slice.ensures.items)
     (joined_packed c.args.n c.args.count c.args.more.now c.args.words.now.items _ c.requires.within c.requires.more_packed
-    (joins_behind c.args.n c.args.count c.args.words.now.items c.args.more.now c.requires.packed c.requires.more_packed c.if-place-eq0.true))
+    (joins_after c.args.n c.args.count c.args.words.now.items c.args.more.now c.requires.packed c.requires.more_packed c.if-place-eq0.true))
 
 pub returns-then-place-eq0-clause-bits : goal.returns-then-place-eq0-clause-bits
 returns-then-place-eq0-clause-bits c =
     rw (rw c.unwrap.ensures at c.extend_from_slice.ensures.items)
     (joined_bits c.args.n c.args.count c.args.more.now c.args.words.now.items _
-    (joins_behind c.args.n c.args.count c.args.words.now.items c.args.more.now c.requires.packed c.requires.more_packed c.if-place-eq0.true))
+    (joins_after c.args.n c.args.count c.args.words.now.items c.args.more.now c.requires.packed c.requires.more_packed c.if-place-eq0.true))
 
 pub words-preserved : goal.words-preserved
 words-preserved c = record {

@@ -1,4 +1,4 @@
-use Rattle.bsi_bits.proofs.Splicing.{spliced_packed, spliced_bits, splices_none, splices_behind, splices_within, splices_over}
+use Rattle.bsi_bits.proofs.Splicing.{spliced_packed, spliced_bits, splices_none, splices_after, splices_within, splices_over}
 use Rattle.std.proofs.Common.{arith}
 use Rattle.bsi_bits.proofs.packing.push_word.Goals as goal
 
@@ -6,12 +6,12 @@ use Rattle.bsi_bits.proofs.packing.push_word.Goals as goal
 pub returns-then-count-gt0-clause-packed : goal.returns-then-count-gt0-clause-packed
 returns-then-count-gt0-clause-packed c =
     rw c.push_reserved.ensures.items (spliced_packed c.args.n c.args.count c.args.word c.args.words.now.items _ c.requires.within c.requires.clear
-    (splices_behind c.args.n c.args.count c.args.word c.args.words.now.items c.requires.few c.requires.clear c.requires.packed c.if-place-eq0.true c.if-count-gt0.true))
+    (splices_after c.args.n c.args.count c.args.word c.args.words.now.items c.requires.few c.requires.clear c.requires.packed c.if-place-eq0.true c.if-count-gt0.true))
 
 pub returns-then-count-gt0-clause-bits : goal.returns-then-count-gt0-clause-bits
 returns-then-count-gt0-clause-bits c =
     rw c.push_reserved.ensures.items (spliced_bits c.args.n c.args.count c.args.word c.args.words.now.items _ c.requires.few
-    (splices_behind c.args.n c.args.count c.args.word c.args.words.now.items c.requires.few c.requires.clear c.requires.packed c.if-place-eq0.true c.if-count-gt0.true))
+    (splices_after c.args.n c.args.count c.args.word c.args.words.now.items c.requires.few c.requires.clear c.requires.packed c.if-place-eq0.true c.if-count-gt0.true))
 
 -- no bit
 pub returns-else-count-gt0-clause-bits : goal.returns-else-count-gt0-clause-bits

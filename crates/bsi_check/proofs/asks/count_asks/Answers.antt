@@ -12,7 +12,7 @@ records-init g c = record {
   plain = c.requires.plain;
   few = omega arith;
   fewer = omega arith;
-  told = first_none c.args.path.now c.args.reasons.now.items;
+  reported = first_none c.args.path.now c.args.reasons.now.items;
 }
 
 pub returns-then-not-branch-clause-counted : goal.returns-then-not-branch-clause-counted
@@ -34,12 +34,12 @@ records-preserved-then-asks g c =
       plain = c.in_ok-read_next.ensures.plain;
       few = omega (arith, c.records-test.true);
       fewer = omega (arith, c.records.invariant.fewer);
-      told = c.records.invariant.told;
+      reported = c.records.invariant.reported;
     }
 
--- one that is no query, and is told
-pub records-preserved-in_ok-tell_no_query : goal.records-preserved-in_ok-tell_no_query
-records-preserved-in_ok-tell_no_query g c =
+-- one that is no query, and is reported
+pub records-preserved-in_ok-add_no_query : goal.records-preserved-in_ok-add_no_query
+records-preserved-in_ok-add_no_query g c =
     let fields = fields_of c.read_next.new.fields in
     let next : ReadRecord g.A.Read.remaining c.records.input c.read_next.new.input true fields = search rules in
     let none = subst (λ (b : Bool). IsAskVerdict c.args.schema.now fields b) c.if-asks.false c.in_ok-asks.ensures in
@@ -50,8 +50,8 @@ records-preserved-in_ok-tell_no_query g c =
       plain = c.in_ok-read_next.ensures.plain;
       few = omega (arith, c.records-test.true);
       fewer = omega (arith, c.records.invariant.fewer);
-      told = first_more c.args.path.now c.records.bad c.args.reasons.now.items c.records.reasons.items c.tell_no_query.new.reasons.items
-          (omega (arith, c.if-bad-le-MAX_TOLD.true)) c.records.invariant.told c.in_ok-tell_no_query.ensures;
+      reported = first_more c.args.path.now c.records.bad c.args.reasons.now.items c.records.reasons.items c.add_no_query.new.reasons.items
+          (omega (arith, c.if-bad-le-MAX_REASONS.true)) c.records.invariant.reported c.in_ok-add_no_query.ensures;
     }
 
 -- and one past the first 100
@@ -67,7 +67,7 @@ records-preserved g c =
       plain = c.in_ok-read_next.ensures.plain;
       few = omega (arith, c.records-test.true);
       fewer = omega (arith, c.records.invariant.fewer);
-      told = first_past c.args.path.now c.records.bad c.args.reasons.now.items c.records.reasons.items (omega (arith, c.if-bad-le-MAX_TOLD.false)) c.records.invariant.told;
+      reported = first_past c.args.path.now c.records.bad c.args.reasons.now.items c.records.reasons.items (omega (arith, c.if-bad-le-MAX_REASONS.false)) c.records.invariant.reported;
     }
 
 pub returns-clause-counted : goal.returns-clause-counted

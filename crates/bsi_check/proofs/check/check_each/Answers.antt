@@ -4,5 +4,5 @@ use Rattle.bsi_check.proofs.check.check_each.Goals as goal
 
 pub files-preserved : goal.files-preserved
 files-preserved g c =
-    added_more c.in-Some.named (into_iter_items c.next.new.self) c.in_ok-found.found c.push.new.self.items c.args.reasons.now.items c.files.reasons.items
-    c.check_rows.new.reasons.items c.files.invariant c.in-Some.ensures.steps.0 c.in_ok-push.ensures.items (c.in_ok-found.ensures.found, c.in_ok-found.ensures.told)
+    added_more c.in-Some.named (into_iter_items c.next.new.self) c.in_ok-finding.finding c.push.new.self.items c.args.reasons.now.items c.files.reasons.items
+    c.check_rows.new.reasons.items c.files.invariant c.in-Some.ensures.steps.0 c.in_ok-push.ensures.items (c.in_ok-finding.ensures.finding, c.in_ok-finding.ensures.reported)

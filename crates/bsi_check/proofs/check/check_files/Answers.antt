@@ -1,8 +1,8 @@
 use Rattle.std.proofs.Common.{List, ℕ, subst, rules}
 use Rattle.std.specs.Io.KnownBytes.{Appends}
 use Rattle.csv.proofs.WriteFacts.{appends-more}
-use Rattle.bsi_reading.proofs.Waiting.{cut_front, cut_whole}
-use Rattle.bsi_reading.specs.Waiting.{IsCut}
+use Rattle.bsi_input.proofs.Waiting.{cut_front, cut_whole}
+use Rattle.bsi_input.specs.Waiting.{AppendsPrefix}
 use Rattle.bsi_check.proofs.check.check_files.Goals as goal
 
 -- the reasons were written, and then the lines
@@ -23,12 +23,12 @@ returns-clause-reported g c =
     }
 
 -- a first part of the reasons was written
-pub returns-in_err-write_bytes-clause-part : goal.returns-in_err-write_bytes-clause-part
-returns-in_err-write_bytes-clause-part g c = λ is.
+pub returns-in_err-write_bytes-clause-prefix : goal.returns-in_err-write_bytes-clause-prefix
+returns-in_err-write_bytes-clause-prefix g c = λ is.
     let before = g.W.Write.contents c.args.output.now in
     let after = g.W.Write.contents c.write_bytes.new.writer in
     let report = c.in_ok-report.report in
-    let cut : IsCut before after report.reasons.items = subst (λ (bytes : List ℕ). IsCut before after bytes) c.deref.ensures.value c.in_err-write_bytes.ensures.part in
+    let cut : AppendsPrefix before after report.reasons.items = subst (λ (bytes : List ℕ). AppendsPrefix before after bytes) c.deref.ensures.value c.in_err-write_bytes.ensures.prefix in
     record {
       reasons = report.reasons.items;
       fed = report.fed.items;
@@ -37,14 +37,14 @@ returns-in_err-write_bytes-clause-part g c = λ is.
     }
 
 -- they were, and a first part of the lines
-pub returns-in_err-write_bytes-2-clause-part : goal.returns-in_err-write_bytes-2-clause-part
-returns-in_err-write_bytes-2-clause-part g c = λ is.
+pub returns-in_err-write_bytes-2-clause-prefix : goal.returns-in_err-write_bytes-2-clause-prefix
+returns-in_err-write_bytes-2-clause-prefix g c = λ is.
     let before = g.W.Write.contents c.args.output.now in
     let middle = g.W.Write.contents c.write_bytes.new.writer in
     let after = g.W.Write.contents c.write_bytes-2.new.writer in
     let report = c.in_ok-report.report in
     let first : Appends before middle report.reasons.items = subst (λ (bytes : List ℕ). Appends before middle bytes) c.deref.ensures.value c.in_ok-write_bytes.ensures.ok in
-    let last : IsCut middle after report.fed.items = subst (λ (bytes : List ℕ). IsCut middle after bytes) c.deref-2.ensures.value c.in_err-write_bytes-2.ensures.part in
+    let last : AppendsPrefix middle after report.fed.items = subst (λ (bytes : List ℕ). AppendsPrefix middle after bytes) c.deref-2.ensures.value c.in_err-write_bytes-2.ensures.prefix in
     record {
       reasons = report.reasons.items;
       fed = report.fed.items;

@@ -1,11 +1,11 @@
 use Rattle.std.proofs.Common.{◌≡◌, ◌≤◌, ◌*◌, map, sum, take}
-use Rattle.bsi_reading.specs.Sources.{max_records}
-use Rattle.bsi_check.specs.Reports.{good_rows}
+use Rattle.bsi_input.specs.Sources.{max_records}
+use Rattle.bsi_check.specs.Reports.{good_count}
 use Rattle.bsi_check.proofs.check.count_good.Given as goal
 
 -- the good records of the files so far
 abbrev pub invariant-files : goal.invariant-files
 invariant-files l = record {
-  good : l.good ≡ sum (map good_rows (take l.file-index l.files));
+  good : l.good ≡ sum (map good_count (take l.file-index l.files));
   few : l.good ≤ l.file-index * max_records;
 }

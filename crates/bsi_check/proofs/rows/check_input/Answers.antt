@@ -1,17 +1,17 @@
 use Rattle.std.proofs.Common.{◌≡◌, ◌∙◌, Some, true, refl, rules, subst, sym}
 use Rattle.csv.specs.Reading.{ReadRecord}
 use Rattle.csv.specs.Records.{fields_of}
-use Rattle.bsi_reading.proofs.Taking.{stands_after}
-use Rattle.bsi_reading.specs.RowFiles.{is_header}
-use Rattle.bsi_reading.specs.Sources.{Layout}
+use Rattle.bsi_input.proofs.Taking.{stands_after}
+use Rattle.bsi_input.specs.RowFiles.{is_header}
+use Rattle.bsi_input.specs.Sources.{Layout}
 use Rattle.bsi_check.specs.Checks.{layout_of, HasCounted}
 use Rattle.bsi_check.proofs.Counting.{counted_text}
 use Rattle.bsi_check.proofs.Unread.{long_file, passed_on}
 use Rattle.bsi_check.proofs.rows.check_input.Goals as goal
 
 -- the header was read, and then all records
-pub returns-clause-found : goal.returns-clause-found
-returns-clause-found g c = λ bytes known.
+pub returns-clause-finding : goal.returns-clause-finding
+returns-clause-finding g c = λ bytes known.
     let header = fields_of c.read_next.new.fields in
     let layout = layout_of c.args.schema.now header in
     let start = c.args.input.now in

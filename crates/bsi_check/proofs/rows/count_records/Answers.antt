@@ -1,7 +1,7 @@
 use Rattle.std.proofs.Common.{◌≡◌, true, false, rules, arith, refl, sym, ◌∙◌, is_some}
 use Rattle.csv.specs.Reading.{ReadRecord}
 use Rattle.csv.specs.Records.{fields_of}
-use Rattle.bsi_reading.specs.RowFiles.{good_row}
+use Rattle.bsi_input.specs.RowFiles.{good_row}
 use Rattle.bsi_check.proofs.Counting.{counted_all, counted_bad, counted_good, counted_long, counted_none}
 use Rattle.bsi_check.proofs.Telling.{first_more, first_none, first_past}
 use Rattle.bsi_check.proofs.rows.count_records.Goals as goal
@@ -9,7 +9,7 @@ use Rattle.bsi_check.proofs.rows.count_records.Goals as goal
 pub records-init : goal.records-init
 records-init g c = record {
   counted = counted_none g.I.Read.remaining c.args.layout.now c.args.input.now c.requires.plain;
-  told = first_none c.args.path.now c.args.reasons.now.items;
+  reported = first_none c.args.path.now c.args.reasons.now.items;
 }
 
 pub returns-then-not-branch-clause-counted : goal.returns-then-not-branch-clause-counted
@@ -26,20 +26,20 @@ records-preserved-then-good g c =
     record {
       counted = counted_good g.I.Read.remaining c.args.layout.now c.args.input.now c.records.input c.records.records c.records.bad
           c.records.invariant.counted c.read_next.new.input fields next c.in_ok-read_next.ensures.plain (omega (arith, c.records-test.true)) good;
-      told = c.records.invariant.told;
+      reported = c.records.invariant.reported;
     }
 
--- a bad record that is told
-pub records-preserved-in_ok-tell_bad_record : goal.records-preserved-in_ok-tell_bad_record
-records-preserved-in_ok-tell_bad_record g c =
+-- a bad record that is reported
+pub records-preserved-in_ok-add_bad_record : goal.records-preserved-in_ok-add_bad_record
+records-preserved-in_ok-add_bad_record g c =
     let fields = fields_of c.read_next.new.fields in
     let next : ReadRecord g.I.Read.remaining c.records.input c.read_next.new.input true fields = search rules in
     let bad : false ≡ is_some (good_row c.args.layout.now.schema c.args.layout.now.header fields) = sym c.if-good.false ∙ c.in_ok-good.ensures in
     record {
       counted = counted_bad g.I.Read.remaining c.args.layout.now c.args.input.now c.records.input c.records.records c.records.bad
           c.records.invariant.counted c.read_next.new.input fields next c.in_ok-read_next.ensures.plain (omega (arith, c.records-test.true)) bad;
-      told = first_more c.args.path.now c.records.bad c.args.reasons.now.items c.records.reasons.items c.tell_bad_record.new.reasons.items
-          (omega (arith, c.if-bad-le-MAX_TOLD.true)) c.records.invariant.told c.in_ok-tell_bad_record.ensures;
+      reported = first_more c.args.path.now c.records.bad c.args.reasons.now.items c.records.reasons.items c.add_bad_record.new.reasons.items
+          (omega (arith, c.if-bad-le-MAX_REASONS.true)) c.records.invariant.reported c.in_ok-add_bad_record.ensures;
     }
 
 -- and one past the first 100
@@ -51,7 +51,7 @@ records-preserved g c =
     record {
       counted = counted_bad g.I.Read.remaining c.args.layout.now c.args.input.now c.records.input c.records.records c.records.bad
           c.records.invariant.counted c.read_next.new.input fields next c.in_ok-read_next.ensures.plain (omega (arith, c.records-test.true)) bad;
-      told = first_past c.args.path.now c.records.bad c.args.reasons.now.items c.records.reasons.items (omega (arith, c.if-bad-le-MAX_TOLD.false)) c.records.invariant.told;
+      reported = first_past c.args.path.now c.records.bad c.args.reasons.now.items c.records.reasons.items (omega (arith, c.if-bad-le-MAX_REASONS.false)) c.records.invariant.reported;
     }
 
 pub returns-clause-counted : goal.returns-clause-counted

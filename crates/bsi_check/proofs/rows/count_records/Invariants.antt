@@ -1,14 +1,14 @@
 use Rattle.std.proofs.Common.{◌-◌}
-use Rattle.bsi_reading.specs.Sources.{max_records}
-use Rattle.bsi_check.specs.Reasons.{TellsFirst}
+use Rattle.bsi_input.specs.Sources.{max_records}
+use Rattle.bsi_check.specs.Reasons.{AddsFirstReasons}
 use Rattle.bsi_check.proofs.Counting.{AreCounted}
 use Rattle.bsi_check.proofs.rows.count_records.Given as goal
 
--- the records so far were counted, and the bad ones told
+-- the records so far were counted, and the bad ones reported
 abbrev pub invariant-records : goal.invariant-records
 invariant-records g l = record {
   counted : AreCounted (g.I.Read.remaining) l.fn.layout l.initial.input l.input l.records l.bad;
-  told : TellsFirst l.path l.bad l.initial.reasons.items l.reasons.items;
+  reported : AddsFirstReasons l.path l.bad l.initial.reasons.items l.reasons.items;
 }
 
 abbrev pub decreases-records : goal.decreases-records

@@ -1,17 +1,18 @@
-use Rattle.std.proofs.Common.{List, ℕ, Option, None, Some, IfSome, rules}
-use Rattle.bsi_reading.specs.SchemaTexts.{IsSchemaFault}
-use Rattle.bsi_reading.specs.declared.rows.SourceFault.TheVariants.{Read}
-use Rattle.bsi_reading.specs.declared.schema_text.SchemaFault.TheVariants.{NoColumns, Source}
+use Rattle.std.proofs.Common.{None, Some, IfSome, rules}
+use Rattle.bsi_input.specs.SchemaTexts.{IsSchemaFault}
+use Rattle.bsi_input.specs.declared.rows.SourceFault.TheVariants.{Read}
+use Rattle.bsi_input.specs.declared.schema_text.SchemaFault.TheVariants.{NoColumns, Source}
 use Rattle.bsi_check.proofs.schema.check_schema.Goals as goal
+use Rattle.bsi_syntax.specs.Bytes.{KnownBytes}
 
 -- a reader that fails says nothing of the text
-unread : (known : Option (List ℕ)) → IfSome known (λ text. IsSchemaFault text (Source Read))
+unread : (known : KnownBytes) → IfSome known (λ text. IsSchemaFault text (Source Read))
 unread None = tt
 unread (Some text) = tt
 
 pub returns-in-Err : goal.returns-in-Err
 returns-in-Err g c =
-    (Source Read, unread (g.S.Read.remaining c.args.file), (c.in_ok-tell_unread.ensures.fault, c.in_ok-tell_unread.ensures.told))
+    (Source Read, unread (g.S.Read.remaining c.args.file), (c.in_ok-add_unread.ensures.fault, c.in_ok-add_unread.ensures.reported))
 
 pub returns-in-Err-NoColumns : goal.returns-in-Err-NoColumns
-returns-in-Err-NoColumns g c = (NoColumns, search rules, c.in_ok-tell-in-Err-NoColumns.ensures)
+returns-in-Err-NoColumns g c = (NoColumns, search rules, c.in_ok-add_reason-in-Err-NoColumns.ensures)

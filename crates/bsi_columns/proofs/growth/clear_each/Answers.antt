@@ -1,5 +1,5 @@
 use Rattle.std.proofs.Common.{◌≡◌, ◌+◌, ◌<◌, ◌≤◌, [], length, map, get_or, ap, sym, ◌∙◌, arith}
-use Rattle.bsi_columns.proofs.ComponentLists.{apart_by, length-same_map, map_kept, map_unwritten, one_more, read_map}
+use Rattle.bsi_columns.proofs.ComponentLists.{apart_by, length-same_map, map_unchanged, map_unwritten, one_more, read_map}
 use Rattle.bsi_columns.proofs.growth.clear_each.Goals as goal
 
 pub loop-component-preserved : goal.loop-component-preserved
@@ -19,7 +19,7 @@ loop-component-preserved g c =
     let rows : length (get_or (map digits old) at []) ≡ length (digits read) = ap length (sym (all.digits_left at (omega arith)) ∙ read_map digits items at read [] within is) in
     let had : get_or (map room old) at 0 ≡ room read = sym (all.room_left at (omega arith)) ∙ read_map room items at read 0 within is in
     record {
-      bases = map_kept base items at read new within is c.clear.ensures.base ∙ all.bases;
+      bases = map_unchanged base items at read new within is c.clear.ensures.base ∙ all.bases;
       done = one_more digits items at new [] within (λ k ds. ds ≡ []) c.clear.ensures.digits all.done;
       room = one_more room items at new 0 within (λ k n. length (get_or (map digits old) k []) + get_or (map room old) k 0 ≤ n)
           (omega (arith, c.clear.ensures.room, rows, had)) all.room;

@@ -1,5 +1,5 @@
 use Rattle.std.proofs.Common.{◌≡◌, ◌<◌, ℕ, List, [], ◌++◌, length, map, get_or, ap, sym, ◌∙◌, arith}
-use Rattle.bsi_columns.proofs.ComponentLists.{read_map, map_kept, digits_more, rest_after, room_of_old, room_spent, room_after, length-same_map}
+use Rattle.bsi_columns.proofs.ComponentLists.{read_map, map_unchanged, digits_more, rest_after, room_of_old, room_spent, room_after, length-same_map}
 use Rattle.bsi_columns.proofs.growth.push_all_digits.Goals as goal
 
 pub push_all_reserved-requires-clause-base : goal.push_all_reserved-requires-clause-base
@@ -44,7 +44,7 @@ loop-i-preserved g c =
     let added : ℕ → List ℕ = λ k. get_or (map digits others) k [] in
     let more : added at ≡ digits c.index-others-i.result = read_map digits others at c.index-others-i.result [] (omega arith) c.index-others-i.is in
     record {
-      bases = map_kept g.E.Encoding.base_of items at read new within c.index_mut.ensures.value c.push_all_reserved.ensures.base ∙ c.loop-i.invariant.bases;
+      bases = map_unchanged g.E.Encoding.base_of items at read new within c.index_mut.ensures.value c.push_all_reserved.ensures.base ∙ c.loop-i.invariant.bases;
       done = digits_more digits items old at read new added within c.index_mut.ensures.value
           (c.push_all_reserved.ensures.digits ∙ ap (λ ds. digits read ++ ds) (sym more)) c.loop-i.invariant.done c.loop-i.invariant.rest;
       rest = rest_after digits items old at read new added within c.loop-i.invariant.rest;

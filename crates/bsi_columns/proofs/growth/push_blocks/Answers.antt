@@ -1,7 +1,7 @@
 use Rattle.std.proofs.Common.{◌≡◌, ◌<◌, ℕ, List, length, map, get_or, ap, ◌∙◌, refl, arith}
 use Rattle.std.proofs.lemmas.List.{get_or_append_left}
 use Rattle.bsi_digits.specs.Digits.{digit_of}
-use Rattle.bsi_columns.proofs.ComponentLists.{map_kept, digits_more, rest_after, room_of_old, room_spent, room_after, length-map_is}
+use Rattle.bsi_columns.proofs.ComponentLists.{map_unchanged, digits_more, rest_after, room_of_old, room_spent, room_after, length-map_is}
 use Rattle.bsi_columns.proofs.growth.push_blocks.Goals as goal
 
 pub loop-i-init : goal.loop-i-init
@@ -37,8 +37,8 @@ loop-i-preserved g c =
     let within : at < length items = omega arith in
     let added : ℕ → List ℕ = λ k. map (λ n. digit_of c.args.bases.now n k) c.args.numbers.now in
     record {
-      quotients = c.push_block.ensures.rests;
-      bases = map_kept g.E.Encoding.base_of items at read new within c.index_mut-component.ensures.value c.push_block.ensures.base ∙ c.loop-i.invariant.bases;
+      quotients = c.push_block.ensures.quotients;
+      bases = map_unchanged g.E.Encoding.base_of items at read new within c.index_mut-component.ensures.value c.push_block.ensures.base ∙ c.loop-i.invariant.bases;
       done = digits_more g.E.Encoding.digits items old at read new added within c.index_mut-component.ensures.value
           c.push_block.ensures.digits c.loop-i.invariant.done c.loop-i.invariant.rest;
       rest = rest_after g.E.Encoding.digits items old at read new added within c.loop-i.invariant.rest;

@@ -5,7 +5,7 @@ use Rattle.bsi_columns.proofs.growth.push_blocks.Given as goal
 
 abbrev pub invariant-loop-i : goal.invariant-loop-i
 invariant-loop-i g l = record {
-  quotients : AreQuotients l.numbers (weight l.bases l.i) l.rests;
+  quotients : AreQuotients l.numbers (weight l.bases l.i) l.quotients;
   bases : map g.E.Encoding.base_of l.components.items ≡ l.bases;
   done : (k : ℕ) → k < l.i → get_or (map g.E.Encoding.digits l.components.items) k []
       ≡ get_or (map g.E.Encoding.digits l.fn.components.items) k [] ++ map (λ n. digit_of l.bases n k) l.numbers;

@@ -1,6 +1,6 @@
 use Rattle.std.proofs.Common.{◌≡◌, ◌<◌, ℕ, List, [], ◌∷◌, ◌++◌, length, ap, ◌∙◌, refl, arith}
 use Rattle.bsi_digits.specs.Digits.{digit_of}
-use Rattle.bsi_columns.proofs.ComponentLists.{map_kept, digits_more, rest_after, room_of_old, room_spent, room_after, length-map_is}
+use Rattle.bsi_columns.proofs.ComponentLists.{map_unchanged, digits_more, rest_after, room_of_old, room_spent, room_after, length-map_is}
 use Rattle.bsi_columns.proofs.growth.push_digits.Goals as goal
 
 pub loop-i-init : goal.loop-i-init
@@ -34,7 +34,7 @@ loop-i-preserved g c =
     let added : ℕ → List ℕ = λ k. digit_of c.args.bases.now c.args.number k ∷ [] in
     record {
       quotient = c.next_digit-digit.ensures.above;
-      bases = map_kept g.E.Encoding.base_of items at read new within c.index_mut.ensures.value c.push_reserved.ensures.base ∙ c.loop-i.invariant.bases;
+      bases = map_unchanged g.E.Encoding.base_of items at read new within c.index_mut.ensures.value c.push_reserved.ensures.base ∙ c.loop-i.invariant.bases;
       done = digits_more g.E.Encoding.digits items old at read new added within c.index_mut.ensures.value
           (c.push_reserved.ensures.digits ∙ ap (λ d. g.E.Encoding.digits read ++ d ∷ []) c.next_digit-digit.ensures.digit) c.loop-i.invariant.done c.loop-i.invariant.rest;
       rest = rest_after g.E.Encoding.digits items old at read new added within c.loop-i.invariant.rest;

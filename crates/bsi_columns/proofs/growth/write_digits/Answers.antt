@@ -27,19 +27,19 @@ pub returns-then-base-places-clause-digits : goal.returns-then-base-places-claus
 returns-then-base-places-clause-digits c =
     let numbers = c.args.numbers.now in
     let digit : ℕ → ℕ = λ n. digit_of c.args.bases.now n c.args.i in
-    let split = c.split_rests.ensures in
+    let split = c.split_quotients.ensures in
     let base : 2 ^ trailing_zeros w32 c.base-base.result ≡ get_or c.args.bases.now c.args.i 0 = power c.base-base.result c.base-base.ensures.within c.if-base-places.true ∙ c.base-base.ensures.base in
     same_lists _ _ (split.long ∙ c.requires.same ∙ sym (length-map numbers digit)) (λ r d within.
-    get_or_default_zero c.split_rests.new.digits r d within
+    get_or_default_zero c.split_quotients.new.digits r d within
     ∙ split.digits r (omega (arith, within, split.long))
-    ∙ ap₂ (λ rest b. rest % b) (c.requires.rests.each r (omega (arith, within, split.long, c.requires.same))) base
+    ∙ ap₂ (λ rest b. rest % b) (c.requires.quotients.each r (omega (arith, within, split.long, c.requires.same))) base
     ∙ sym (get_or-map digit numbers r 0 d (omega (arith, within, split.long, c.requires.same))))
 
-pub returns-then-base-places-clause-rests : goal.returns-then-base-places-clause-rests
-returns-then-base-places-clause-rests c =
+pub returns-then-base-places-clause-quotients : goal.returns-then-base-places-clause-quotients
+returns-then-base-places-clause-quotients c =
     let base : 2 ^ trailing_zeros w32 c.base-base.result ≡ get_or c.args.bases.now c.args.i 0 = power c.base-base.result c.base-base.ensures.within c.if-base-places.true ∙ c.base-base.ensures.base in
     record {
-      each = λ r below. c.split_rests.ensures.rests r (omega (arith, below, c.requires.same))
-          ∙ ap₂ (λ rest b. rest / b) (c.requires.rests.each r below) base
+      each = λ r below. c.split_quotients.ensures.quotients r (omega (arith, below, c.requires.same))
+          ∙ ap₂ (λ rest b. rest / b) (c.requires.quotients.each r below) base
           ∙ high_more c.args.bases.now (get_or c.args.numbers.now r 0) c.args.i c.requires.within;
     }

@@ -7,7 +7,7 @@ invariant-loop-r l = record {
   long : length l.digits ≡ length l.numbers;
   done : (k : ℕ) → k < l.r → get_or l.digits k 0 ≡ digit_of l.bases (get_or l.numbers k 0) l.i;
   below : (k : ℕ) → k < l.r → get_or l.digits k 0 < get_or l.bases l.i 0;
-  ample : length l.rests ≡ 64;
-  divided : (k : ℕ) → k < l.r → get_or l.rests k 0 ≡ get_or l.numbers k 0 / weight l.bases (l.i + 1);
-  left : (k : ℕ) → l.r ≤ k → k < length l.numbers → get_or l.rests k 0 ≡ get_or l.numbers k 0 / weight l.bases l.i;
+  ample : length l.quotients ≡ 64;
+  divided : (k : ℕ) → k < l.r → get_or l.quotients k 0 ≡ get_or l.numbers k 0 / weight l.bases (l.i + 1);
+  left : (k : ℕ) → l.r ≤ k → k < length l.numbers → get_or l.quotients k 0 ≡ get_or l.numbers k 0 / weight l.bases l.i;
 }

@@ -5,7 +5,7 @@ use Rattle.std.proofs.lemmas.List.{get_or-set_same, get_or-set_other}
 use Rattle.bsi_bits.specs.BitList.{differ}
 use Rattle.bsi_bits.specs.Packed.{bit_of}
 use Rattle.bsi_slices.proofs.StateWords.{no_row}
-use Rattle.bsi_words.specs.Places.{has_place}
+use Rattle.bsi_kernels.specs.Places.{has_place}
 use Rattle.bsi_columns.specs.NumberPlaces.{IsNumberAt}
 use Rattle.bsi_columns.proofs.PlaceSums.{low_place, no_carry_raised, raised_high, sum_carry, sum_place}
 use Rattle.bsi_columns.proofs.places.add_raised.Goals as goal
@@ -32,17 +32,17 @@ places-preserved c =
       long = length-set sums k place ∙ c.places.invariant.long;
       carries = λ p x y near first second.
           let carry = bit_of c.places.carry p in
-          let part : bit_of (get_or sums k []) p ≡ has_place k y = ap (λ ws. bit_of ws p) (c.places.invariant.rest k (omega arith)) ∙ second k (omega (arith, within, c.places.invariant.long)) in
+          let digits : bit_of (get_or sums k []) p ≡ has_place k y = ap (λ ws. bit_of ws p) (c.places.invariant.rest k (omega arith)) ∙ second k (omega (arith, within, c.places.invariant.long)) in
           c.add_place-carry.ensures.carry p near
-          ∙ (λ i. if raised p x first i then part i || c.places.invariant.carries p x y near first second i else part i && c.places.invariant.carries p x y near first second i)
+          ∙ (λ i. if raised p x first i then digits i || c.places.invariant.carries p x y near first second i else digits i && c.places.invariant.carries p x y near first second i)
           ∙ sum_carry y (x * 2 ^ by) k;
       done = λ p x y near first second j below there. elim (cases_eq j k) [
         | inl same ↦
-            let part : bit_of (get_or sums k []) p ≡ has_place k y = ap (λ ws. bit_of ws p) (c.places.invariant.rest k (omega arith)) ∙ second k (omega (arith, within, c.places.invariant.long)) in
+            let digits : bit_of (get_or sums k []) p ≡ has_place k y = ap (λ ws. bit_of ws p) (c.places.invariant.rest k (omega arith)) ∙ second k (omega (arith, within, c.places.invariant.long)) in
             ap (λ i. bit_of (get_or (set sums k place) i []) p) same
             ∙ ap (λ ws. bit_of ws p) (get_or-set_same sums k place [] within)
             ∙ c.add_place-carry.ensures.sum p near
-            ∙ (λ i. differ (differ (part i) (c.places.invariant.carries p x y near first second i)) (raised p x first i))
+            ∙ (λ i. differ (differ (digits i) (c.places.invariant.carries p x y near first second i)) (raised p x first i))
             ∙ sym (sum_place y (x * 2 ^ by) k) ∙ ap (λ i. has_place i (y + x * 2 ^ by)) (sym same)
         | inr other ↦ ap (λ ws. bit_of ws p) (get_or-set_other sums k j place [] other) ∙ c.places.invariant.done p x y near first second j (omega arith) there
       ];

@@ -1,7 +1,7 @@
 use Rattle.std.proofs.Common.{◌≡◌, ℕ, ◌+◌, ◌*◌, ◌%◌, ◌^◌, ◌<◌, ◌≤◌, [], length, get_or}
 use Rattle.std.specs.Prelude.{nat_le}
 use Rattle.bsi_bits.specs.Packed.{bit_of}
-use Rattle.bsi_words.specs.Places.{has_place}
+use Rattle.bsi_kernels.specs.Places.{has_place}
 use Rattle.bsi_columns.specs.NumberPlaces.{IsNumberAt}
 use Rattle.bsi_columns.proofs.places.add_raised.Given as goal
 

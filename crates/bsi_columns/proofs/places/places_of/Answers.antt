@@ -6,6 +6,6 @@ use Rattle.bsi_columns.proofs.places.places_of.Goals as goal
 pub returns-clause-enough : goal.returns-clause-enough
 returns-clause-enough c =
     let n = c.args.number in
-    let found = leading_length 64 n c.ranges.number.fits in
-    let is : 64 - count_leading_zeros 64 n ≡ found.0 = omega (arith, found.1) in
-    subst (λ m. n < 2 ^ m) (sym is) found.2
+    let selection = leading_length 64 n c.ranges.number.fits in
+    let is : 64 - count_leading_zeros 64 n ≡ selection.0 = omega (arith, selection.1) in
+    subst (λ m. n < 2 ^ m) (sym is) selection.2

@@ -2,7 +2,7 @@ use Rattle.std.proofs.Common.{◌≡◌, ◌+◌, ◌*◌, ◌<◌, ◌^◌, Non
 use Rattle.std.specs.Prelude.{replicate}
 use Rattle.bsi_bits.specs.Packed.{bit_of}
 use Rattle.bsi_slices.proofs.StateWords.{no_row}
-use Rattle.bsi_columns.specs.Ends.{number_at}
+use Rattle.bsi_columns.specs.Extremes.{number_at}
 use Rattle.bsi_columns.proofs.PlaceSums.{place_past}
 use Rattle.bsi_columns.proofs.places.slice_place.Goals as goal
 

@@ -1,7 +1,7 @@
 use Rattle.std.proofs.Common.{◌≡◌, ℕ, ◌+◌, ◌*◌, ◌<◌, [], length, get_or}
 use Rattle.bsi_bits.specs.Packed.{bit_of}
-use Rattle.bsi_words.specs.Places.{has_place}
-use Rattle.bsi_columns.specs.Ends.{number_at}
+use Rattle.bsi_kernels.specs.Places.{has_place}
+use Rattle.bsi_columns.specs.Extremes.{number_at}
 use Rattle.bsi_columns.proofs.places.slice_places.Given as goal
 
 -- the places below k are written

@@ -1,7 +1,7 @@
 use Rattle.std.proofs.Common.{◌≡◌, length, map, ap, sym, ◌∙◌, refl, arith}
 use Rattle.std.proofs.lemmas.List.{length-map}
-use Rattle.bsi_words.specs.Places.{has_place}
-use Rattle.bsi_words.proofs.BitmapReads.{read_bitmap}
+use Rattle.bsi_kernels.specs.Places.{has_place}
+use Rattle.bsi_kernels.proofs.BitmapReads.{read_bitmap}
 use Rattle.bsi_components.specs.PlaceNumbers.{numbers_in}
 use Rattle.bsi_components.proofs.PlaceNumbers.{equal_by, equal_stepped, equal_rows, equal_all, all_equal, length-numbers_in, numbers_below, places_are, one_read}
 use Rattle.bsi_components.proofs.building.rows_equal.Goals as goal

@@ -1,8 +1,8 @@
 use Rattle.std.proofs.Common.{◌≤◌, ◌+◌, ◌-◌, ◌++◌, length, length-take, length-drop, drop, map, ap, ◌∙◌, arith}
 use Rattle.bsi_bits.specs.BitLists.{bits_at}
-use Rattle.bsi_words.specs.Places.{then_places}
-use Rattle.bsi_words.proofs.MarkPlaces.{stored_marks}
-use Rattle.bsi_words.proofs.PlaceBitmaps.{count_moved}
+use Rattle.bsi_kernels.specs.Places.{then_places}
+use Rattle.bsi_kernels.proofs.MarkPlaces.{stored_marks}
+use Rattle.bsi_kernels.proofs.PlaceBitmaps.{count_moved}
 use Rattle.bsi_components.proofs.component.push_marked.Goals as goal
 
 pub mark_block-requires-clause-count : goal.mark_block-requires-clause-count

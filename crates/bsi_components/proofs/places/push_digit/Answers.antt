@@ -3,8 +3,8 @@ use Rattle.std.specs.Prelude.{◌&&◌, nat_le, nat_lt}
 use Rattle.std.proofs.lemmas.Bool.{cases_lt}
 use Rattle.std.proofs.lemmas.Bool.Decides.{nat_tests}
 use Rattle.bsi_bits.specs.BitLists.{bits_at}
-use Rattle.bsi_words.specs.Places.{then_places}
-use Rattle.bsi_words.proofs.PlaceBitmaps.{own_test, place_test}
+use Rattle.bsi_kernels.specs.Places.{then_places}
+use Rattle.bsi_kernels.proofs.PlaceBitmaps.{own_test, place_test}
 use Rattle.bsi_components.proofs.places.push_digit.Goals as goal
 
 none_early : (from to j : ℕ) → j < from → (nat_le from j && nat_lt j to) ≡ false
@@ -39,10 +39,10 @@ returns-clause-bits c = λ holds is j within.
         | inl early ↦ c.raise_last.ensures.before j early ∙ zeros ∙ write false (sym (none_early from to j early)) inside
         | inr low ↦ elim (cases_lt j to) [
           | inl high ↦ c.raise_last.ensures.raised j old low high zeros ∙ write true (sym (one_inside from to j low high)) inside
-          | inr late ↦ c.raise_last.ensures.behind j late ∙ zeros ∙ write false (sym (none_late from to j late)) inside
+          | inr late ↦ c.raise_last.ensures.after j late ∙ zeros ∙ write false (sym (none_late from to j late)) inside
         ]
       ]
       | inr past ↦
-          c.raise_places.ensures.places j old past (omega (arith, within, c.push_zeros.ensures.count, c.raise_last.ensures.count)) (c.raise_last.ensures.behind j (omega (arith, past, c.requires.ones)) ∙ zeros)
+          c.raise_places.ensures.places j old past (omega (arith, within, c.push_zeros.ensures.count, c.raise_last.ensures.count)) (c.raise_last.ensures.after j (omega (arith, past, c.requires.ones)) ∙ zeros)
           ∙ ap (λ x. old ++ x ∷ []) (sym (place_test own holds j digit past))
     ]

@@ -6,7 +6,7 @@ use Rattle.std.proofs.lemmas.Bool.{cases_lt, cases_eq}
 use Rattle.std.proofs.lemmas.Nat.Bits.{bit_at-zero, bit_at-trailing_zeros}
 use Rattle.bsi_bits.specs.BitLists.{bits_at}
 use Rattle.bsi_bits.proofs.Lowest.{lowest_gone, others_stay, lowest_less}
-use Rattle.bsi_words.specs.Places.{has_place}
+use Rattle.bsi_kernels.specs.Places.{has_place}
 use Rattle.bsi_components.proofs.places.raise_places.Goals as goal
 
 -- the lowest place that is left
@@ -50,11 +50,11 @@ ones-preserved-then-place-count c =
             c.raise_last.ensures.raised j front (omega (arith, same, from)) (omega (arith, same, from)) last
             ∙ ap₂ (λ a b. front ++ ((a == 1) && not (b == 1)) ∷ []) (sym (was.among (j - own) there)) (sym (ap (bit_at rest) same ∙ gone))
         | inr apart ↦
-            let kept : bits_at c.raise_last.new.self.vectors j ≡ bits_at c.ones.bitmaps.vectors j = elim (cases_lt j (own + p)) [
+            let unchanged : bits_at c.raise_last.new.self.vectors j ≡ bits_at c.ones.bitmaps.vectors j = elim (cases_lt j (own + p)) [
               | inl early ↦ c.raise_last.ensures.before j early
-              | inr late ↦ c.raise_last.ensures.behind j (omega (arith, late, apart))
+              | inr late ↦ c.raise_last.ensures.after j (omega (arith, late, apart))
             ] in
-            kept ∙ was.raised j front from within is ∙ ap (λ b. front ++ (has_place (j - own) digit && not (b == 1)) ∷ []) (sym (other (j - own) apart))
+            unchanged ∙ was.raised j front from within is ∙ ap (λ b. front ++ (has_place (j - own) digit && not (b == 1)) ∷ []) (sym (other (j - own) apart))
       ];
     }
 

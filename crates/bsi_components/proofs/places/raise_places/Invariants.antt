@@ -2,7 +2,7 @@ use Rattle.std.proofs.Common.{◌≡◌, ◌==◌, ℕ, ◌-◌, ◌<◌, ◌≤
 use Rattle.std.specs.Prelude.{not, ◌&&◌}
 use Rattle.std.specs.Int.{bit_at}
 use Rattle.bsi_bits.specs.BitLists.{bits_at}
-use Rattle.bsi_words.specs.Places.{has_place}
+use Rattle.bsi_kernels.specs.Places.{has_place}
 use Rattle.bsi_components.proofs.places.raise_places.Given as goal
 
 -- the places that are left are ones of the digit, and the last bits of its other ones are set

@@ -2,7 +2,7 @@ use Rattle.std.proofs.Common.{◌≡◌, ◌+◌, ◌*◌, ◌≤◌, refl, ◌�
 use Rattle.std.proofs.lemmas.Nat.{mul-le}
 use Rattle.bsi_digits.specs.Digits.{weight, product}
 use Rattle.bsi_digits.proofs.Products.{product-take_le}
-use Rattle.bsi_digits.proofs.KeptWeights.{kept_more, next_weight}
+use Rattle.bsi_digits.proofs.WeightLists.{weights_more, next_weight}
 use Rattle.bsi_digits.proofs.bases.weights.Goals as goal
 use Rattle.bsi_digits.proofs.bases.weights.Goals.{After-from-in-loop-i-2}
 
@@ -26,7 +26,7 @@ loop-i-preserved c =
     let positive : 1 * 1 ≤ c.from.result * c.from-in-loop-i.result =
     mul-le 1 1 c.from.result c.from-in-loop-i.result (omega arith) (omega arith) in
     record {
-      kept = kept_more c.args.bases.now c.loop-i.kept c.loop-i.i c.new.result (omega arith) c.loop-i.invariant.kept
+      each = weights_more c.args.bases.now c.loop-i.divisors c.loop-i.i c.new.result (omega arith) c.loop-i.invariant.each
           (c.new.ensures ∙ last);
       last = last;
       some = omega arith;

@@ -4,7 +4,7 @@ use Rattle.bsi_digits.proofs.bases.weights.Given as goal
 
 abbrev pub invariant-loop-i : goal.invariant-loop-i
 invariant-loop-i l = record {
-  kept : (k : ℕ) → k ≤ l.i → slice_index l.kept k ≡ weight l.bases k;
+  each : (k : ℕ) → k ≤ l.i → slice_index l.divisors k ≡ weight l.bases k;
   last : l.weight ≡ weight l.bases l.i;
   some : 1 ≤ l.weight;
   small : l.weight ≤ max_size;

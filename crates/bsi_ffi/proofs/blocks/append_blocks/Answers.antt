@@ -3,8 +3,8 @@ use Rattle.bsi_rows.specs.RowBlocks.{RowBlock}
 use Rattle.bsi_rows.specs.Rows.{feeders_of}
 use Rattle.bsi_rows.specs.Table.{with_rows, Table}
 use Rattle.bsi_table.specs.Index.{table_of}
-use Rattle.bsi_ffi.specs.Columns.{are_columns, given_rows, row_count, AreTaken}
-use Rattle.bsi_ffi.proofs.GivenRows.{with_none, with_block}
+use Rattle.bsi_ffi.specs.Columns.{are_columns, input_rows, row_count, AreAccepted}
+use Rattle.bsi_ffi.proofs.InputRows.{with_block, with_none}
 use Rattle.bsi_ffi.proofs.blocks.append_blocks.Goals as goal
 
 pub parts-init : goal.parts-init
@@ -29,9 +29,9 @@ pub append_block-requires-clause-even : goal.append_block-requires-clause-even
 append_block-requires-clause-even c =
     subst (λ (t : Table). are_columns (length t.schema.columns) c.args.columns.now ≡ true) (sym c.parts.invariant.rows) c.requires.even
 
-pub append_block-requires-clause-taken : goal.append_block-requires-clause-taken
-append_block-requires-clause-taken c =
-    subst (λ (t : Table). AreTaken t.schema.columns c.args.columns.now (row_count c.args.columns.now)) (sym c.parts.invariant.rows) c.requires.taken
+pub append_block-requires-clause-accepted : goal.append_block-requires-clause-accepted
+append_block-requires-clause-accepted c =
+    subst (λ (t : Table). AreAccepted t.schema.columns c.args.columns.now (row_count c.args.columns.now)) (sym c.parts.invariant.rows) c.requires.accepted
 
 pub parts-preserved : goal.parts-preserved
 parts-preserved c =
@@ -39,7 +39,7 @@ parts-preserved c =
     record {
       done = omega (arith, c.min-count.ensures, c.parts-test.true, c.div_ceil-k-end.ensures);
       rows = with_block (table_of c.args.index.now) (table_of c.parts.index) (table_of c.append_block.new.index) c.args.feeder c.args.columns.now (64 * c.parts.k) c.min-count.result _
-          (c.parts.invariant.rows ∙ ap (λ n. with_rows (table_of c.args.index.now) (given_rows c.args.feeder c.args.columns.now 0 n)) before)
+          (c.parts.invariant.rows ∙ ap (λ n. with_rows (table_of c.args.index.now) (input_rows c.args.feeder c.args.columns.now 0 n)) before)
           c.in_ok-append_block.ensures.appended (omega arith);
       schema = c.append_block.ensures.schema ∙ c.parts.invariant.schema;
       feeders = c.append_block.ensures.feeders ∙ c.parts.invariant.feeders;

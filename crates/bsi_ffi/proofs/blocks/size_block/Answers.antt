@@ -2,7 +2,7 @@ use Rattle.std.proofs.Common.{◌≡◌, None, length, replicate, sym, ap, subst
 use Rattle.bsi_rows.specs.RowBlocks.{emptied_block, with_null_rows, RowBlock}
 use Rattle.bsi_rows.specs.Rows.{feeders_of}
 use Rattle.bsi_rows.specs.Table.{AreFitting}
-use Rattle.bsi_ffi.proofs.GivenColumns.{feeders-replicate, null_rows-fitting}
+use Rattle.bsi_ffi.proofs.ColumnInputs.{feeders-replicate, null_rows-fitting}
 use Rattle.bsi_ffi.proofs.blocks.size_block.Goals as goal
 
 -- the rows are of the feeder, and of nulls

@@ -1,12 +1,12 @@
 use Rattle.std.proofs.Common.{◌≡◌, None, Option, ℤ, List, [], ◌∷◌, get_or, length, arith}
 use Rattle.std.specs.List.{AllZip}
-use Rattle.bsi_ffi.specs.Pairs.{IsWrittenEntry}
+use Rattle.bsi_ffi.specs.Pairs.{IsFlatEntry}
 use Rattle.bsi_ffi.specs.declared.pairs.FlatEntry.{FlatEntry}
 use Rattle.bsi_ffi.proofs.pairs.flat_entries.Goals as goal
 
 -- each of two entries is written
 both_written : (entries : List (Option ℤ)) (first second : FlatEntry) → length entries ≡ 2
-    → IsWrittenEntry (get_or entries 0 None) first → IsWrittenEntry (get_or entries 1 None) second → AllZip IsWrittenEntry entries (first ∷ second ∷ [])
+    → IsFlatEntry (get_or entries 0 None) first → IsFlatEntry (get_or entries 1 None) second → AllZip IsFlatEntry entries (first ∷ second ∷ [])
 both_written [] first second two one other = absurd (omega arith)
 both_written (x ∷ []) first second two one other = absurd (omega arith)
 both_written (x ∷ y ∷ []) first second two one other = (one, (other, tt))

@@ -1,5 +1,5 @@
 use Rattle.std.proofs.Common.{◌≡◌}
-use Rattle.bsi_files.specs.Takings.{TakesOnlyOf}
+use Rattle.bsi_files.specs.Progress.{PopsOnlyOf}
 use Rattle.bsi_files.proofs.loading.drain.Given as goal
 
 abbrev pub invariant-rows : goal.invariant-rows
@@ -7,5 +7,5 @@ invariant-rows g l = record {
   can_next : (goal.iterator-rows g).can_next l.iterator';
   is_finite : (goal.iterator-rows g).is_finite l.iterator';
   system : l.loader.system ≡ l.initial.loader.system;
-  takes : TakesOnlyOf l.feeder l.initial.loader.takings l.loader.takings;
+  pops : PopsOnlyOf l.feeder l.initial.loader.progress l.loader.progress;
 }

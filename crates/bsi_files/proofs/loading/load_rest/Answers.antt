@@ -1,6 +1,6 @@
 use Rattle.std.proofs.Common.{◌≡◌, true, sym, ◌∙◌}
-use Rattle.bsi_files.specs.Takings.{all_closed}
-use Rattle.bsi_asks.proofs.Passing.{if_err, if_told, on_ok}
+use Rattle.bsi_files.specs.Progress.{all_closed}
+use Rattle.bsi_answers.proofs.Passing.{if_err, if_told, on_ok}
 use Rattle.bsi_files.proofs.loading.load_rest.Goals as goal
 
 pub returns-clause-drained : goal.returns-clause-drained

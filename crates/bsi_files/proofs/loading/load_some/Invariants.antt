@@ -5,4 +5,4 @@ abbrev pub invariant-rows : goal.invariant-rows
 invariant-rows g l = l.loader.system ≡ l.initial.loader.system
 
 abbrev pub decreases-rows : goal.decreases-rows
-decreases-rows g l = 256 - l.taken
+decreases-rows g l = 256 - l.popped

@@ -1,20 +1,20 @@
 use Rattle.std.proofs.Common.{◌≡◌, ◌≤◌, map, rules, subst, sym, true, ◌∙◌}
 use Rattle.std.specs.Prelude.{IfErr}
 use Rattle.bsi_rows.specs.Table.{max_feeders}
-use Rattle.bsi_reading.proofs.Joining.{is_whole}
+use Rattle.bsi_input.proofs.Joining.{is_whole}
 use Rattle.bsi_files.specs.Begun.{Begins}
-use Rattle.bsi_asks.specs.Faults.{is_of_headers}
+use Rattle.bsi_answers.specs.Faults.{raised_at_headers}
 use Rattle.bsi_files.specs.Headers.{IsHeadersFault}
 use Rattle.bsi_files.specs.RunFaults.{IsFaultOf}
-use Rattle.bsi_asks.specs.declared.faults.FilesFault.TheVariants.{NoMemory}
+use Rattle.bsi_answers.specs.declared.faults.FilesFault.TheVariants.{NoMemory}
 use Rattle.bsi_files.proofs.Failing.{headers_counted, headers_loading, headers_fault_of, headers_known, headers_late, load_counted, load_loading, load_late, run_fault_of}
 use Rattle.bsi_files.proofs.Files.{as_many, loaded_of, matched_long}
-use Rattle.bsi_files.proofs.Parts.{loaded_parts}
-use Rattle.bsi_asks.proofs.Passing.{if_err, if_ok, so_ok}
+use Rattle.bsi_files.proofs.Prefixes.{loaded_prefixes}
+use Rattle.bsi_answers.proofs.Passing.{if_err, if_ok, so_ok}
 use Rattle.bsi_files.proofs.run.load_files.Goals as goal
 
-pub load_in-loaded-requires-clause-few : goal.load_in-loaded-requires-clause-few
-load_in-loaded-requires-clause-few g c =
+pub load_with_system-loaded-requires-clause-few : goal.load_with_system-loaded-requires-clause-few
+load_with_system-loaded-requires-clause-few g c =
     let many = matched_long (Begins g.I.Read.remaining c.args.schema) c.args.sources.items c.in_ok-sources.sources.items c.in_ok-sources.ensures.begun in
     λ κs within. subst (λ n. n ≤ max_feeders) many c.requires.few
 
@@ -25,19 +25,19 @@ returns-clause-counts g c =
     let rem = g.I.Read.remaining in
     let sources = c.in_ok-sources.sources.items in
     let many = matched_long (Begins rem c.args.schema) c.args.sources.items sources c.in_ok-sources.ensures.begun in
-    if_ok c.load_in-loaded.result
+    if_ok c.load_with_system-loaded.result
     (λ loaded all. sym (as_many rem g.G.Stopping.STOPS loaded.table.rows 0 sources loaded.fed.items all.each) ∙ sym many)
-    c.load_in-loaded.ensures.fed
+    c.load_with_system-loaded.ensures.fed
 
 pub returns-clause-feeders : goal.returns-clause-feeders
 returns-clause-feeders g c =
     let many = matched_long (Begins g.I.Read.remaining c.args.schema) c.args.sources.items c.in_ok-sources.sources.items c.in_ok-sources.ensures.begun in
-    if_ok c.load_in-loaded.result (λ loaded is. is ∙ sym many) c.load_in-loaded.ensures.feeders
+    if_ok c.load_with_system-loaded.result (λ loaded is. is ∙ sym many) c.load_with_system-loaded.ensures.feeders
 
 pub returns-clause-headers : goal.returns-clause-headers
 returns-clause-headers g c =
     let rem = g.I.Read.remaining in
-    so_ok c.load_in-loaded.result
+    so_ok c.load_with_system-loaded.result
     (λ texts is. headers_known rem c.args.schema c.args.sources.items c.in_ok-sources.sources.items texts c.in_ok-sources.ensures.begun is)
 
 pub returns-clause-rows : goal.returns-clause-rows
@@ -45,18 +45,18 @@ returns-clause-rows g c =
     let rem = g.I.Read.remaining in
     let readers = c.args.sources.items in
     let sources = c.in_ok-sources.sources.items in
-    if_ok c.load_in-loaded.result
+    if_ok c.load_with_system-loaded.result
     (λ loaded all never texts is. loaded_of rem (is_whole rem) g.G.Stopping.STOPS never c.args.schema c.args.limit readers sources texts
     loaded.table.rows loaded.fed.items c.in_ok-sources.ensures.begun is all)
-    c.load_in-loaded.ensures.fed
+    c.load_with_system-loaded.ensures.fed
 
-pub returns-clause-parts : goal.returns-clause-parts
-returns-clause-parts g c =
+pub returns-clause-prefixes : goal.returns-clause-prefixes
+returns-clause-prefixes g c =
     let rem = g.I.Read.remaining in
-    if_ok c.load_in-loaded.result
-    (λ loaded all texts is. loaded_parts rem g.G.Stopping.STOPS c.args.schema c.args.limit c.args.sources.items c.in_ok-sources.sources.items texts
+    if_ok c.load_with_system-loaded.result
+    (λ loaded all texts is. loaded_prefixes rem g.G.Stopping.STOPS c.args.schema c.args.limit c.args.sources.items c.in_ok-sources.sources.items texts
     loaded.table.rows loaded.fed.items c.in_ok-sources.ensures.begun is all)
-    c.load_in-loaded.ensures.fed
+    c.load_with_system-loaded.ensures.fed
 
 -- ---- faults
 
@@ -66,20 +66,20 @@ returns-clause-fault g c =
     let readers = c.args.sources.items in
     let sources = c.in_ok-sources.sources.items in
     let begin = c.in_ok-sources.ensures.begun in
-    if_err c.load_in-loaded.result (λ fault met declared texts declares i.
-    run_fault_of rem (is_whole rem) g.G.Stopping.STOPS declared c.args.schema c.args.limit readers sources texts declares begin i fault met) c.load_in-loaded.ensures.fault
+    if_err c.load_with_system-loaded.result (λ fault met declared texts declares i.
+    run_fault_of rem (is_whole rem) g.G.Stopping.STOPS declared c.args.schema c.args.limit readers sources texts declares begin i fault met) c.load_with_system-loaded.ensures.fault
 
 pub returns-clause-counted : goal.returns-clause-counted
 returns-clause-counted g c =
-    if_err c.load_in-loaded.result (load_counted g.I.Read.remaining g.G.Stopping.STOPS c.args.limit c.in_ok-sources.sources.items) c.load_in-loaded.ensures.fault
+    if_err c.load_with_system-loaded.result (load_counted g.I.Read.remaining g.G.Stopping.STOPS c.args.limit c.in_ok-sources.sources.items) c.load_with_system-loaded.ensures.fault
 
 pub returns-clause-loading : goal.returns-clause-loading
 returns-clause-loading g c =
-    if_err c.load_in-loaded.result (load_loading g.I.Read.remaining g.G.Stopping.STOPS c.args.limit c.in_ok-sources.sources.items) c.load_in-loaded.ensures.fault
+    if_err c.load_with_system-loaded.result (load_loading g.I.Read.remaining g.G.Stopping.STOPS c.args.limit c.in_ok-sources.sources.items) c.load_with_system-loaded.ensures.fault
 
-pub returns-clause-late : goal.returns-clause-late
-returns-clause-late g c =
-    if_err c.load_in-loaded.result (load_late g.I.Read.remaining g.G.Stopping.STOPS c.args.limit c.in_ok-sources.sources.items) c.load_in-loaded.ensures.fault
+pub returns-clause-follows_output : goal.returns-clause-follows_output
+returns-clause-follows_output g c =
+    if_err c.load_with_system-loaded.result (load_late g.I.Read.remaining g.G.Stopping.STOPS c.args.limit c.in_ok-sources.sources.items) c.load_with_system-loaded.ensures.fault
 
 -- at the headers
 pub returns-in_err-sources-clause-fault : goal.returns-in_err-sources-clause-fault
@@ -92,17 +92,17 @@ returns-in_err-sources-clause-fault g c =
 
 pub returns-in_err-sources-clause-counted : goal.returns-in_err-sources-clause-counted
 returns-in_err-sources-clause-counted g c =
-    let first : IfErr c.from_residual.result (λ fault. is_of_headers fault ≡ true) = search rules in
+    let first : IfErr c.from_residual.result (λ fault. raised_at_headers fault ≡ true) = search rules in
     if_err c.from_residual.result headers_counted first
 
 pub returns-in_err-sources-clause-loading : goal.returns-in_err-sources-clause-loading
 returns-in_err-sources-clause-loading g c =
-    let first : IfErr c.from_residual.result (λ fault. is_of_headers fault ≡ true) = search rules in
+    let first : IfErr c.from_residual.result (λ fault. raised_at_headers fault ≡ true) = search rules in
     if_err c.from_residual.result headers_loading first
 
-pub returns-in_err-sources-clause-late : goal.returns-in_err-sources-clause-late
-returns-in_err-sources-clause-late g c =
-    let first : IfErr c.from_residual.result (λ fault. is_of_headers fault ≡ true) = search rules in
+pub returns-in_err-sources-clause-follows_output : goal.returns-in_err-sources-clause-follows_output
+returns-in_err-sources-clause-follows_output g c =
+    let first : IfErr c.from_residual.result (λ fault. raised_at_headers fault ≡ true) = search rules in
     if_err c.from_residual.result headers_late first
 
 -- or where memory is refused for the capacities

@@ -1,18 +1,19 @@
-use Rattle.std.proofs.Common.{ℕ, List, Option, IfSome, map, rules, subst, sym}
+use Rattle.std.proofs.Common.{List, IfSome, map, rules, subst, sym}
 use Rattle.std.specs.Prelude.{IfErr}
 use Rattle.bsi_schema.specs.Columns.{Declared}
-use Rattle.bsi_reading.specs.SchemaTexts.{IsSchemaText}
-use Rattle.bsi_asks.specs.RowFiles.{fed_counts}
-use Rattle.bsi_files.specs.Parts.{HasLoadedParts}
-use Rattle.bsi_files.specs.RunFaults.{AreGood, IsFaultOver}
-use Rattle.bsi_asks.specs.Runs.{AreLines, HasLoaded, IsRun}
-use Rattle.bsi_asks.specs.Writing.{WritesAll, WritesFirst}
-use Rattle.bsi_asks.specs.declared.fed.Fed.{Fed}
-use Rattle.bsi_asks.proofs.Asking.{all_follows, leaves_late, part_follows}
+use Rattle.bsi_input.specs.SchemaTexts.{IsSchemaText}
+use Rattle.bsi_answers.specs.RowFiles.{fed_counts}
+use Rattle.bsi_files.specs.Prefixes.{HasLoadedPrefixes}
+use Rattle.bsi_files.specs.RunFaults.{IsFaultOver, RowTextsAreValid}
+use Rattle.bsi_answers.specs.Runs.{AreLines, HasLoaded, IsRun}
+use Rattle.bsi_answers.specs.Writing.{WritesAll, WritesFirst}
+use Rattle.bsi_answers.specs.declared.fed.Fed.{Fed}
+use Rattle.bsi_answers.proofs.Asking.{all_follows, leaves_late, part_follows}
 use Rattle.bsi_files.proofs.Failing.{late_fault_of}
 use Rattle.bsi_files.proofs.Files.{run_of_loaded}
-use Rattle.bsi_asks.proofs.Passing.{if_err, if_err_both, on_ok}
+use Rattle.bsi_answers.proofs.Passing.{if_err, if_err_both, on_ok}
 use Rattle.bsi_files.proofs.run.run_files.Goals as goal
+use Rattle.bsi_syntax.specs.Bytes.{KnownBytes}
 
 -- ---- faults
 
@@ -23,7 +24,7 @@ returns-in_err-loaded-clause-fault g c =
     let met : IfErr c.from_residual-in_err-loaded.result (IsFaultOver g.G.Stopping.STOPS schema limit (map g.I.Read.remaining c.args.sources.items)) = search rules in
     if_err c.from_residual-in_err-loaded.result
     (λ fault is declared texts s i. is declared texts
-    (subst (λ (o : Option (List ℕ)). IfSome o (λ bytes. IsSchemaText bytes schema limit)) s c.in_ok-schema.ensures.declared) i) met
+    (subst (λ (o : KnownBytes). IfSome o (λ bytes. IsSchemaText bytes schema limit)) s c.in_ok-schema.ensures.declared) i) met
 
 pub returns-clause-fault : goal.returns-clause-fault
 returns-clause-fault g c =
@@ -31,12 +32,12 @@ returns-clause-fault g c =
     let limit = c.in_ok-schema.field-0.limit in
     if_err c.answer_all.result
     (λ fault late declared texts s i.
-    (let good : AreGood declared texts = record {
+    (let good : RowTextsAreValid declared texts = record {
       schema = schema;
       limit = limit;
-      schema_is = subst (λ (o : Option (List ℕ)). IfSome o (λ bytes. IsSchemaText bytes schema limit)) s c.in_ok-schema.ensures.declared;
+      schema_is = subst (λ (o : KnownBytes). IfSome o (λ bytes. IsSchemaText bytes schema limit)) s c.in_ok-schema.ensures.declared;
       headers = c.in_ok-loaded.ensures.headers texts i;
-    } in late_fault_of g.G.Stopping.STOPS declared texts fault late good)) c.answer_all.ensures.late
+    } in late_fault_of g.G.Stopping.STOPS declared texts fault late good)) c.answer_all.ensures.follows_output
 
 -- ---- lines
 
@@ -50,17 +51,17 @@ returns-clause-lines g c =
     let after = g.W.Write.contents c.answer_all.new.writer in
     on_ok c.answer_all.result
     (λ some never declared texts asked s i a.
-    (let declares = subst (λ (o : Option (List ℕ)). IfSome o (λ bytes. IsSchemaText bytes schema limit)) s c.in_ok-schema.ensures.declared in
+    (let declares = subst (λ (o : KnownBytes). IfSome o (λ bytes. IsSchemaText bytes schema limit)) s c.in_ok-schema.ensures.declared in
     let loaded = subst (λ (xs : List Fed). HasLoaded schema limit texts rows (map fed_counts xs)) (sym c.deref.ensures.value) (c.in_ok-loaded.ensures.rows never texts i) in
-    let written = subst (λ (o : Option (List ℕ)). IfSome o (λ bytes. WritesAll (AreLines c.in_ok-loaded.loaded.table.schema rows (map fed_counts feds)) bytes before after)) a some in
+    let written = subst (λ (o : KnownBytes). IfSome o (λ bytes. WritesAll (AreLines c.in_ok-loaded.loaded.table.schema rows (map fed_counts feds)) bytes before after)) a some in
     all_follows {Is = AreLines c.in_ok-loaded.loaded.table.schema rows (map fed_counts feds)}
     (λ records lines are. run_of_loaded schema limit declared texts rows (map fed_counts feds) declares loaded records lines
     (subst (λ (d : Declared). AreLines d rows (map fed_counts feds) records lines) c.in_ok-loaded.ensures.schema are))
     asked before after written))
     c.answer_all.ensures.ok
 
-pub returns-clause-parts : goal.returns-clause-parts
-returns-clause-parts g c =
+pub returns-clause-prefixes : goal.returns-clause-prefixes
+returns-clause-prefixes g c =
     let schema = c.in_ok-schema.field-0.schema in
     let limit = c.in_ok-schema.field-0.limit in
     let rows = c.in_ok-loaded.loaded.table.rows in
@@ -70,9 +71,9 @@ returns-clause-parts g c =
     let after = g.W.Write.contents c.answer_all.new.writer in
     on_ok c.answer_all.result
     (λ some declared texts asked s i a.
-    (let declares = subst (λ (o : Option (List ℕ)). IfSome o (λ bytes. IsSchemaText bytes schema limit)) s c.in_ok-schema.ensures.declared in
-    let loaded = subst (λ (xs : List Fed). HasLoadedParts schema limit texts rows (map fed_counts xs)) (sym c.deref.ensures.value) (c.in_ok-loaded.ensures.parts texts i) in
-    let written = subst (λ (o : Option (List ℕ)). IfSome o (λ bytes. WritesAll (AreLines c.in_ok-loaded.loaded.table.schema rows counts) bytes before after)) a some in
+    (let declares = subst (λ (o : KnownBytes). IfSome o (λ bytes. IsSchemaText bytes schema limit)) s c.in_ok-schema.ensures.declared in
+    let loaded = subst (λ (xs : List Fed). HasLoadedPrefixes schema limit texts rows (map fed_counts xs)) (sym c.deref.ensures.value) (c.in_ok-loaded.ensures.prefixes texts i) in
+    let written = subst (λ (o : KnownBytes). IfSome o (λ bytes. WritesAll (AreLines c.in_ok-loaded.loaded.table.schema rows counts) bytes before after)) a some in
     all_follows {Is = AreLines c.in_ok-loaded.loaded.table.schema rows counts}
     (λ records lines are. record {
       schema = schema;
@@ -86,8 +87,8 @@ returns-clause-parts g c =
     asked before after written))
     c.answer_all.ensures.ok
 
-pub returns-clause-part : goal.returns-clause-part
-returns-clause-part g c =
+pub returns-clause-prefix : goal.returns-clause-prefix
+returns-clause-prefix g c =
     let schema = c.in_ok-schema.field-0.schema in
     let limit = c.in_ok-schema.field-0.limit in
     let rows = c.in_ok-loaded.loaded.table.rows in
@@ -96,12 +97,12 @@ returns-clause-part g c =
     let after = g.W.Write.contents c.answer_all.new.writer in
     if_err_both c.answer_all.result
     (λ fault late some never declared texts asked s i a.
-    (let declares = subst (λ (o : Option (List ℕ)). IfSome o (λ bytes. IsSchemaText bytes schema limit)) s c.in_ok-schema.ensures.declared in
+    (let declares = subst (λ (o : KnownBytes). IfSome o (λ bytes. IsSchemaText bytes schema limit)) s c.in_ok-schema.ensures.declared in
     let loaded = subst (λ (xs : List Fed). HasLoaded schema limit texts rows (map fed_counts xs)) (sym c.deref.ensures.value) (c.in_ok-loaded.ensures.rows never texts i) in
-    let written = subst (λ (o : Option (List ℕ)). IfSome o (λ bytes. WritesFirst (AreLines c.in_ok-loaded.loaded.table.schema rows (map fed_counts feds)) bytes fault before after)) a some in
+    let written = subst (λ (o : KnownBytes). IfSome o (λ bytes. WritesFirst (AreLines c.in_ok-loaded.loaded.table.schema rows (map fed_counts feds)) bytes fault before after)) a some in
     leaves_late (IsRun declared texts) asked fault before after late
     (part_follows {Is = AreLines c.in_ok-loaded.loaded.table.schema rows (map fed_counts feds)}
     (λ records lines are. run_of_loaded schema limit declared texts rows (map fed_counts feds) declares loaded records lines
     (subst (λ (d : Declared). AreLines d rows (map fed_counts feds) records lines) c.in_ok-loaded.ensures.schema are))
     asked fault before after written)))
-    c.answer_all.ensures.late c.answer_all.ensures.part
+    c.answer_all.ensures.follows_output c.answer_all.ensures.prefix

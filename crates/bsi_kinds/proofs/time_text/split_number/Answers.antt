@@ -2,7 +2,7 @@ use Rattle.std.proofs.Common.{◌≡◌, ◌+ℤ◌, ◌*ℤ◌, ◌^◌, pos, u
 use Rattle.std.proofs.lemmas.Int.{ints, to_z-of_z}
 use Rattle.std.specs.Int.{int_div_euclid, int_rem_euclid, w64}
 use Rattle.jiff_core.specs.Date.{epoch_day}
-use Rattle.bsi_kinds.specs.Times.{places_of}
+use Rattle.bsi_kinds.specs.Times.{unit_places}
 use Rattle.bsi_kinds.proofs.Days.{at_ok}
 use Rattle.bsi_kinds.proofs.Scaling.{ten_some}
 use Rattle.bsi_kinds.proofs.TimeTexts.{number_split}
@@ -25,11 +25,11 @@ returns-clause-number c =
     let clock_low = c.rem_euclid.ensures.lower_bound in
     let part_low = c.rem_euclid-2.ensures.lower_bound in
     let clock : pos (unsigned_abs (to_z w64 (of_z w64 c.rem_euclid.result))) ≡ c.rem_euclid.result = omega (arith, ints) in
-    let part : pos (unsigned_abs (to_z w64 (of_z w64 c.rem_euclid-2.result))) ≡ c.rem_euclid-2.result = omega (arith, ints) in
-    ap₂ (λ e s. (e *ℤ pos 86400 +ℤ pos s) *ℤ pos (10 ^ places_of c.args.unit) +ℤ pos (unsigned_abs (to_z w64 (of_z w64 c.rem_euclid-2.result)))) date c.from_second-time.ensures.seconds
-    ∙ number_split (10 ^ places_of c.args.unit) (ten_some (places_of c.args.unit)) c.args.number c.div_euclid-seconds.result c.div_euclid.result
+    let subsecond : pos (unsigned_abs (to_z w64 (of_z w64 c.rem_euclid-2.result))) ≡ c.rem_euclid-2.result = omega (arith, ints) in
+    ap₂ (λ e s. (e *ℤ pos 86400 +ℤ pos s) *ℤ pos (10 ^ unit_places c.args.unit) +ℤ pos (unsigned_abs (to_z w64 (of_z w64 c.rem_euclid-2.result)))) date c.from_second-time.ensures.seconds
+    ∙ number_split (10 ^ unit_places c.args.unit) (ten_some (unit_places c.args.unit)) c.args.number c.div_euclid-seconds.result c.div_euclid.result
     (unsigned_abs (to_z w64 (of_z w64 c.rem_euclid.result))) (unsigned_abs (to_z w64 (of_z w64 c.rem_euclid-2.result)))
     (c.div_euclid-seconds.ensures ∙ ap₂ int_div_euclid number second)
     (c.div_euclid.ensures ∙ ap (λ s. int_div_euclid s (pos 86400)) seconds)
     (clock ∙ c.rem_euclid.ensures.value ∙ ap (λ s. int_rem_euclid s (pos 86400)) seconds)
-    (part ∙ c.rem_euclid-2.ensures.value ∙ ap₂ int_rem_euclid number second)
+    (subsecond ∙ c.rem_euclid-2.ensures.value ∙ ap₂ int_rem_euclid number second)

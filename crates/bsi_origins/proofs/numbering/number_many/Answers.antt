@@ -3,7 +3,7 @@ use Rattle.std.specs.Prelude.{slice_index_or, false}
 use Rattle.std.proofs.lemmas.Option.{get_or_from_slice_get}
 use Rattle.bsi_rows.specs.Numbering.{number_within, count_before}
 use Rattle.bsi_origins.specs.Origins.{AreCountsBefore}
-use Rattle.bsi_origins.proofs.Numbers.{counted_more, counted_none, numbered_found, numbered_passed}
+use Rattle.bsi_origins.proofs.Numbers.{counted_more, counted_none, numbered_selection, numbered_passed}
 use Rattle.bsi_origins.proofs.numbering.number_many.Goals as goal
 use Rattle.bsi_origins.proofs.numbering.number_many.Goals.{then-get+in_ok-push, else-get}
 
@@ -13,7 +13,7 @@ rows-init c = record { long = refl; counted = λ f below. counted_none 64 f; row
 pub rows-preserved : goal.rows-preserved
 rows-preserved c =
     let feeders = c.args.origins.now.rows in
-    let bits = c.args.found.now.bits in
+    let bits = c.args.selection.now.bits in
     let r = c.rows.r in
     let feeder = c.feeder-feeder.result in
     let there = c.feeder-feeder.ensures.feeder in
@@ -31,7 +31,7 @@ rows-preserved c =
             ap (λ v. v.items) w.listed-is ∙ w.in_ok-push.ensures.items
             ∙ ap (λ f. c.rows.listed.items ++ (f, count) ∷ []) (w.from.ensures ∙ there)
             ∙ ap (λ rows. rows ++ (get_or feeders r 0, count) ∷ []) c.rows.invariant.rows
-            ∙ numbered_found bits feeders r count (is ∙ w.if-get.true) counted
+            ∙ numbered_selection bits feeders r count (is ∙ w.if-get.true) counted
         | else-get w ↦ ap (λ v. v.items) w.listed-is ∙ c.rows.invariant.rows ∙ numbered_passed bits feeders r (is ∙ w.if-get.false)
       ];
     }

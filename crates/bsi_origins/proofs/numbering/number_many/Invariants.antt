@@ -8,5 +8,5 @@ abbrev pub invariant-rows : goal.invariant-rows
 invariant-rows l = record {
   long : length l.counts ≡ 64;
   counted : AreCountsBefore l.origins.feeders l.origins.rows l.r l.counts;
-  rows : l.listed.items ≡ numbered_at l.origins.rows (places_below l.found.bits l.r);
+  rows : l.listed.items ≡ numbered_at l.origins.rows (places_below l.selection.bits l.r);
 }

@@ -1,7 +1,7 @@
 use Rattle.std.proofs.Common.{◌≡◌, ◌≢◌, ℕ, ℤ, ◌*◌, ◌+◌, ◌<◌, ◌+ℤ◌, pos, get_or, set, length, length-set, nat_eq, ap, of_z, rules, sym, to_z, to_z-of_z, w64, ◌∙◌, arith, below_more}
 use Rattle.std.proofs.lemmas.List.{get_or-set_other, get_or-set_same}
 use Rattle.std.proofs.lemmas.Nat.Bits.{shr_and_one}
-use Rattle.bsi_orders.specs.Offsets.{number_of}
+use Rattle.bsi_digits.specs.Offsets.{number_of}
 use Rattle.bsi_rows.specs.RowBlocks.{least_at, IsValueAt}
 use Rattle.bsi_rows.proofs.cells.write_values.Goals as goal
 

@@ -3,7 +3,7 @@ use mir.Syntax.{w64}
 use mir.Val.{of_z, to_z}
 use Rattle.std.proofs.lemmas.Int.{ints, to_z-of_z}
 use Rattle.std.proofs.lemmas.Nat.Bits.{shr_and_one}
-use Rattle.bsi_orders.specs.Offsets.{number_of}
+use Rattle.bsi_digits.specs.Offsets.{number_of}
 use Rattle.bsi_digits.specs.Digits.{max_size}
 use Rattle.bsi_shift.proofs.Moving.{IsMoved, moved_entries, moved_more, number_in_range}
 use Rattle.bsi_shift.proofs.shifted.move_block.Goals.{then-not_null-r-eq1, else-not_null-r-eq1}

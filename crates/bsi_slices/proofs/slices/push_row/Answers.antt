@@ -1,7 +1,7 @@
 use Rattle.std.proofs.Common.{◌≡◌, ℕ, zero, suc, ◌<◌, ◌++◌, ◌∷◌, [], length, get_or, None, is_some, ap, ◌∙◌, arith}
 use Rattle.std.specs.Prelude.{◌==◌, Option}
 use Rattle.std.specs.Int.{bit_at}
-use Rattle.bsi_orders.specs.Rows.{number_or_zero}
+use Rattle.bsi_digits.specs.Comparisons.{number_or_zero}
 use Rattle.bsi_bits.specs.BitLists.{bits_at}
 use Rattle.bsi_slices.proofs.SliceGrowth.{entries_more, sliced_more}
 use Rattle.bsi_slices.proofs.slices.push_row.Goals as goal

@@ -7,9 +7,9 @@ use Rattle.std.proofs.lemmas.List.{get_or-take, get_or_past, length-take}
 use Rattle.std.proofs.lemmas.List.Elements.{All-get_or}
 use Rattle.bsi_bits.specs.BitLists.{bits_at}
 use Rattle.bsi_bits.specs.Packed.{bits_of}
-use Rattle.bsi_orders.specs.Blocks.{block_entries}
-use Rattle.bsi_orders.specs.Rows.{number_or_zero}
-use Rattle.bsi_orders.proofs.BlockEntries.{length-block_entries}
+use Rattle.bsi_digits.specs.Blocks.{block_entries}
+use Rattle.bsi_digits.specs.Comparisons.{number_or_zero}
+use Rattle.bsi_digits.proofs.BlockEntries.{length-block_entries}
 use Rattle.bsi_slices.proofs.BlockWords.{bits_are_some, small-block_entries, word_clear, word_is}
 use Rattle.bsi_slices.proofs.SliceGrowth.{entries_more, sliced_more}
 use Rattle.bsi_slices.proofs.slices.push_rows.Goals as goal

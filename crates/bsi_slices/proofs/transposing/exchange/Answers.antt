@@ -14,5 +14,5 @@ runs-preserved c =
       second = λ q r below near. run.second q r (omega arith) near;
       before = run.before;
       middle = λ j past inside. absurd (omega arith);
-      behind = λ j past. run.behind j (omega arith);
+      after = λ j past. run.after j (omega arith);
     })

@@ -1,7 +1,7 @@
 use Rattle.std.proofs.Common.{All, length, ap, sym, subst, arith, rules, ◌∙◌, SFits, w64, to_z-of_z}
 use Rattle.std.proofs.lemmas.Int.{ints}
-use Rattle.bsi_orders.specs.Offsets.{IsInRange}
-use Rattle.bsi_table.specs.Kept.{IsInForm}
+use Rattle.bsi_digits.specs.Offsets.{IsInRange}
+use Rattle.bsi_table.specs.Encoded.{IsInForm}
 use Rattle.std.proofs.lemmas.List.Elements.{All-nil}
 use Rattle.bsi_shift.specs.Shifted.{shifted_size}
 use Rattle.bsi_table.proofs.Keeping.{shifted_nothing}

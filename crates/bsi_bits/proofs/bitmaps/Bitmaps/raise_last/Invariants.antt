@@ -11,5 +11,5 @@ invariant-vectors l = record {
   rooms : (k : ℕ) → room_at l.self-inside.vectors.items k ≡ room_at l.initial.self-inside.vectors.items k;
   raised : (k : ℕ) (front : List Bool) → l.from ≤ k → k < l.j → bits_at l.initial.self-inside.vectors.items k ≡ front ++ false ∷ [] → bits_at l.self-inside.vectors.items k ≡ front ++ true ∷ [];
   before : (k : ℕ) → k < l.from → bits_at l.self-inside.vectors.items k ≡ bits_at l.initial.self-inside.vectors.items k;
-  behind : (k : ℕ) → l.j ≤ k → bits_at l.self-inside.vectors.items k ≡ bits_at l.initial.self-inside.vectors.items k;
+  after : (k : ℕ) → l.j ≤ k → bits_at l.self-inside.vectors.items k ≡ bits_at l.initial.self-inside.vectors.items k;
 }

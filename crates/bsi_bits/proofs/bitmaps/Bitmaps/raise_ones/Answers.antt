@@ -79,11 +79,11 @@ ones-preserved c =
             c.raise_last.ensures.raised k front (omega (arith, same)) (omega (arith, same)) before
             ∙ ap₂ (λ a b. front ++ ((a == 1) && not (b == 1)) ∷ []) (sym (was.among k there)) (sym (ap (bit_at rest) same ∙ gone))
         | inr apart ↦
-            let kept : bits_at c.raise_last.new.self.vectors k ≡ bits_at c.ones.self.vectors k = elim (cases_lt k p) [
+            let unchanged : bits_at c.raise_last.new.self.vectors k ≡ bits_at c.ones.self.vectors k = elim (cases_lt k p) [
               | inl early ↦ c.raise_last.ensures.before k early
-              | inr late ↦ c.raise_last.ensures.behind k (omega (arith, late, apart))
+              | inr late ↦ c.raise_last.ensures.after k (omega (arith, late, apart))
             ] in
-            kept ∙ was.raised k front within is ∙ ap (λ b. front ++ ((bit_at number k == 1) && not (b == 1)) ∷ []) (sym (other k apart))
+            unchanged ∙ was.raised k front within is ∙ ap (λ b. front ++ ((bit_at number k == 1) && not (b == 1)) ∷ []) (sym (other k apart))
       ];
     }
 

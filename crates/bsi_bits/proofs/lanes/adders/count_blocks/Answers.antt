@@ -6,13 +6,13 @@ use Rattle.bsi_bits.proofs.Summing.{summed_block}
 use Rattle.bsi_bits.proofs.lanes.adders.count_blocks.Goals as goal
 
 -- a block more: the words of the adders, and the single ones
-pub parts-preserved : goal.parts-preserved
-parts-preserved g c =
+pub chunks-preserved : goal.chunks-preserved
+chunks-preserved g c =
     let made = zip2 g.O.Operation.word_of c.args.a.now c.args.b.now in
-    let at = 64 * c.parts.k in
+    let at = 64 * c.chunks.k in
     let block = chunk_added count_ones at 32 32 made in
-    let all = summed_block count_ones made at (sum_by count_ones (take at made)) refl 64 (64 * (c.parts.k + 1)) (sum_by count_ones (chunk at 64 made)) (omega arith) refl in
+    let all = summed_block count_ones made at (sum_by count_ones (take at made)) refl 64 (64 * (c.chunks.k + 1)) (sum_by count_ones (chunk at 64 made)) (omega arith) refl in
     record {
-      counted = omega (arith, c.parts.invariant.counted, c.count_singly-singles.ensures.ones, c.add_eight.ensures.added, c.ones_in-eights.ensures.ones, block, all);
-      few = omega (arith, c.parts.invariant.few, c.count_singly-singles.ensures.few, c.add_eight.ensures.added, c.add_eight.ensures.few, c.ones_in-eights.ensures.ones);
+      counted = omega (arith, c.chunks.invariant.counted, c.count_singly-singles.ensures.ones, c.add_eight.ensures.added, c.ones_in-eights.ensures.ones, block, all);
+      few = omega (arith, c.chunks.invariant.few, c.count_singly-singles.ensures.few, c.add_eight.ensures.added, c.add_eight.ensures.few, c.ones_in-eights.ensures.ones);
     }

@@ -1,6 +1,6 @@
 use Rattle.std.proofs.Common.{◌≡◌, ◌∙◌, ◌+◌, ◌*◌, ◌/◌, ap, sym, refl, length, arith, slice_index_or}
 use Rattle.std.proofs.lemmas.Grind.{common_steps}
-use Rattle.bsi_bits.specs.Packed.{places_from}
+use Rattle.bsi_bits.specs.Packed.{positions_from}
 use Rattle.bsi_bits.proofs.Skipping.{places_done, word_skipped, words_skipped, next_place}
 use Rattle.bsi_bits.proofs.ones.OnesIterator.next.Goals as goal
 
@@ -27,7 +27,7 @@ words-preserved c =
     record {
       packed = c.words.invariant.packed;
       left = sym (word_skipped ones.len ones.words.now c.words.invariant.packed ones.at (slice_index_or ones.words.now (ones.at / 64) 0) c.words-test.true refl (c.know_fits.ensures (ones.at / 64)) c.if-left-ne0.false
-          ∙ ap (λ k. places_from k ones.len ones.words.now) commuted
+          ∙ ap (λ k. positions_from k ones.len ones.words.now) commuted
           ∙ words_skipped ones.len ones.words.now (ones.at / 64 + 1) c.skip_clear.result c.skip_clear.ensures.forward c.skip_clear.ensures.clear)
           ∙ c.words.invariant.left;
     }

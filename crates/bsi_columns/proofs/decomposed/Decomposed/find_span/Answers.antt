@@ -1,7 +1,7 @@
 use Rattle.std.proofs.Common.{◌≡◌, ◌<◌, ◌≤◌, ◌+◌, ◌*◌, ◌/◌, ℕ, [], length, map, subst, ap, sym, ◌∙◌, arith}
 use Rattle.std.proofs.lemmas.List.{length-map}
 use Rattle.bsi_digits.specs.Digits.{product, digit_of}
-use Rattle.bsi_orders.specs.Rows.{number_or_zero}
+use Rattle.bsi_digits.specs.Comparisons.{number_or_zero}
 use Rattle.bsi_columns.specs.Decomposed.{entries_of}
 use Rattle.bsi_columns.proofs.ComponentLists.{read_map}
 use Rattle.bsi_columns.proofs.SpanAnswers.{IsNarrowed, narrowed_start, narrowed_more, narrowed_all}
@@ -18,11 +18,11 @@ narrow_digit-requires-clause-within g c =
     let inside = c.self.inside in
     let items = inside.components.items in
     let bs = inside.bases in
-    let kept = c.self.invariant.0 in
+    let decomposes = c.self.invariant.0 in
     let entries = entries_of bs inside.not_null.bits (map g.E.Encoding.digits items) in
-    let within : c.loop-i.i < length items = omega (arith, kept.count, length-map items g.E.Encoding.digits) in
+    let within : c.loop-i.i < length items = omega (arith, decomposes.count, length-map items g.E.Encoding.digits) in
     let digits : g.E.Encoding.digits c.index.result.now ≡ map (λ e. digit_of bs (number_or_zero e) c.loop-i.i) entries =
-    sym (read_map g.E.Encoding.digits items c.loop-i.i c.index.result.now [] within c.index.ensures) ∙ kept.digits_are c.loop-i.i (omega arith) in
+    sym (read_map g.E.Encoding.digits items c.loop-i.i c.index.result.now [] within c.index.ensures) ∙ decomposes.digits_are c.loop-i.i (omega arith) in
     let rows : length (g.E.Encoding.digits c.index.result.now) ≡ length entries = ap length digits ∙ length-map entries (λ e. digit_of bs (number_or_zero e) c.loop-i.i) in
     let room : c.args.at + length c.args.span.now ≤ (length entries + 63) / 64 = rw (← c.self.view_is) at c.requires.within in
     omega (arith, rows, room, c.loop-i.auto.span)
@@ -32,11 +32,11 @@ loop-i-preserved g c =
     let inside = c.self.inside in
     let items = inside.components.items in
     let bs = inside.bases in
-    let kept = c.self.invariant.0 in
+    let decomposes = c.self.invariant.0 in
     let entries = entries_of bs inside.not_null.bits (map g.E.Encoding.digits items) in
-    let within : c.loop-i.i < length items = omega (arith, kept.count, length-map items g.E.Encoding.digits) in
+    let within : c.loop-i.i < length items = omega (arith, decomposes.count, length-map items g.E.Encoding.digits) in
     let digits : g.E.Encoding.digits c.index.result.now ≡ map (λ e. digit_of bs (number_or_zero e) c.loop-i.i) entries =
-    sym (read_map g.E.Encoding.digits items c.loop-i.i c.index.result.now [] within c.index.ensures) ∙ kept.digits_are c.loop-i.i (omega arith) in
+    sym (read_map g.E.Encoding.digits items c.loop-i.i c.index.result.now [] within c.index.ensures) ∙ decomposes.digits_are c.loop-i.i (omega arith) in
     let before : IsNarrowed bs c.args.test.relation c.args.test.constant entries c.args.at c.loop-i.i c.loop-i.span = rw (← c.self.view_is) at c.loop-i.invariant in
     rw (← c.self.view_is)
     (narrowed_more c.len-i-end.ensures.valid c.args.test.relation c.args.test.constant entries c.args.at c.loop-i.i c.digit-digit.result c.loop-i.span c.narrow_digit.new.span

@@ -1,6 +1,6 @@
 use Rattle.std.proofs.Common.{◌≡◌, length, map, ap, sym, subst, arith}
 use Rattle.bsi_bits.specs.BitLists.{bits_at}
-use Rattle.bsi_words.specs.Nulls.{AreClearAtNulls, HasBitOfNull}
+use Rattle.bsi_kernels.specs.Nulls.{AreClearAtNulls, HasBitOfNull}
 use Rattle.bsi_digits.specs.Digits.{product}
 use Rattle.bsi_columns.specs.Decomposed.{AreDigitsBelow}
 use Rattle.bsi_columns.specs.Places.{places_under}

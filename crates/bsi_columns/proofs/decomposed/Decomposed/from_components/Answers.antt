@@ -7,9 +7,9 @@ use Rattle.bsi_columns.proofs.decomposed.Decomposed.from_components.Goals as goa
 pub invariant_of-result : goal.invariant_of-result
 invariant_of-result g c =
     let digits = map g.E.Encoding.digits c.args.components.items in
-    let kept = decomposed_from c.args.bases c.args.not_null.bits digits c.requires.digits in
+    let decomposes = decomposed_from c.args.bases c.args.not_null.bits digits c.requires.digits in
     let same = ap (λ (b : BitList). b.bits) (sym c.from_bits.ensures) in (
-      subst (λ (bits : List Bool). Decomposes c.args.bases bits digits (entries_of c.args.bases bits digits)) same kept,
+      subst (λ (bits : List Bool). Decomposes c.args.bases bits digits (entries_of c.args.bases bits digits)) same decomposes,
       c.requires.bases,
       record {
         within = omega (arith, c.if-prove.false, c.len.ensures.len, ap length same);

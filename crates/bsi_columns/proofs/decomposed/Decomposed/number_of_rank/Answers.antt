@@ -5,8 +5,8 @@ use Rattle.std.proofs.lemmas.Simd.{length-zip2}
 use Rattle.std.proofs.lemmas.List.{length-map}
 use Rattle.bsi_digits.specs.Digits.{weight, product, digit_of}
 use Rattle.bsi_digits.proofs.CallerLemmas.{weight_pos}
-use Rattle.bsi_orders.specs.Rows.{number_or_zero}
-use Rattle.bsi_columns.proofs.Ranking.{narrowed_end}
+use Rattle.bsi_digits.specs.Comparisons.{number_or_zero}
+use Rattle.bsi_columns.proofs.Ranking.{narrowed_extreme}
 use Rattle.bsi_columns.proofs.Rungs.{IsRung, rung_start, rung_step, fits_size}
 use Rattle.bsi_columns.proofs.decomposed.Decomposed.number_of_rank.Given as given
 use Rattle.bsi_columns.proofs.decomposed.Decomposed.number_of_rank.Goals as goal
@@ -16,35 +16,35 @@ pub components-init : goal.components-init
 components-init g c =
     let bs = c.bases-bases.result.now in
     let entries = c.args.self.now.entries in
-    let found = c.args.found.now.bits in
+    let selection = c.args.selection.now.bits in
     let IsBelow : List ℕ → Type 0 = λ bs. All (λ e. number_or_zero e < product bs) entries in
     let below = subst IsBelow (sym c.bases-bases.ensures.bases) c.bases-bases.ensures.below in
-    let chosen : c.and_with.new.self.bits ≡ zip2 ◌&&◌ found (map is_some entries) = c.and_with.ensures.bits ∙ ap₂ (zip2 ◌&&◌) c.in_ok-chosen.ensures c.not_null.ensures in
-    let start = rung_start bs c.len-i.ensures.valid found entries c.args.rank c.and_with.new.self.bits below chosen c.requires.there in
-    let AtHeight : ℕ → Type 0 = λ i. IsRung bs found entries c.args.rank i 0 c.args.rank c.and_with.new.self.bits in
+    let chosen : c.and_with.new.self.bits ≡ zip2 ◌&&◌ selection (map is_some entries) = c.and_with.ensures.bits ∙ ap₂ (zip2 ◌&&◌) c.in_ok-chosen.ensures c.not_null.ensures in
+    let start = rung_start bs c.len-i.ensures.valid selection entries c.args.rank c.and_with.new.self.bits below chosen c.requires.there in
+    let AtHeight : ℕ → Type 0 = λ i. IsRung bs selection entries c.args.rank i 0 c.args.rank c.and_with.new.self.bits in
     record {
       rung = subst AtHeight (sym c.len-i.ensures.len) start;
-      chosen_even = ap length chosen ∙ length-zip2 ◌&&◌ found (map is_some entries) (sym (length-map entries is_some ∙ c.requires.same));
+      chosen_even = ap length chosen ∙ length-zip2 ◌&&◌ selection (map is_some entries) (sym (length-map entries is_some ∙ c.requires.same));
     }
 
 -- one component down
 next : (g : given.Over) (c : goal.After-from g)
-    → IsRung c.bases-bases.result.now c.args.found.now.bits c.args.self.now.entries c.args.rank (c.components.i - 1)
+    → IsRung c.bases-bases.result.now c.args.selection.now.bits c.args.self.now.entries c.args.rank (c.components.i - 1)
     (c.components.number * c.from.result + c.in_ok-ranked.ranked.number) c.in_ok-ranked.ranked.rank c.in_ok-ranked.ranked.rows.bits
 next g c =
     let bs = c.bases-bases.result.now in
     let entries = c.args.self.now.entries in
-    let found = c.args.found.now.bits in
+    let selection = c.args.selection.now.bits in
     let j = c.components.i - 1 in
     let same = sym c.bases-bases.ensures.bases in
     let within : j < length bs = omega (arith, c.components.invariant.rung.within, c.components-test.true) in
     let digits = c.component.ensures.digits ∙ ap (λ bs. map (λ e. digit_of bs (number_or_zero e) j) entries) same in
     let base = c.component.ensures.base ∙ ap (λ bs. get_or bs j 0) same in
     let above : c.components.i ≡ j + 1 = omega (arith, c.components-test.true) in
-    let AtHeight : ℕ → Type 0 = λ i. IsRung bs found entries c.args.rank i c.components.number c.components.left c.components.chosen.bits in
-    let AtNumber : ℕ → Type 0 = λ b. IsRung bs found entries c.args.rank j (c.components.number * b + c.in_ok-ranked.ranked.number) c.in_ok-ranked.ranked.rank c.in_ok-ranked.ranked.rows.bits in
+    let AtHeight : ℕ → Type 0 = λ i. IsRung bs selection entries c.args.rank i c.components.number c.components.left c.components.chosen.bits in
+    let AtNumber : ℕ → Type 0 = λ b. IsRung bs selection entries c.args.rank j (c.components.number * b + c.in_ok-ranked.ranked.number) c.in_ok-ranked.ranked.rank c.in_ok-ranked.ranked.rows.bits in
     subst AtNumber (sym (c.from.ensures ∙ c.base.ensures.base)) (
-    rung_step bs c.len-i.ensures.valid found entries c.args.rank j within c.components.number c.components.left c.in_ok-ranked.ranked.number c.in_ok-ranked.ranked.rank
+    rung_step bs c.len-i.ensures.valid selection entries c.args.rank j within c.components.number c.components.left c.in_ok-ranked.ranked.number c.in_ok-ranked.ranked.rank
     c.components.chosen.bits c.in_ok-ranked.ranked.rows.bits (g.E.Encoding.digits c.component.result.now) (subst AtHeight above c.components.invariant.rung) digits
     (omega (arith, base, c.in_ok-ranked.ensures.digit)) c.in_ok-ranked.ensures.ranked.rows_are c.in_ok-ranked.ensures.ranked.rank_is c.in_ok-ranked.ensures.ranked.there)
 
@@ -77,9 +77,9 @@ components-preserved g c =
 pub returns : goal.returns
 returns g c =
     let none : c.components.i ≡ 0 = omega (arith, c.components-test.false) in
-    let AtHeight : ℕ → Type 0 = λ i. IsRung c.bases-bases.result.now c.args.found.now.bits c.args.self.now.entries c.args.rank i c.components.number c.components.left c.components.chosen.bits in
+    let AtHeight : ℕ → Type 0 = λ i. IsRung c.bases-bases.result.now c.args.selection.now.bits c.args.self.now.entries c.args.rank i c.components.number c.components.left c.components.chosen.bits in
     let rung = subst AtHeight none c.components.invariant.rung in
-    narrowed_end c.args.found.now.bits c.args.self.now.entries c.args.rank c.components.number c.components.left c.components.chosen.bits rung.narrowed
+    narrowed_extreme c.args.selection.now.bits c.args.self.now.entries c.args.rank c.components.number c.components.left c.components.chosen.bits rung.narrowed
 
 pub and_with-requires : goal.and_with-requires
 and_with-requires g c = ap length c.in_ok-chosen.ensures ∙ sym c.requires.same ∙ sym (ap length c.not_null.ensures ∙ length-map c.args.self.now.entries is_some)

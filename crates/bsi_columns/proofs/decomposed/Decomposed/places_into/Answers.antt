@@ -1,7 +1,7 @@
 use Rattle.std.proofs.Common.{◌≡◌, ◌+◌, ◌-◌, ◌*◌, ◌/◌, None, length, get_or, subst, ap, ap₂, sym, ◌∙◌, arith}
 use Rattle.bsi_digits.specs.Digits.{digit_of, weight}
 use Rattle.bsi_digits.proofs.CallerLemmas.{high_digit}
-use Rattle.bsi_columns.specs.Ends.{number_at}
+use Rattle.bsi_columns.specs.Extremes.{number_at}
 use Rattle.bsi_columns.specs.NumberPlaces.{IsNumberAt}
 use Rattle.bsi_columns.proofs.NumberBlocks.{digit_read, top_digit}
 use Rattle.bsi_columns.proofs.decomposed.Decomposed.places_into.Goals as goal

@@ -1,6 +1,6 @@
 use Rattle.std.proofs.Common.{◌≡◌, ℕ, ◌+◌, ◌*◌, ◌/◌, ◌<◌, ◌≤◌, length}
 use Rattle.bsi_digits.specs.Digits.{weight}
-use Rattle.bsi_columns.specs.Ends.{number_at}
+use Rattle.bsi_columns.specs.Extremes.{number_at}
 use Rattle.bsi_columns.specs.NumberPlaces.{IsNumberAt}
 use Rattle.bsi_columns.proofs.decomposed.Decomposed.places_into.Given as goal
 

@@ -16,7 +16,7 @@ returns-in_ok-words g c =
     let not_null = inside.not_null.bits in
     let ds = map g.E.Encoding.digits inside.components.items in
     let entries = entries_of bs not_null ds in
-    let chosen = map (answers (λ x. relates c.args.test.relation x c.args.test.constant) c.args.test.wanted) entries in
+    let chosen = map (answers (λ x. relates c.args.test.relation x c.args.test.constant) c.args.test.expected) entries in
     let bits : (p : ℕ) → p < length entries → bit_of c.in_ok-words.words.items p ≡ get_or chosen p false = rw (← c.self.view_is) at c.in_ok-words.ensures.bits in
     let rows : c.len.result ≡ length entries = c.len.ensures.len ∙ rows_of bs not_null ds entries c.self.invariant.0 in
     let long : length chosen ≡ c.len.result = length-map entries _ ∙ sym rows in
@@ -39,4 +39,4 @@ select_vectors-requires-clause-same g c =
     let ds = map g.E.Encoding.digits inside.components.items in
     let entries = entries_of inside.bases not_null ds in
     rw (← c.self.view_is)
-    (sym (ap length c.in_ok-found.ensures ∙ ap (λ (b : BitList). length b.bits) c.bits.ensures ∙ rows_of inside.bases not_null ds entries c.self.invariant.0))
+    (sym (ap length c.in_ok-selection.ensures ∙ ap (λ (b : BitList). length b.bits) c.bits.ensures ∙ rows_of inside.bases not_null ds entries c.self.invariant.0))

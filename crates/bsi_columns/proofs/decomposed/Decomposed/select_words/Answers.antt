@@ -14,7 +14,7 @@ loop-k-preserved g c =
     let words = c.loop-k.words.items in
     let span = c.select_span.new.span in
     let entries = c.args.self.now.entries in
-    let chosen = λ (r : ℕ). get_or (map (answers (λ x. relates c.args.test.relation x c.args.test.constant) c.args.test.wanted) entries) r false in
+    let chosen = λ (r : ℕ). get_or (map (answers (λ x. relates c.args.test.relation x c.args.test.constant) c.args.test.expected) entries) r false in
     let after : c.extend_from_slice.new.self.items ≡ words ++ span = c.in_ok-extend_from_slice.ensures.items in
     let size : length span ≡ min 1024 ((length c.words-len.result.now) - 1024 * c.loop-k.k) =
     omega (arith, c.select_span.auto.span, length-take c.min.result c.loop-k.buffer, c.min.array_long, c.min.ensures) in

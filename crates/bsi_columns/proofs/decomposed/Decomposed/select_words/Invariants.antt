@@ -9,5 +9,5 @@ abbrev pub invariant-loop-k : goal.invariant-loop-k
 invariant-loop-k g l = record {
   long : length l.words.items ≡ min (1024 * l.k) l.len;
   done : (p : ℕ) → p < 64 * length l.words.items → p < length l.self.entries
-      → bit_of l.words.items p ≡ get_or (map (answers (λ x. relates l.test.relation x l.test.constant) l.test.wanted) l.self.entries) p false;
+      → bit_of l.words.items p ≡ get_or (map (answers (λ x. relates l.test.relation x l.test.constant) l.test.expected) l.self.entries) p false;
 }

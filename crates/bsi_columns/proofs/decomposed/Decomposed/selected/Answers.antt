@@ -1,7 +1,7 @@
 use Rattle.std.proofs.Common.{◌≡◌, ◌<◌, ℕ, false, replicate, map, ap, ◌∙◌, arith}
 use Rattle.bsi_bits.specs.BitList.{BitList}
 use Rattle.bsi_digits.specs.Digits.{product}
-use Rattle.bsi_orders.specs.Rows.{compares, selects}
+use Rattle.bsi_digits.specs.Comparisons.{compares, selects}
 use Rattle.bsi_slices.specs.Decisions.{decides, relates}
 use Rattle.bsi_columns.specs.DigitTests.{answers}
 use Rattle.bsi_columns.specs.Decomposed.{entries_of}
@@ -46,6 +46,6 @@ returns-in-Tested g c =
     let agree : (x : ℕ) → x < product bs → decides c.decide.result x ≡ compares c.args.op x c.args.constant = λ x below. c.decide.ensures.decided x (omega (arith, c.size.ensures.size)) in
     let tested = rw (← c.self.view_is) at c.select.ensures in
     rw (← c.self.view_is)
-    (IfOk-same_bits c.select.result (λ (b : BitList). b.bits) (map (answers (λ x. relates test.relation x test.constant) test.wanted) entries) (map (selects c.args.op c.args.constant) entries)
+    (IfOk-same_bits c.select.result (λ (b : BitList). b.bits) (map (answers (λ x. relates test.relation x test.constant) test.expected) entries) (map (selects c.args.op c.args.constant) entries)
     (rows_tested c.args.op c.args.constant (product bs) c.decide.result agree test c.in-Tested.is entries c.self.invariant.0.below)
     tested)

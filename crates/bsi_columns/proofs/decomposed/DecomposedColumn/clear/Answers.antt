@@ -2,9 +2,9 @@ use Rattle.std.proofs.Common.{◌≡◌, ◌<◌, [], length, map, ap, ◌∙◌
 use Rattle.std.proofs.lemmas.List.{length-map}
 use Rattle.std.proofs.lemmas.List.Elements.{All-nil}
 use Rattle.bsi_digits.specs.Digits.{product}
-use Rattle.bsi_orders.specs.Rows.{number_or_zero}
+use Rattle.bsi_digits.specs.Comparisons.{number_or_zero}
 use Rattle.bsi_columns.specs.Decomposed.{entries_of, Decomposes}
-use Rattle.bsi_columns.proofs.EntriesFrom.{digits_long, entries_from, kept_itself, rows_of}
+use Rattle.bsi_columns.proofs.EntriesFrom.{digits_long, entries_from, decomposed_itself, rows_of}
 use Rattle.bsi_columns.proofs.ComponentLists.{length-map_is}
 use Rattle.bsi_columns.proofs.decomposed.DecomposedColumn.clear.Goals as goal
 
@@ -27,7 +27,7 @@ invariant_of-self g c =
       digits_are = λ i below. c.clear_each.ensures.digits i (omega (arith, below, count));
       below = All-nil (λ e. number_or_zero e < product bs);
     } in (
-      kept_itself bs bits all [] none,
+      decomposed_itself bs bits all [] none,
       bases,
       record {
         within = omega (arith, ap length c.clear.ensures.bits, c.len.ensures.len, c.self.invariant.2.within);

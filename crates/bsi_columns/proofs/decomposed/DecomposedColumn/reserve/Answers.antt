@@ -10,4 +10,4 @@ reserve_each-requires g c = λ k d within.
     let ds = map digits inside.components.items in
     let entries = entries_of inside.bases inside.not_null.bits ds in
     let rows = rows_of inside.bases inside.not_null.bits ds entries c.self.invariant.0 in
-    omega (arith, component_rows digits inside.components.items inside.bases inside.not_null.bits entries c.self.invariant.0 k d within, rows, c.len.ensures.len, c.room_to_make-wanted.ensures.within)
+    omega (arith, component_rows digits inside.components.items inside.bases inside.not_null.bits entries c.self.invariant.0 k d within, rows, c.len.ensures.len, c.room_to_make-growth.ensures.within)

@@ -1,6 +1,6 @@
 use Rattle.std.proofs.Common.{◌≡◌, ℕ, ◌+◌, ◌*◌, ◌<◌, [], length, get_or}
 use Rattle.bsi_bits.specs.Packed.{bit_of}
-use Rattle.bsi_words.specs.Places.{has_place}
+use Rattle.bsi_kernels.specs.Places.{has_place}
 use Rattle.bsi_columns.proofs.decomposed.numbers.digit_places.Given as goal
 
 -- the places below k are written

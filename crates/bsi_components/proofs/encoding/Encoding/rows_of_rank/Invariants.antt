@@ -9,9 +9,9 @@ invariant-digits g l =
     record {
       order : l.low ≤ l.high;
       within : l.high < g.Self.Encoding.base_of l.self;
-      below_is : l.below ≡ count_where (λ v. nat_lt v l.low) l.found.bits digits;
+      below_is : l.below ≡ count_where (λ v. nat_lt v l.low) l.selection.bits digits;
       at_least : l.below ≤ l.rank;
-      under : l.rank < count_where (λ v. nat_le v l.high) l.found.bits digits;
+      under : l.rank < count_where (λ v. nat_le v l.high) l.selection.bits digits;
       even : length digits ≡ length l.scratch.bits;
     }
 

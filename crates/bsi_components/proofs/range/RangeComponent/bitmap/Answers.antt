@@ -1,7 +1,7 @@
 use Rattle.std.proofs.Common.{◌≡◌, ℕ, ◌+◌, ◌∙◌, arith}
 use Rattle.std.specs.Prelude.{nat_le, nat_lt}
 use Rattle.std.proofs.lemmas.Bool.Decides.{nat_tests}
-use Rattle.bsi_words.proofs.DigitMaps.{map_same}
+use Rattle.bsi_kernels.proofs.DigitMaps.{map_same}
 use Rattle.bsi_components.proofs.range.RangeComponent.bitmap.Goals as goal
 
 below_next : (j v : ℕ) → nat_lt v (j + 1) ≡ nat_le v j

@@ -14,7 +14,7 @@ past_sum c =
     record {
       some = grind (arith, nat_tests);
       few = omega arith;
-      good = ap (λ (xs : List ℕ). position is_bad_base xs) (sym c.deref.ensures.value) ∙ sym c.bad_place.ensures.place ∙ c.in_default.is;
+      good = ap (λ (xs : List ℕ). position is_bad_base xs) (sym c.deref.ensures.value) ∙ sym c.bad_base_at.ensures.position ∙ c.in_default.is;
       narrow = omega arith;
     }
 

@@ -6,7 +6,7 @@ use Rattle.bsi_digits.proofs.bases.Bases.weight.Goals as goal
 -- a weight is a product of bases, and the size is the product of all
 pub returns-clause-within : goal.returns-clause-within
 returns-clause-within c =
-    let kept : c.value.result ≡ weight c.args.self.now c.args.i = c.value.ensures ∙ c.divisor.ensures.weight in
+    let each : c.value.result ≡ weight c.args.self.now c.args.i = c.value.ensures ∙ c.divisor.ensures.weight in
     let positive : 1 ≤ weight c.args.self.now c.args.i = weight_pos c.divisor.ensures.valid c.args.i in
     let bounded : weight c.args.self.now c.args.i ≤ product c.args.self.now = weight_le_size c.divisor.ensures.valid c.args.i in
     (omega arith, omega arith)

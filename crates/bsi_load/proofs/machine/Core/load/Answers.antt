@@ -48,7 +48,7 @@ append-requires-clause-fits c =
 
 pub returns-in_err-position-clause-after : goal.returns-in_err-position-clause-after
 returns-in_err-position-clause-after c =
-    ap (λ index. with_feeders (table_of index) c.self.inside.feeders.items) c.in_err-position.ensures.kept
+    ap (λ index. with_feeders (table_of index) c.self.inside.feeders.items) c.in_err-position.ensures.unchanged
     ∙ c.self.view_is ∙ load_failed c.args.self.now c.args.f c.from_residual.result c.from_residual.ensures.0
 
 pub invariant_of-self-2 : goal.invariant_of-self-2

@@ -1,6 +1,6 @@
 use Rattle.std.proofs.Common.{◌≡◌, None, Some, ap, refl, subst, sym, ◌∙◌}
 use Rattle.bsi_schema.specs.Columns.{position_of}
-use Rattle.bsi_records.specs.Reading.{texts}
+use Rattle.bsi_syntax.specs.Reading.{texts}
 use Rattle.bsi_logical.specs.Logical.{Logical}
 use Rattle.bsi_logical.specs.Records.{pair_of, Does}
 use Rattle.bsi_logical.proofs.Building.{title_at_column, title_nowhere}
@@ -12,9 +12,9 @@ returns-in-Some-find c =
     let fields = texts c.args.fields.now in
     let name = c.in-Some.name.now in
     let pair : Some (name, c.in-Some.title.now) ≡ pair_of fields = c.in-Some.ensures in
-    let found : Some c.in-Some-find.c ≡ position_of l.schema.columns name =
+    let lowered : Some c.in-Some-find.c ≡ position_of l.schema.columns name =
     sym c.in-Some-find.is ∙ c.find.ensures ∙ ap (λ (s : Logical). position_of s.schema.columns name) c.self.view_is in
-    subst (λ said. Does said l c.set_title.new.self c.set_title.result) (sym (title_at_column l fields name c.in-Some.title.now c.in-Some-find.c pair found)) c.set_title.ensures
+    subst (λ said. Does said l c.set_title.new.self c.set_title.result) (sym (title_at_column l fields name c.in-Some.title.now c.in-Some-find.c pair lowered)) c.set_title.ensures
 
 -- no column has the name
 pub returns-in-None : goal.returns-in-None
@@ -23,6 +23,6 @@ returns-in-None c =
     let fields = texts c.args.fields.now in
     let name = c.in-Some.name.now in
     let pair : Some (name, c.in-Some.title.now) ≡ pair_of fields = c.in-Some.ensures in
-    let found : None ≡ position_of l.schema.columns name =
+    let lowered : None ≡ position_of l.schema.columns name =
     sym c.in-None.is ∙ c.find.ensures ∙ ap (λ (s : Logical). position_of s.schema.columns name) c.self.view_is in
-    (title_nowhere l fields name c.in-Some.title.now 0 pair found, refl)
+    (title_nowhere l fields name c.in-Some.title.now 0 pair lowered, refl)

@@ -3,7 +3,7 @@ use Rattle.std.proofs.lemmas.List.{length-map}
 use Rattle.std.specs.Str.{bytes_eq}
 use Rattle.bsi_schema.proofs.Naming.{position-map}
 use Rattle.bsi_schema.specs.Columns.{position_of}
-use Rattle.bsi_logical.specs.Logical.{place_of, Logical}
+use Rattle.bsi_logical.specs.Logical.{column_called, Logical}
 use Rattle.bsi_logical.proofs.Called.{or_first, or_second}
 use Rattle.bsi_logical.proofs.logical.LogicalSchema.find.Goals as goal
 
@@ -19,10 +19,10 @@ returns-in-Some c =
     let name = c.args.name.now in
     let items = c.self.inside.titles.items in
     let among : Some c.in-Some.c ≡ position (λ t. bytes_eq name t) (map (λ (t : Vec ℕ Global). t.items) items) =
-    c.in-Some.ensures.place ∙ ap (position (λ (t : Vec ℕ Global). bytes_eq name t.items)) c.deref.ensures.value
+    c.in-Some.ensures.index ∙ ap (position (λ (t : Vec ℕ Global). bytes_eq name t.items)) c.deref.ensures.value
     ∙ sym (position-map (λ (t : Vec ℕ Global). t.items) (λ t. bytes_eq name t) items) in
     sym (or_first (position (λ t. bytes_eq name t) (map (λ (t : Vec ℕ Global). t.items) items)) (position_of c.self.inside.schema.columns name) c.in-Some.c (sym among))
-    ∙ ap (λ (l : Logical). place_of l name) c.self.view_is
+    ∙ ap (λ (l : Logical). column_called l name) c.self.view_is
 
 -- else a name
 pub returns-in-None : goal.returns-in-None
@@ -30,8 +30,8 @@ returns-in-None c =
     let name = c.args.name.now in
     let items = c.self.inside.titles.items in
     let among : None ≡ position (λ t. bytes_eq name t) (map (λ (t : Vec ℕ Global). t.items) items) =
-    c.in-None.ensures.place ∙ ap (position (λ (t : Vec ℕ Global). bytes_eq name t.items)) c.deref.ensures.value
+    c.in-None.ensures.index ∙ ap (position (λ (t : Vec ℕ Global). bytes_eq name t.items)) c.deref.ensures.value
     ∙ sym (position-map (λ (t : Vec ℕ Global). t.items) (λ t. bytes_eq name t) items) in
     c.find.ensures
     ∙ sym (or_second (position (λ t. bytes_eq name t) (map (λ (t : Vec ℕ Global). t.items) items)) (position_of c.self.inside.schema.columns name) (sym among))
-    ∙ ap (λ (l : Logical). place_of l name) c.self.view_is
+    ∙ ap (λ (l : Logical). column_called l name) c.self.view_is

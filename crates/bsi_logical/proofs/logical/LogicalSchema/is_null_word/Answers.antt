@@ -1,7 +1,7 @@
 use Rattle.std.proofs.Common.{List, Vec, Global, ℕ, ap, ◌∙◌}
 use Rattle.std.specs.List.{list_any}
 use Rattle.std.specs.Str.{bytes_eq}
-use Rattle.bsi_logical.specs.Entries.{is_null_word}
+use Rattle.bsi_kinds.specs.Nulls.{is_null_word}
 use Rattle.bsi_logical.proofs.Called.{any-map}
 use Rattle.bsi_logical.proofs.logical.LogicalSchema.is_null_word.Goals as goal
 

@@ -1,7 +1,7 @@
 use Rattle.std.proofs.Common.{◌≡◌, ◌<◌, List, Vec, Global, ℕ, None, Ok, true, length, map, ap, sym, subst, ◌∙◌, arith, rules}
 use Rattle.std.proofs.lemmas.List.{map-set}
 use Rattle.std.specs.Str.{bytes_eq}
-use Rattle.bsi_logical.specs.Logical.{name_of, place_of, title_of, IsLogical, Logical}
+use Rattle.bsi_logical.specs.Logical.{column_called, name_of, title_of, IsLogical, Logical}
 use Rattle.bsi_logical.specs.Records.{with_title}
 use Rattle.bsi_logical.proofs.Building.{title_done, title_logical, uncalled}
 use Rattle.bsi_logical.proofs.logical.LogicalSchema.set_title.Goals as goal
@@ -19,8 +19,8 @@ invariant_of-self c =
     } in
     let title = c.in_ok-title.title.items in
     let text : title ≡ c.args.title.now = search rules in
-    let none : place_of c.args.self.now c.args.title.now ≡ None = search (rules, c.find.ensures, c.is_some.ensures, c.if-is_some.false) in
-    let free : place_of l title ≡ None = ap (place_of l) text ∙ ap (λ (s : Logical). place_of s c.args.title.now) c.self.view_is ∙ none in
+    let none : column_called c.args.self.now c.args.title.now ≡ None = search (rules, c.find.ensures, c.is_some.ensures, c.if-is_some.false) in
+    let free : column_called l title ≡ None = ap (column_called l) text ∙ ap (λ (s : Logical). column_called s c.args.title.now) c.self.view_is ∙ none in
     let within : c.args.c < length l.titles = omega (arith, c.requires, ap (λ (s : Logical). length s.schema.columns) c.self.view_is, c.self.invariant.titled) in
     subst (λ (ts : List (List ℕ)). IsLogical (record l { titles = ts })) (sym (map-set (λ (t : Vec ℕ Global). t.items) c.self.inside.titles.items c.args.c c.in_ok-title.title))
     (title_logical l c.args.c title c.self.invariant within (uncalled l title free))
@@ -37,7 +37,7 @@ returns c =
     } in
     let title = c.in_ok-title.title.items in
     let text : title ≡ c.args.title.now = search rules in
-    let none : place_of c.args.self.now c.args.title.now ≡ None = search (rules, c.find.ensures, c.is_some.ensures, c.if-is_some.false) in
+    let none : column_called c.args.self.now c.args.title.now ≡ None = search (rules, c.find.ensures, c.is_some.ensures, c.if-is_some.false) in
     let plain : bytes_eq (title_of c.args.self.now c.args.c) (name_of c.args.self.now c.args.c) ≡ true =
     search (rules, c.title.ensures, c.name.ensures, c.as_bytes.ensures.value, c.ne.ensures, c.if-ne.false) in
     title_done c.args.self.now c.args.c c.args.title.now plain none

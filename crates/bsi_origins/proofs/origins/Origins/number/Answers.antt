@@ -23,7 +23,7 @@ returns-then-self-eq1 c =
     let is : get_or rows r 0 ≡ 0 = omega arith in
     sym (ap (count_before rows r) is ∙ counted_alone rows r (omega (arith, c.requires)) from)
 
--- those before the stretch are in its tally, and those behind them are counted
+-- those before the chunk are in its tally, and those behind them are counted
 pub returns : goal.returns
 returns c =
     let i = c.self.inside in

@@ -5,9 +5,9 @@ use Rattle.std.proofs.lemmas.List.{get_or-drop, length-drop, take_all}
 use Rattle.bsi_origins.proofs.origins.Origins.push_all_reserved.Goals as goal
 
 -- a run of copies behind the first rows
-run_taken : (xs rest : List ℕ) (at run x : ℕ) → at < length xs → rest ≡ drop at xs → take run rest ≡ replicate run (get_or rest 0 0) → x ≡ get_or xs at x
+run_appended : (xs rest : List ℕ) (at run x : ℕ) → at < length xs → rest ≡ drop at xs → take run rest ≡ replicate run (get_or rest 0 0) → x ≡ get_or xs at x
     → take at xs ++ replicate run x ≡ take (at + run) xs
-run_taken xs rest at run x within is same read =
+run_appended xs rest at run x within is same read =
     let first : get_or rest 0 0 ≡ x = ap (λ ys. get_or ys 0 0) is ∙ get_or-drop at xs 0 0 ∙ ap (λ k. get_or xs k 0) (omega arith) ∙ sym (read ∙ get_or_default_zero xs at x within) in
     ap (λ ys. take at xs ++ ys) (ap (replicate run) (sym first) ∙ sym same ∙ ap (take run) is) ∙ sym (take-add at run xs)
 
@@ -27,7 +27,7 @@ runs-preserved c =
       within = omega (arith, within, enough, ap length rows);
       rows = c.push_many_reserved.ensures.rows ∙ ap (λ ys. ys ++ replicate run x) c.runs.invariant.rows
           ∙ append_assoc c.args.self.now.rows (take at c.args.other.now.rows) (replicate run x)
-          ∙ ap (λ ys. c.args.self.now.rows ++ ys) (ap (λ ys. take at ys ++ replicate run x) (sym rows) ∙ run_taken xs _ at run x within rest c.run_len-run.ensures.same c.index.ensures ∙ ap (take (at + run)) rows);
+          ∙ ap (λ ys. c.args.self.now.rows ++ ys) (ap (λ ys. take at ys ++ replicate run x) (sym rows) ∙ run_appended xs _ at run x within rest c.run_len-run.ensures.same c.index.ensures ∙ ap (take (at + run)) rows);
       feeders = c.push_many_reserved.ensures.feeders ∙ c.runs.invariant.feeders;
       room = omega (arith, c.push_many_reserved.ensures.room, c.runs.invariant.room);
     }

@@ -1,11 +1,11 @@
 use Rattle.std.proofs.Common.{◌≡◌, ◌+◌, ◌*◌, ◌-◌, ◌<◌, ℕ, List, ℤ, get_or, length, take, drop, of_z, to_z, to_z-of_z, w64, rules, arith, ap, ap₂, subst, sym, ◌∙◌}
 use Rattle.std.proofs.lemmas.List.{get_or_default}
-use Rattle.bsi_orders.specs.Blocks.{offset_entries, IsNumberBlock}
+use Rattle.bsi_digits.specs.Blocks.{offset_entries, IsNumberBlock}
 use Rattle.bsi_schema.proofs.Fitting.{limits_long}
 use Rattle.bsi_rows.specs.Rows.{column_of}
-use Rattle.bsi_rows.specs.RowBlocks.{least_at, placed_entry}
+use Rattle.bsi_rows.specs.RowBlocks.{least_at, cell_entry}
 use Rattle.bsi_rows.proofs.BlockCells.{lent_block, lent_entries, lent_long}
-use Rattle.bsi_rows.proofs.BlockRows.{length-placed_rows}
+use Rattle.bsi_rows.proofs.BlockRows.{length-rows_of_cells}
 use Rattle.bsi_rows.proofs.block.Block.column.Goals as goal
 
 pub overflow_mul-first : goal.overflow_mul-first
@@ -24,7 +24,7 @@ returns-clause-long c =
     let within : c.args.c < length i.schema.value.columns = omega (arith, c.requires, ap (λ b. length b.schema.columns) c.self.view_is) in
     ap length (numbers_lent (64 * c.args.c) (length i.row_feeders.items) c.len-rows.result c.deref.result.now i.numbers.items (omega (arith, c.len-rows.ensures)) c.deref.ensures.value)
     ∙ lent_long i.schema.value.columns i.limits.items i.feeders i.row_feeders.items i.numbers.items i.not_null.items c.self.invariant.0 c.args.c within
-    ∙ sym (length-placed_rows (length i.schema.value.columns) i.row_feeders.items (placed_entry i.limits.items i.numbers.items i.not_null.items))
+    ∙ sym (length-rows_of_cells (length i.schema.value.columns) i.row_feeders.items (cell_entry i.limits.items i.numbers.items i.not_null.items))
     ∙ ap (λ b. length b.rows) c.self.view_is
 
 pub returns-clause-entries : goal.returns-clause-entries

@@ -1,12 +1,12 @@
 use Rattle.std.proofs.Common.{◌≡◌, ◌<◌, ℕ, List, [], ◌∷◌, ◌++◌, drop, length, ap, sym, subst, arith, ◌∙◌}
-use Rattle.bsi_orders.specs.Offsets.{IsInRange}
+use Rattle.bsi_digits.specs.Offsets.{IsInRange}
 use Rattle.bsi_schema.specs.Columns.{entry_at, fits}
 use Rattle.bsi_schema.specs.declared.limits.Limits.{Limits}
 use Rattle.bsi_schema.proofs.Fitting.{fits-length, limits_long}
-use Rattle.bsi_rows.specs.RowBlocks.{least_at, placed_entry, placed_rows, with_block_row, IsBlock, IsSameCell, IsWritten}
-use Rattle.bsi_rows.specs.Table.{end_of_u64}
+use Rattle.bsi_rows.specs.RowBlocks.{least_at, cell_entry, rows_of_cells, with_block_row, IsBlock, IsSameCell, IsWrittenEntry}
+use Rattle.bsi_bits.specs.Packed.{end_of_u64}
 use Rattle.bsi_rows.proofs.BlockCells.{block_more, fitting_from, of_same, rows_more, same_before, written_back}
-use Rattle.bsi_rows.proofs.BlockRows.{length-placed_rows}
+use Rattle.bsi_rows.proofs.BlockRows.{length-rows_of_cells}
 use Rattle.bsi_rows.proofs.block.Block.push_fitting.Goals as goal
 
 pub write_entries-requires-clause-wide : goal.write_entries-requires-clause-wide
@@ -15,10 +15,10 @@ write_entries-requires-clause-wide c =
     let wide = fits-length c.args.self.now.schema.columns c.args.entries.now c.requires.fits in
     omega (arith, wide, ap length c.deref.ensures.value, limits_long i.schema.value.columns i.limits.items c.self.invariant.0.limits_are, ap (λ b. length b.schema.columns) c.self.view_is)
 
-pub write_entries-requires-clause-place : goal.write_entries-requires-clause-place
-write_entries-requires-clause-place c =
+pub write_entries-requires-clause-slot : goal.write_entries-requires-clause-slot
+write_entries-requires-clause-slot c =
     let i = c.self.inside in
-    let rows = length-placed_rows (length i.schema.value.columns) i.row_feeders.items (placed_entry i.limits.items i.numbers.items i.not_null.items) in
+    let rows = length-rows_of_cells (length i.schema.value.columns) i.row_feeders.items (cell_entry i.limits.items i.numbers.items i.not_null.items) in
     omega (arith, c.len-at.ensures, rows, ap (λ b. length b.rows) c.self.view_is, c.requires.room)
 
 pub write_entries-requires-clause-range : goal.write_entries-requires-clause-range
@@ -31,7 +31,7 @@ write_entries-requires-clause-range c =
 pub push_reserved-requires : goal.push_reserved-requires
 push_reserved-requires c =
     let i = c.self.inside in
-    let rows = length-placed_rows (length i.schema.value.columns) i.row_feeders.items (placed_entry i.limits.items i.numbers.items i.not_null.items) in
+    let rows = length-rows_of_cells (length i.schema.value.columns) i.row_feeders.items (cell_entry i.limits.items i.numbers.items i.not_null.items) in
     omega (arith, rows, ap (λ b. length b.rows) c.self.view_is, c.requires.room, c.self.invariant.1)
 
 pub invariant_of-self : goal.invariant_of-self
@@ -45,7 +45,7 @@ invariant_of-self c =
     λ k r same. same_before c.deref_mut.result.now i.numbers.items c.deref_mut-2.result.now i.not_null.items c.write_entries.new.numbers c.write_entries.new.not_null k r c.deref_mut.ensures.value c.deref_mut-2.ensures.value same in
     let numbers = written_back i.numbers.len c.write_entries.new.numbers (drop (length c.write_entries.new.numbers) i.numbers.items) (omega (arith, w.long, c.deref_mut.ensures.len)) in
     let words = written_back i.not_null.len c.write_entries.new.not_null (drop (length c.write_entries.new.not_null) i.not_null.items) (omega (arith, w.words, c.deref_mut-2.ensures.len)) in
-    let rows = length-placed_rows (length columns) i.row_feeders.items (placed_entry i.limits.items i.numbers.items i.not_null.items) in
+    let rows = length-rows_of_cells (length columns) i.row_feeders.items (cell_entry i.limits.items i.numbers.items i.not_null.items) in
     let fit = ap (λ b. fits b.schema.columns c.args.entries.now) c.self.view_is ∙ c.requires.fits in
     let room : c.len-at.result < 64 = omega (arith, c.len-at.ensures, rows, ap (λ b. length b.rows) c.self.view_is, c.requires.room) in
     let fed : c.args.feeder < i.feeders = omega (arith, ap (λ b. b.feeders) c.self.view_is, c.requires.feeder) in (
@@ -53,7 +53,7 @@ invariant_of-self c =
           (block_more columns i.limits.items i.feeders i.row_feeders.items i.numbers.items i.not_null.items c.write_entries.new.numbers c.write_entries.new.not_null s
           c.args.feeder c.len-at.result c.args.entries.now (omega (arith, c.len-at.ensures)) room fed fit (w.long ∙ ap length c.deref_mut.ensures.value) (w.words ∙ ap length c.deref_mut-2.ensures.value)
           (λ k r near apart. cells_before k r (w.other_rows k r near apart))
-          (λ k within. subst (λ (limits : List Limits). IsWritten limits c.write_entries.new.numbers c.write_entries.new.not_null k c.len-at.result (entry_at c.args.entries.now k)) c.deref.ensures.value
+          (λ k within. subst (λ (limits : List Limits). IsWrittenEntry limits c.write_entries.new.numbers c.write_entries.new.not_null k c.len-at.result (entry_at c.args.entries.now k)) c.deref.ensures.value
           (w.written k (omega (arith, within, ap length c.deref.ensures.value, limits_long columns i.limits.items s.limits_are))))),
       omega (arith, c.self.invariant.1, c.push_reserved.ensures.capacity),
     )
@@ -69,15 +69,15 @@ returns c =
     λ k r same. same_before c.deref_mut.result.now i.numbers.items c.deref_mut-2.result.now i.not_null.items c.write_entries.new.numbers c.write_entries.new.not_null k r c.deref_mut.ensures.value c.deref_mut-2.ensures.value same in
     let numbers = written_back i.numbers.len c.write_entries.new.numbers (drop (length c.write_entries.new.numbers) i.numbers.items) (omega (arith, w.long, c.deref_mut.ensures.len)) in
     let words = written_back i.not_null.len c.write_entries.new.not_null (drop (length c.write_entries.new.not_null) i.not_null.items) (omega (arith, w.words, c.deref_mut-2.ensures.len)) in
-    let rows = length-placed_rows (length columns) i.row_feeders.items (placed_entry i.limits.items i.numbers.items i.not_null.items) in
+    let rows = length-rows_of_cells (length columns) i.row_feeders.items (cell_entry i.limits.items i.numbers.items i.not_null.items) in
     let fit = ap (λ b. fits b.schema.columns c.args.entries.now) c.self.view_is ∙ c.requires.fits in
     let room : c.len-at.result < 64 = omega (arith, c.len-at.ensures, rows, ap (λ b. length b.rows) c.self.view_is, c.requires.room) in
     let fed : c.args.feeder < i.feeders = omega (arith, ap (λ b. b.feeders) c.self.view_is, c.requires.feeder) in
     ap (λ xs. record { schema = i.schema.value; feeders = i.feeders; rows = xs })
-    (of_same (λ xs ns ws. placed_rows (length columns) xs (placed_entry i.limits.items ns ws) ≡ placed_rows (length columns) i.row_feeders.items (placed_entry i.limits.items i.numbers.items i.not_null.items) ++ (c.args.feeder, c.args.entries.now) ∷ []) c.push_reserved.ensures.items numbers words
+    (of_same (λ xs ns ws. rows_of_cells (length columns) xs (cell_entry i.limits.items ns ws) ≡ rows_of_cells (length columns) i.row_feeders.items (cell_entry i.limits.items i.numbers.items i.not_null.items) ++ (c.args.feeder, c.args.entries.now) ∷ []) c.push_reserved.ensures.items numbers words
     (rows_more columns i.limits.items i.feeders i.row_feeders.items i.numbers.items i.not_null.items c.write_entries.new.numbers c.write_entries.new.not_null s
     c.args.feeder c.len-at.result c.args.entries.now (omega (arith, c.len-at.ensures)) room fed fit (w.long ∙ ap length c.deref_mut.ensures.value) (w.words ∙ ap length c.deref_mut-2.ensures.value)
     (λ k r near apart. cells_before k r (w.other_rows k r near apart))
-    (λ k within. subst (λ (limits : List Limits). IsWritten limits c.write_entries.new.numbers c.write_entries.new.not_null k c.len-at.result (entry_at c.args.entries.now k)) c.deref.ensures.value
+    (λ k within. subst (λ (limits : List Limits). IsWrittenEntry limits c.write_entries.new.numbers c.write_entries.new.not_null k c.len-at.result (entry_at c.args.entries.now k)) c.deref.ensures.value
     (w.written k (omega (arith, within, ap length c.deref.ensures.value, limits_long columns i.limits.items s.limits_are))))))
     ∙ ap (λ b. with_block_row b c.args.feeder c.args.entries.now) c.self.view_is

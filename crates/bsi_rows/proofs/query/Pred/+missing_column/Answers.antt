@@ -9,8 +9,8 @@ returns-in-Some t c =
     let second = c.in-Both.second.value in
     let parts : columns_of_pred c.args.self.now ≡ columns_of_pred first ++ columns_of_pred second =
     elim c.in-Both.is [ inl e ↦ ap columns_of_pred e | inr e ↦ ap columns_of_pred e ] in
-    let found = ap (λ p. missing_of c.args.columns (columns_of_pred p)) (sym c.deref-in-Both.ensures) ∙ sym c.missing_column-in-Both.ensures ∙ c.in-Some.is in
-    sym (ap (missing_of c.args.columns) parts ∙ missing_first c.args.columns (columns_of_pred first) (columns_of_pred second) c.in-Some.missing found)
+    let selection = ap (λ p. missing_of c.args.columns (columns_of_pred p)) (sym c.deref-in-Both.ensures) ∙ sym c.missing_column-in-Both.ensures ∙ c.in-Some.is in
+    sym (ap (missing_of c.args.columns) parts ∙ missing_first c.args.columns (columns_of_pred first) (columns_of_pred second) c.in-Some.missing selection)
 
 pub returns-in-None : goal.returns-in-None
 returns-in-None t c =

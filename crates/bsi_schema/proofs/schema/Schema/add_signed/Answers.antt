@@ -4,14 +4,14 @@ use Rattle.bsi_schema.proofs.schema.Schema.add_signed.Goals as goal
 pub returns-in_err-form-clause-added : goal.returns-in_err-form-clause-added
 returns-in_err-form-clause-added c = search rules
 
-pub returns-in_err-form-clause-taken : goal.returns-in_err-form-clause-taken
-returns-in_err-form-clause-taken c = search rules
+pub returns-in_err-form-clause-accepted : goal.returns-in_err-form-clause-accepted
+returns-in_err-form-clause-accepted c = search rules
 
 pub returns-in_err-form-clause-refused : goal.returns-in_err-form-clause-refused
 returns-in_err-form-clause-refused c = search rules
 
-pub returns-in_err-form-clause-kept : goal.returns-in_err-form-clause-kept
-returns-in_err-form-clause-kept c = search rules
+pub returns-in_err-form-clause-unchanged : goal.returns-in_err-form-clause-unchanged
+returns-in_err-form-clause-unchanged c = search rules
 
 pub overflow_add-from : goal.overflow_add-from
 overflow_add-from c = search rules
@@ -19,14 +19,14 @@ overflow_add-from c = search rules
 pub returns-then-from-gt-MAX_END-clause-added : goal.returns-then-from-gt-MAX_END-clause-added
 returns-then-from-gt-MAX_END-clause-added c = search rules
 
-pub returns-then-from-gt-MAX_END-clause-taken : goal.returns-then-from-gt-MAX_END-clause-taken
-returns-then-from-gt-MAX_END-clause-taken c = search rules
+pub returns-then-from-gt-MAX_END-clause-accepted : goal.returns-then-from-gt-MAX_END-clause-accepted
+returns-then-from-gt-MAX_END-clause-accepted c = search rules
 
 pub returns-then-from-gt-MAX_END-clause-refused : goal.returns-then-from-gt-MAX_END-clause-refused
 returns-then-from-gt-MAX_END-clause-refused c = search rules
 
-pub returns-then-from-gt-MAX_END-clause-kept : goal.returns-then-from-gt-MAX_END-clause-kept
-returns-then-from-gt-MAX_END-clause-kept c = search rules
+pub returns-then-from-gt-MAX_END-clause-unchanged : goal.returns-then-from-gt-MAX_END-clause-unchanged
+returns-then-from-gt-MAX_END-clause-unchanged c = search rules
 
 pub push-requires-clause-form : goal.push-requires-clause-form
 push-requires-clause-form c = search rules
@@ -40,23 +40,23 @@ push-requires-clause-from_zero c = search rules
 pub returns-in_err-push-clause-added : goal.returns-in_err-push-clause-added
 returns-in_err-push-clause-added c = search rules
 
-pub returns-in_err-push-clause-taken : goal.returns-in_err-push-clause-taken
-returns-in_err-push-clause-taken c = search rules
+pub returns-in_err-push-clause-accepted : goal.returns-in_err-push-clause-accepted
+returns-in_err-push-clause-accepted c = search rules
 
 pub returns-in_err-push-clause-refused : goal.returns-in_err-push-clause-refused
 returns-in_err-push-clause-refused c = search rules
 
-pub returns-in_err-push-clause-kept : goal.returns-in_err-push-clause-kept
-returns-in_err-push-clause-kept c = search rules
+pub returns-in_err-push-clause-unchanged : goal.returns-in_err-push-clause-unchanged
+returns-in_err-push-clause-unchanged c = search rules
 
 pub returns-clause-added : goal.returns-clause-added
 returns-clause-added c = search rules
 
-pub returns-clause-taken : goal.returns-clause-taken
-returns-clause-taken c = search rules
+pub returns-clause-accepted : goal.returns-clause-accepted
+returns-clause-accepted c = search rules
 
 pub returns-clause-refused : goal.returns-clause-refused
 returns-clause-refused c = search rules
 
-pub returns-clause-kept : goal.returns-clause-kept
-returns-clause-kept c = search rules
+pub returns-clause-unchanged : goal.returns-clause-unchanged
+returns-clause-unchanged c = search rules

@@ -3,4 +3,4 @@ use Rattle.bsi_schema.specs.Columns.{IsForm}
 use Rattle.bsi_schema.proofs.schema.Schema.form.Goals as goal
 
 pub returns-clause-valid : goal.returns-clause-valid
-returns-clause-valid c = subst IsForm (sym c.kind.ensures.form) c.kind.ensures.valid.form
+returns-clause-valid c = subst IsForm (sym c.layout.ensures.form) c.layout.ensures.valid.form

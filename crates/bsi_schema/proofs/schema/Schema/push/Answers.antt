@@ -14,8 +14,8 @@ pub invariant_of-self-2 : goal.invariant_of-self-2
 invariant_of-self-2 c =
     let before = c.self.inside.columns in
     let fresh = ap (λ s. position_of s.columns c.args.name.now) c.self.view_is ∙ c.requires.fresh in
-    let columns = ap (λ es. map named es) c.in_ok-insert.ensures.entries ∙ named-insert before c.in_ok-key.key c.args.kind c.args.name.now c.in_ok-key.ensures.ok fresh in
-    let column : NamedColumn = record { name = c.args.name.now; form = c.args.kind.form; offset = c.args.kind.offset } in
+    let columns = ap (λ es. map named es) c.in_ok-insert.ensures.entries ∙ named-insert before c.in_ok-key.key c.args.layout c.args.name.now c.in_ok-key.ensures.ok fresh in
+    let column : NamedColumn = record { name = c.args.name.now; form = c.args.layout.form; offset = c.args.layout.offset } in
     let valid : IsColumn column = record { form = c.requires.form; low = omega (arith, ints, ap (λ l. l.least) c.of-limits.ensures, c.of-limits.type_inv.1.1.0.1); below = c.requires.below } in
     let listed : IsSchema (map named before.entries ++ column ∷ []) = record {
       few = omega (arith, length-append {A = NamedColumn}, c.requires.few, ap (λ s. length s.columns) c.self.view_is);
@@ -43,6 +43,6 @@ pub returns-clause-ok : goal.returns-clause-ok
 returns-clause-ok c =
     let before = c.self.inside.columns in
     let fresh = ap (λ s. position_of s.columns c.args.name.now) c.self.view_is ∙ c.requires.fresh in
-    let columns = ap (λ es. map named es) c.in_ok-insert.ensures.entries ∙ named-insert before c.in_ok-key.key c.args.kind c.args.name.now c.in_ok-key.ensures.ok fresh in
+    let columns = ap (λ es. map named es) c.in_ok-insert.ensures.entries ∙ named-insert before c.in_ok-key.key c.args.layout c.args.name.now c.in_ok-key.ensures.ok fresh in
     ap (λ cs. record { columns = cs; signed = c.self.inside.signed || c.args.signed }) columns
-    ∙ ap (λ s. with_column s (record { name = c.args.name.now; form = c.args.kind.form; offset = c.args.kind.offset }) c.args.signed) c.self.view_is
+    ∙ ap (λ s. with_column s (record { name = c.args.name.now; form = c.args.layout.form; offset = c.args.layout.offset }) c.args.signed) c.self.view_is

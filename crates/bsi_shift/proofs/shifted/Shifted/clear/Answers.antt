@@ -1,5 +1,5 @@
 use Rattle.std.proofs.Common.{length, ap, ◌∙◌, arith}
-use Rattle.bsi_columns.specs.AnyRows.{any_entries, any_room}
+use Rattle.bsi_columns.specs.AnyColumns.{any_entries, any_room}
 use Rattle.bsi_shift.proofs.Shifting.{entries_from, length-shifted_entries, shifted_entries-is}
 use Rattle.bsi_shift.proofs.shifted.Shifted.clear.Goals as goal
 

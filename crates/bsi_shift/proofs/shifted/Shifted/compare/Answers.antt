@@ -2,11 +2,11 @@ use Rattle.std.proofs.Common.{◌≡◌, ℕ, ◌<◌, map, ap, ap₂, sym, ◌�
 use mir.Syntax.{w64, w128}
 use Rattle.std.proofs.lemmas.Int.{to_z-of_z}
 use Rattle.std.proofs.lemmas.Result.{IfOk-weaker}
-use Rattle.bsi_columns.specs.AnyRows.{any_entries}
-use Rattle.bsi_orders.specs.Offsets.{number_of}
-use Rattle.bsi_orders.specs.Orders.{compares_by}
-use Rattle.bsi_orders.specs.Rows.{number_order, selects}
-use Rattle.bsi_orders.specs.WholeNumbers.{signed_order, signed_selects}
+use Rattle.bsi_columns.specs.AnyColumns.{any_entries}
+use Rattle.bsi_digits.specs.Offsets.{number_of}
+use Rattle.bsi_digits.specs.Orders.{compares_by}
+use Rattle.bsi_digits.specs.Comparisons.{number_order, selects}
+use Rattle.bsi_digits.specs.WholeNumbers.{signed_order, signed_selects}
 use Rattle.bsi_shift.specs.Shifted.{shifted_entries}
 use Rattle.bsi_shift.proofs.Shifting.{entries_from, shifted_entries-is, selected_from}
 use Rattle.bsi_shift.proofs.shifted.Shifted.compare.Goals as goal

@@ -1,7 +1,7 @@
 use Rattle.std.proofs.Common.{ap, sym, ◌∙◌, rules}
 use mir.Syntax.{w64}
 use Rattle.std.proofs.lemmas.Int.{to_z-of_z}
-use Rattle.bsi_columns.specs.AnyRows.{any_entries}
+use Rattle.bsi_columns.specs.AnyColumns.{any_entries}
 use Rattle.bsi_shift.proofs.Shifting.{entries_from, shifted_entries-is}
 use Rattle.bsi_shift.proofs.shifted.Shifted.copy.Goals as goal
 

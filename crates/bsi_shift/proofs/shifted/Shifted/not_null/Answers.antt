@@ -1,5 +1,5 @@
 use Rattle.std.proofs.Common.{map, is_some, ap, sym, ◌∙◌}
-use Rattle.bsi_columns.specs.AnyRows.{any_entries}
+use Rattle.bsi_columns.specs.AnyColumns.{any_entries}
 use Rattle.bsi_shift.proofs.Shifting.{shifted_entries-is, not_null_from}
 use Rattle.bsi_shift.proofs.shifted.Shifted.not_null.Goals as goal
 

@@ -1,5 +1,5 @@
 use Rattle.std.proofs.Common.{length, map, is_none, ap, sym, ◌∙◌}
-use Rattle.bsi_columns.specs.AnyRows.{any_entries}
+use Rattle.bsi_columns.specs.AnyColumns.{any_entries}
 use Rattle.bsi_shift.proofs.Shifting.{length-shifted_entries, shifted_entries-is, nulls_from}
 use Rattle.bsi_shift.proofs.shifted.Shifted.nulls_into.Goals as goal
 

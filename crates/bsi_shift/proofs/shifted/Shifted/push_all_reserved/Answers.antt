@@ -1,8 +1,8 @@
 use Rattle.std.proofs.Common.{◌++◌, length, ap, ap₂, sym, ◌∙◌, arith}
 use Rattle.std.specs.Option.{option_map}
 use Rattle.std.proofs.lemmas.List.{map-append}
-use Rattle.bsi_orders.specs.Offsets.{number_of}
-use Rattle.bsi_columns.specs.AnyRows.{any_entries, any_room}
+use Rattle.bsi_digits.specs.Offsets.{number_of}
+use Rattle.bsi_columns.specs.AnyColumns.{any_entries, any_room}
 use Rattle.bsi_shift.proofs.Shifting.{entries_from, length-shifted_entries, shifted_entries-is}
 use Rattle.bsi_shift.proofs.shifted.Shifted.push_all_reserved.Goals as goal
 

@@ -3,9 +3,9 @@ use mir.Syntax.{w64}
 use mir.Val.{of_z, to_z}
 use Rattle.std.proofs.lemmas.Int.{to_z-of_z}
 use Rattle.bsi_digits.specs.Digits.{max_size}
-use Rattle.bsi_orders.specs.Blocks.{offset_entries}
-use Rattle.bsi_orders.specs.Offsets.{IsInRange}
-use Rattle.bsi_columns.specs.AnyRows.{any_size}
+use Rattle.bsi_digits.specs.Blocks.{offset_entries}
+use Rattle.bsi_digits.specs.Offsets.{IsInRange}
+use Rattle.bsi_columns.specs.AnyColumns.{any_size}
 use Rattle.bsi_shift.specs.Shifted.{shifted_entries}
 use Rattle.bsi_shift.proofs.Shifting.{block_below, entries_more, shifted_more, wider_range}
 use Rattle.bsi_shift.proofs.shifted.Shifted.push_block_reserved.Goals as goal

@@ -2,8 +2,8 @@ use Rattle.std.proofs.Common.{ap, sym, ◌∙◌, ◌++◌, ◌∷◌, [], rules
 use mir.Syntax.{w64}
 use Rattle.std.specs.Option.{option_map}
 use Rattle.std.proofs.lemmas.Int.{to_z-of_z}
-use Rattle.bsi_orders.specs.Offsets.{number_of}
-use Rattle.bsi_columns.specs.AnyRows.{any_entries}
+use Rattle.bsi_digits.specs.Offsets.{number_of}
+use Rattle.bsi_columns.specs.AnyColumns.{any_entries}
 use Rattle.bsi_shift.proofs.Shifting.{entries_from, entries_from-push, shifted_entries-is}
 use Rattle.bsi_shift.proofs.shifted.Shifted.push_reserved.Goals as goal
 

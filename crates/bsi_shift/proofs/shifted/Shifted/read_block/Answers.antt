@@ -2,10 +2,10 @@ use Rattle.std.proofs.Common.{◌≡◌, ◌+◌, ◌*◌, ◌<◌, ◌^◌, pos
 use mir.Syntax.{w64}
 use Rattle.std.proofs.lemmas.Int.{to_z-of_z}
 use Rattle.std.proofs.lemmas.List.{length-map}
-use Rattle.bsi_orders.specs.Offsets.{number_of}
-use Rattle.bsi_columns.specs.AnyRows.{any_entries}
+use Rattle.bsi_digits.specs.Offsets.{number_of}
+use Rattle.bsi_columns.specs.AnyColumns.{any_entries}
 use Rattle.bsi_shift.specs.Shifted.{shifted_entries}
-use Rattle.bsi_shift.proofs.Relating.{entry_read}
+use Rattle.bsi_shift.proofs.ColumnComparisons.{entry_read}
 use Rattle.bsi_shift.proofs.Shifting.{entry_from, length-shifted_entries}
 use Rattle.bsi_shift.proofs.shifted.Shifted.read_block.Goals as goal
 

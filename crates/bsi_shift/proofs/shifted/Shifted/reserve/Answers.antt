@@ -1,5 +1,5 @@
 use Rattle.std.proofs.Common.{length, ap, sym, ◌∙◌, subst, ◌≤◌, ◌+◌, ◌^◌}
-use Rattle.bsi_columns.specs.AnyRows.{any_entries}
+use Rattle.bsi_columns.specs.AnyColumns.{any_entries}
 use Rattle.bsi_shift.proofs.Shifting.{shifted_entries-is, length-shifted_entries, entries_from}
 use Rattle.bsi_shift.proofs.shifted.Shifted.reserve.Goals as goal
 

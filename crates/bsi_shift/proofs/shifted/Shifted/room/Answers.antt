@@ -1,5 +1,5 @@
 use Rattle.std.proofs.Common.{length, ap, arith}
-use Rattle.bsi_columns.specs.AnyRows.{any_entries}
+use Rattle.bsi_columns.specs.AnyColumns.{any_entries}
 use Rattle.bsi_shift.proofs.Shifting.{length-shifted_entries}
 use Rattle.bsi_shift.proofs.shifted.Shifted.room.Goals as goal
 

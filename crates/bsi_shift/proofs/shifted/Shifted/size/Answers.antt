@@ -1,7 +1,7 @@
 use Rattle.std.proofs.Common.{sym, subst}
 use Rattle.std.specs.Prelude.{All}
-use Rattle.bsi_orders.specs.Offsets.{IsInRange}
-use Rattle.bsi_columns.specs.AnyRows.{any_entries}
+use Rattle.bsi_digits.specs.Offsets.{IsInRange}
+use Rattle.bsi_columns.specs.AnyColumns.{any_entries}
 use Rattle.bsi_shift.specs.Shifted.{shifted_entries, shifted_size}
 use Rattle.bsi_shift.proofs.Shifting.{entries_from, shifted_entries-is, in_range_from}
 use Rattle.bsi_shift.proofs.shifted.Shifted.size.Goals as goal

@@ -1,5 +1,5 @@
 use Rattle.std.proofs.Common.{◌≡◌, ℕ, ◌<◌, ◌^◌, pos, ◌<ℤ◌, length, get_or}
-use Rattle.bsi_orders.specs.Offsets.{number_of}
+use Rattle.bsi_digits.specs.Offsets.{number_of}
 use Rattle.bsi_shift.proofs.shifted.blocks.add_offset.Given as goal
 
 -- the numbers of the first r rows are written

@@ -4,7 +4,7 @@ use lib.Signed.{lt_z}
 use Rattle.std.specs.Int.{FitsUnsigned, saturate_signed}
 use Rattle.std.specs.Prelude.{◌-ℤ◌, OkIff, unsigned_abs}
 use Rattle.std.proofs.lemmas.Int.{to_z-of_z}
-use Rattle.bsi_orders.specs.Offsets.{number_of}
+use Rattle.bsi_digits.specs.Offsets.{number_of}
 use Rattle.bsi_shift.proofs.Comparing.{before, compared_after}
 use Rattle.bsi_shift.proofs.shifted.compare.stored_comparison.Goals as goal
 

@@ -6,5 +6,5 @@ use Rattle.bsi_slices.proofs.column.Column.count_numbers.Goals as goal
 
 pub returns : goal.returns
 returns g c =
-    let found = c.args.found.now.bits in
-    c.count_and.ensures ∙ ap (λ not_null. count_by (λ b. b) (zip2 ◌&&◌ found not_null)) c.not_null.ensures ∙ count_numbers found (g.Self.Column.entries c.args.self.now)
+    let selection = c.args.selection.now.bits in
+    c.count_and.ensures ∙ ap (λ not_null. count_by (λ b. b) (zip2 ◌&&◌ selection not_null)) c.not_null.ensures ∙ count_numbers selection (g.Self.Column.entries c.args.self.now)

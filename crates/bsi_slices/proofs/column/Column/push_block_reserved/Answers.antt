@@ -1,8 +1,8 @@
 use Rattle.std.proofs.Common.{◌++◌, ◌∷◌, [], take, ap, sym, ◌∙◌, arith}
 use Rattle.std.proofs.lemmas.List.{append_assoc, take_all}
-use Rattle.bsi_orders.specs.Blocks.{block_entries}
-use Rattle.bsi_orders.proofs.BlockEntries.{length-block_entries}
-use Rattle.bsi_slices.proofs.BlockWords.{taken_more}
+use Rattle.bsi_digits.specs.Blocks.{block_entries}
+use Rattle.bsi_digits.proofs.BlockEntries.{length-block_entries}
+use Rattle.bsi_slices.proofs.BlockWords.{prefix_more}
 use Rattle.bsi_slices.proofs.column.Column.push_block_reserved.Goals as goal
 
 pub entries-preserved : goal.entries-preserved
@@ -15,7 +15,7 @@ entries-preserved g c =
           ∙ ap (λ es. es ++ entry) c.entries.invariant.entries
           ∙ append_assoc before (take c.entries.r block) entry
           ∙ ap (λ es. before ++ (take c.entries.r block ++ es)) (ap (λ e. e ∷ []) c.then_some.ensures)
-          ∙ ap (λ es. before ++ es) (sym (taken_more c.args.numbers.now c.args.not_null c.entries.r (omega (arith, c.entries-test.true))));
+          ∙ ap (λ es. before ++ es) (sym (prefix_more c.args.numbers.now c.args.not_null c.entries.r (omega (arith, c.entries-test.true))));
       form = c.push_reserved.ensures.form ∙ c.entries.invariant.form;
       room = omega (arith, c.push_reserved.ensures.room, c.entries.invariant.room);
     }

@@ -1,6 +1,6 @@
 use Rattle.std.proofs.Common.{◌≡◌, ◌+◌, ◌≤◌, ◌++◌}
 use Rattle.std.specs.Prelude.{take}
-use Rattle.bsi_orders.specs.Blocks.{block_entries}
+use Rattle.bsi_digits.specs.Blocks.{block_entries}
 use Rattle.bsi_slices.proofs.column.Column.push_block_reserved.Given as goal
 
 abbrev pub invariant-entries : goal.invariant-entries

@@ -2,8 +2,8 @@ use Rattle.std.proofs.Common.{◌≡◌, ℕ, List, Option, map, ap, ap₂, sym,
 use Rattle.std.specs.Prelude.{◌==◌, is_some}
 use Rattle.std.specs.Int.{bit_at}
 use Rattle.bsi_bits.specs.BitList.{BitList}
-use Rattle.bsi_orders.specs.Rows.{number_or_zero}
-use Rattle.bsi_words.specs.Nulls.{AreClearAtNulls}
+use Rattle.bsi_digits.specs.Comparisons.{number_or_zero}
+use Rattle.bsi_kernels.specs.Nulls.{AreClearAtNulls}
 use Rattle.bsi_slices.specs.Slices.{entries_in, IsSliced}
 use Rattle.bsi_slices.proofs.FromPlaces.{number_clear}
 use Rattle.bsi_slices.proofs.SliceEntries.{not_null_of, slice_of}

@@ -2,7 +2,7 @@ use Rattle.std.proofs.Common.{◌≡◌, ◌+◌, ◌*◌, ◌<◌, None, get_or
 use Rattle.bsi_bits.specs.BitList.{word_count, BitList}
 use Rattle.bsi_bits.specs.BitLists.{bits_at}
 use Rattle.std.specs.Prelude.{List}
-use Rattle.bsi_orders.specs.Rows.{number_or_zero}
+use Rattle.bsi_digits.specs.Comparisons.{number_or_zero}
 use Rattle.bsi_slices.specs.Slices.{number}
 use Rattle.bsi_slices.proofs.BlockNumbers.{entry_number}
 use Rattle.bsi_slices.proofs.SliceEntries.{length-entries_in}

@@ -1,7 +1,7 @@
 use Rattle.std.proofs.Common.{◌<◌, length, get_or, map, ◌∙◌, ap, arith}
 use Rattle.std.specs.Prelude.{◌==◌}
 use Rattle.std.specs.Int.{bit_at}
-use Rattle.bsi_orders.specs.Rows.{number_or_zero}
+use Rattle.bsi_digits.specs.Comparisons.{number_or_zero}
 use Rattle.bsi_slices.proofs.SliceEntries.{slice_of, slice_read}
 use Rattle.bsi_slices.proofs.slices.Slices.slice.Goals as goal
 

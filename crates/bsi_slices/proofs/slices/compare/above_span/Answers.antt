@@ -3,7 +3,7 @@ use Rattle.std.proofs.lemmas.List.{length-replicate}
 use Rattle.bsi_bits.proofs.Reading.{none_set}
 use Rattle.bsi_bits.specs.BitLists.{bits_at}
 use Rattle.bsi_bits.specs.Packed.{bit_of}
-use Rattle.bsi_words.proofs.BitmapReads.{read_bitmap}
+use Rattle.bsi_kernels.proofs.BitmapReads.{read_bitmap}
 use Rattle.bsi_slices.proofs.WordSpans.{replicate_bit}
 use Rattle.bsi_slices.proofs.SliceNumbers.{above_none, above_all}
 use Rattle.bsi_slices.proofs.SliceSpans.{above_step, above_long}
@@ -24,8 +24,8 @@ slices-preserved g c =
     let places : (i : ℕ) → bit_of c.words_of-words.result.now i ≡ get_or (bits_at c.args.slices.now c.slices.place) i false =
     λ i. c.words_of-words.ensures.places i ∙ ap (λ bits. get_or bits i false) (sym slice) in
     record {
-      long = above_long c.args.slices.now c.args.constant c.args.at g.row.N c.slices.place c.words_of-words.result.now c.slices-test.true enough places c.slices.above c.slices.invariant.long c.stepped-above.result c.stepped-above.ensures;
-      bits = above_step c.args.slices.now c.args.constant c.args.at g.row.N c.slices.place c.words_of-words.result.now c.slices-test.true enough places c.slices.above c.slices.invariant.long c.slices.invariant.bits c.stepped-above.result c.stepped-above.ensures;
+      long = above_long c.args.slices.now c.args.constant c.args.at g.row.N c.slices.place c.words_of-words.result.now c.slices-test.true enough places c.slices.above c.slices.invariant.long c.step_above-above.result c.step_above-above.ensures;
+      bits = above_step c.args.slices.now c.args.constant c.args.at g.row.N c.slices.place c.words_of-words.result.now c.slices-test.true enough places c.slices.above c.slices.invariant.long c.slices.invariant.bits c.step_above-above.result c.step_above-above.ensures;
     }
 
 -- by all places

@@ -3,7 +3,7 @@ use Rattle.std.proofs.lemmas.List.{length-replicate}
 use Rattle.bsi_bits.proofs.Reading.{all_set}
 use Rattle.bsi_bits.specs.BitLists.{bits_at}
 use Rattle.bsi_bits.specs.Packed.{bit_of}
-use Rattle.bsi_words.proofs.BitmapReads.{read_bitmap}
+use Rattle.bsi_kernels.proofs.BitmapReads.{read_bitmap}
 use Rattle.bsi_slices.proofs.WordSpans.{replicate_bit}
 use Rattle.bsi_slices.proofs.SliceNumbers.{equal_none, equal_all}
 use Rattle.bsi_slices.proofs.SliceSpans.{equal_step, equal_long}
@@ -24,8 +24,8 @@ slices-preserved g c =
     let places : (i : ℕ) → bit_of c.words_of-words.result.now i ≡ get_or (bits_at c.args.slices.now c.slices.place) i false =
     λ i. c.words_of-words.ensures.places i ∙ ap (λ bits. get_or bits i false) (sym slice) in
     record {
-      long = equal_long c.args.slices.now c.args.constant c.args.at g.row.N c.slices.place c.words_of-words.result.now c.slices-test.true enough places c.slices.found c.slices.invariant.long c.cut-found.result c.cut-found.ensures;
-      bits = equal_step c.args.slices.now c.args.constant c.args.at g.row.N c.slices.place c.words_of-words.result.now c.slices-test.true enough places c.words_of-words.ensures.fits c.slices.found c.slices.invariant.long c.slices.invariant.bits c.cut-found.result c.cut-found.ensures;
+      long = equal_long c.args.slices.now c.args.constant c.args.at g.row.N c.slices.place c.words_of-words.result.now c.slices-test.true enough places c.slices.equal c.slices.invariant.long c.and_maybe_not-equal.result c.and_maybe_not-equal.ensures;
+      bits = equal_step c.args.slices.now c.args.constant c.args.at g.row.N c.slices.place c.words_of-words.result.now c.slices-test.true enough places c.words_of-words.ensures.fits c.slices.equal c.slices.invariant.long c.slices.invariant.bits c.and_maybe_not-equal.result c.and_maybe_not-equal.ensures;
     }
 
 -- by all places

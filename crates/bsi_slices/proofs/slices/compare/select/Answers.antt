@@ -3,7 +3,7 @@ use Rattle.std.proofs.lemmas.Nat.{one_shl}
 use Rattle.std.proofs.lemmas.Result.{IfOk-weaker}
 use Rattle.bsi_bits.specs.Packed.{bit_of, bits_of}
 use Rattle.bsi_bits.proofs.Logic.{written}
-use Rattle.bsi_orders.specs.Rows.{selects}
+use Rattle.bsi_digits.specs.Comparisons.{selects}
 use Rattle.bsi_slices.specs.Slices.{entries_in}
 use Rattle.bsi_slices.proofs.SliceSelections.{selected_none, selected_all, selected_tested}
 use Rattle.bsi_slices.proofs.slices.compare.select.Goals as goal
@@ -33,12 +33,12 @@ returns-in_ok-copy-in-Tested c =
     let size_is : 1 * 2 ^ length c.args.slices.now % 2 ^ 64 ≡ 2 ^ length c.args.slices.now = one_shl (length c.args.slices.now) 64 few in
     let old_is = c.deref_mut.ensures.value in
     let copied = c.in_ok-copy-in-Tested.ensures in
-    let stored : take c.into_words-words.result.len (c.keep.new.words ++ drop (length c.keep.new.words) c.into_words-words.result.items) ≡ c.keep.new.words =
-    written c.into_words-words.result.len c.keep.new.words c.into_words-words.result.items (omega arith) (omega arith) in
+    let stored : take c.into_words-words.result.len (c.and_test.new.words ++ drop (length c.and_test.new.words) c.into_words-words.result.items) ≡ c.and_test.new.words =
+    written c.into_words-words.result.len c.and_test.new.words c.into_words-words.result.items (omega arith) (omega arith) in
     selected_tested c.args.not_null.now.bits c.args.slices.now c.args.op c.args.constant (1 * 2 ^ length c.args.slices.now % 2 ^ 64) size_is c.decide.result c.decide.ensures.decided
     c.in-Tested.test c.in-Tested.is
-    c.from_words.result.bits c.deref_mut.result.now c.keep.new.words c.len-in-Tested.result c.len-in-Tested.ensures.len
+    c.from_words.result.bits c.deref_mut.result.now c.and_test.new.words c.len-in-Tested.result c.len-in-Tested.ensures.len
     (ap length old_is ∙ c.into_words-words.ensures.few ∙ ap (λ b. (length b + 63) / 64) copied)
     (λ r. ap (λ ws. bit_of ws r) old_is ∙ c.into_words-words.ensures.places r ∙ ap (λ b. get_or b r false) copied)
-    c.keep.ensures
+    c.and_test.ensures
     (c.from_words.ensures ∙ ap (bits_of c.len-in-Tested.result) stored)

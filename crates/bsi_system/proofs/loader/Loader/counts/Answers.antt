@@ -1,7 +1,7 @@
 use Rattle.std.proofs.Common.{subst}
 use Rattle.bsi_system.specs.Running.{AlwaysHolds}
-use Rattle.bsi_system.proofs.Takings.{always_holds}
+use Rattle.bsi_system.proofs.Progress.{always_holds}
 use Rattle.bsi_system.proofs.loader.Loader.counts.Goals as goal
 
 pub returns-clause-always : goal.returns-clause-always
-returns-clause-always g c = subst AlwaysHolds c.self.view_is (always_holds c.self.inside.channels.items c.self.inside.publisher c.self.invariant)
+returns-clause-always g c = subst AlwaysHolds c.self.view_is (always_holds c.self.inside.readers.items c.self.inside.publisher c.self.invariant)

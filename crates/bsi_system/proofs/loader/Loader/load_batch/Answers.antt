@@ -1,70 +1,70 @@
 use Rattle.std.proofs.Common.{◌≡◌, ap, rules, subst, sym, ◌∙◌}
-use Rattle.bsi_system.specs.Channels.{HoldsFirst}
-use Rattle.bsi_system.specs.Running.{loading, IsLoader, Loading, LoadsMany}
+use Rattle.bsi_system.specs.Readers.{StagesFirst}
+use Rattle.bsi_system.specs.Running.{loader_state, IsLoader, LoaderState, LoadsMany}
 use Rattle.bsi_system.proofs.Mapped.{mapped_ok}
-use Rattle.bsi_system.proofs.Takings.{always_holds, looks_loading, same_loader, takes_loader, takes_many}
+use Rattle.bsi_system.proofs.Progress.{always_holds, looks_loading, pops_loader, pops_many, same_loader}
 use Rattle.bsi_system.proofs.loader.Loader.load_batch.Goals as goal
 
 pub invariant_of-self-2 : goal.invariant_of-self-2
 invariant_of-self-2 g c =
     let l = c.self.inside in
     let f = c.args.feeder in
-    let intakes = c.find_first.new.channels.items in
-    let next = c.hold_next.new.publisher in
+    let readers = c.check_first.new.readers.items in
+    let next = c.stage_next.new.publisher in
     let many = c.in_ok-rows.rows in
-    let holds = mapped_ok (λ many. HoldsFirst intakes f l.publisher many next) _ c.hold_next.result c.map_err.result many c.map_err.ensures.cases c.hold_next.ensures.ok c.in_ok-rows.was in
-    takes_loader intakes l.publisher f many c.take_of.new.channels.items next c.take_of.ensures holds
-    (same_loader l.channels.items l.publisher c.self.invariant f intakes c.in_ok-find_first.ensures.same)
+    let holds = mapped_ok (λ many. StagesFirst readers f l.publisher many next) _ c.stage_next.result c.map_err.result many c.map_err.ensures.cases c.stage_next.ensures.ok c.in_ok-rows.was in
+    pops_loader readers l.publisher f many c.pop_rows_of.new.readers.items next c.pop_rows_of.ensures holds
+    (same_loader l.readers.items l.publisher c.self.invariant f readers c.in_ok-check_first.ensures.same)
 
 pub returns-clause-loaded : goal.returns-clause-loaded
 returns-clause-loaded g c =
     let l = c.self.inside in
     let f = c.args.feeder in
-    let intakes = c.find_first.new.channels.items in
-    let new = c.take_of.new.channels.items in
-    let next = c.hold_next.new.publisher in
+    let readers = c.check_first.new.readers.items in
+    let new = c.pop_rows_of.new.readers.items in
+    let next = c.stage_next.new.publisher in
     let many = c.in_ok-rows.rows in
-    let same = c.in_ok-find_first.ensures.same in
-    let holds = mapped_ok (λ many. HoldsFirst intakes f l.publisher many next) _ c.hold_next.result c.map_err.result many c.map_err.ensures.cases c.hold_next.ensures.ok c.in_ok-rows.was in
-    subst (λ s. LoadsMany s f many (loading new next)) c.self.view_is
-    (takes_many intakes l.publisher f many new next c.take_of.ensures holds (loading l.channels.items l.publisher)
-    (same_loader l.channels.items l.publisher c.self.invariant f intakes same) (looks_loading l.channels.items l.publisher c.self.invariant f intakes same))
+    let same = c.in_ok-check_first.ensures.same in
+    let holds = mapped_ok (λ many. StagesFirst readers f l.publisher many next) _ c.stage_next.result c.map_err.result many c.map_err.ensures.cases c.stage_next.ensures.ok c.in_ok-rows.was in
+    subst (λ s. LoadsMany s f many (loader_state new next)) c.self.view_is
+    (pops_many readers l.publisher f many new next c.pop_rows_of.ensures holds (loader_state l.readers.items l.publisher)
+    (same_loader l.readers.items l.publisher c.self.invariant f readers same) (looks_loading l.readers.items l.publisher c.self.invariant f readers same))
 
-pub returns-in_err-find_first-clause-always : goal.returns-in_err-find_first-clause-always
-returns-in_err-find_first-clause-always g c =
+pub returns-in_err-check_first-clause-always : goal.returns-in_err-check_first-clause-always
+returns-in_err-check_first-clause-always g c =
     let l = c.self.inside in
-    let intakes = c.find_first.new.channels.items in
-    always_holds intakes l.publisher (same_loader l.channels.items l.publisher c.self.invariant c.args.feeder intakes c.in_err-find_first.ensures.same)
+    let readers = c.check_first.new.readers.items in
+    always_holds readers l.publisher (same_loader l.readers.items l.publisher c.self.invariant c.args.feeder readers c.in_err-check_first.ensures.same)
 
 pub returns-in_err-rows-clause-always : goal.returns-in_err-rows-clause-always
 returns-in_err-rows-clause-always g c =
     let l = c.self.inside in
-    let intakes = c.find_first.new.channels.items in
-    let next = c.hold_next.new.publisher in
+    let readers = c.check_first.new.readers.items in
+    let next = c.stage_next.new.publisher in
     let same : next ≡ l.publisher = search rules in
-    always_holds intakes next (subst (IsLoader intakes) (sym same) (same_loader l.channels.items l.publisher c.self.invariant c.args.feeder intakes c.in_ok-find_first.ensures.same))
+    always_holds readers next (subst (IsLoader readers) (sym same) (same_loader l.readers.items l.publisher c.self.invariant c.args.feeder readers c.in_ok-check_first.ensures.same))
 
 pub returns-clause-always : goal.returns-clause-always
 returns-clause-always g c =
     let l = c.self.inside in
     let f = c.args.feeder in
-    let intakes = c.find_first.new.channels.items in
-    let next = c.hold_next.new.publisher in
+    let readers = c.check_first.new.readers.items in
+    let next = c.stage_next.new.publisher in
     let many = c.in_ok-rows.rows in
-    let holds = mapped_ok (λ many. HoldsFirst intakes f l.publisher many next) _ c.hold_next.result c.map_err.result many c.map_err.ensures.cases c.hold_next.ensures.ok c.in_ok-rows.was in
-    always_holds c.take_of.new.channels.items next (takes_loader intakes l.publisher f many c.take_of.new.channels.items next c.take_of.ensures holds
-    (same_loader l.channels.items l.publisher c.self.invariant f intakes c.in_ok-find_first.ensures.same))
+    let holds = mapped_ok (λ many. StagesFirst readers f l.publisher many next) _ c.stage_next.result c.map_err.result many c.map_err.ensures.cases c.stage_next.ensures.ok c.in_ok-rows.was in
+    always_holds c.pop_rows_of.new.readers.items next (pops_loader readers l.publisher f many c.pop_rows_of.new.readers.items next c.pop_rows_of.ensures holds
+    (same_loader l.readers.items l.publisher c.self.invariant f readers c.in_ok-check_first.ensures.same))
 
 pub returns-clause-system : goal.returns-clause-system
 returns-clause-system g c =
     let l = c.self.inside in
     let f = c.args.feeder in
-    let intakes = c.find_first.new.channels.items in
-    let new = c.take_of.new.channels.items in
-    let next = c.hold_next.new.publisher in
+    let readers = c.check_first.new.readers.items in
+    let new = c.pop_rows_of.new.readers.items in
+    let next = c.stage_next.new.publisher in
     let many = c.in_ok-rows.rows in
-    let same = c.in_ok-find_first.ensures.same in
-    let holds = mapped_ok (λ many. HoldsFirst intakes f l.publisher many next) _ c.hold_next.result c.map_err.result many c.map_err.ensures.cases c.hold_next.ensures.ok c.in_ok-rows.was in
-    let loads = takes_many intakes l.publisher f many new next c.take_of.ensures holds (loading l.channels.items l.publisher)
-    (same_loader l.channels.items l.publisher c.self.invariant f intakes same) (looks_loading l.channels.items l.publisher c.self.invariant f intakes same) in
-    ap (λ (s : Loading). s.system) loads.loads ∙ ap (λ (s : Loading). s.system) c.self.view_is
+    let same = c.in_ok-check_first.ensures.same in
+    let holds = mapped_ok (λ many. StagesFirst readers f l.publisher many next) _ c.stage_next.result c.map_err.result many c.map_err.ensures.cases c.stage_next.ensures.ok c.in_ok-rows.was in
+    let loads = pops_many readers l.publisher f many new next c.pop_rows_of.ensures holds (loader_state l.readers.items l.publisher)
+    (same_loader l.readers.items l.publisher c.self.invariant f readers same) (looks_loading l.readers.items l.publisher c.self.invariant f readers same) in
+    ap (λ (s : LoaderState). s.system) loads.loads ∙ ap (λ (s : LoaderState). s.system) c.self.view_is

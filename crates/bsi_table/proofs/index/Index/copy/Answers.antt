@@ -1,12 +1,12 @@
 use Rattle.std.proofs.Common.{◌<◌, ℕ, List, length, ap, ap₂, sym, subst, arith, ◌∙◌}
 use Rattle.bsi_shift.specs.Shifted.{OffsetColumn}
 use Rattle.bsi_schema.specs.Columns.{Declared}
-use Rattle.bsi_rows.specs.Rows.{FedRow}
+use Rattle.bsi_rows.specs.Rows.{SourcedRow}
 use Rattle.bsi_table.specs.Index.{table_of}
-use Rattle.bsi_table.specs.Kept.{fed_rows, kept_at, IsSameColumn, IsTable}
+use Rattle.bsi_table.specs.Encoded.{sourced_rows, encoded_at, IsSameColumn, IsTable}
 use Rattle.bsi_rows.specs.Table.{Table}
-use Rattle.bsi_table.proofs.Keeping.{are_kept_same}
-use Rattle.bsi_table.proofs.TableRows.{fed_rows-same}
+use Rattle.bsi_table.proofs.Keeping.{are_encoded_same}
+use Rattle.bsi_table.proofs.TableRows.{sourced_rows-same}
 use Rattle.bsi_table.proofs.index.Index.copy.Goals as goal
 
 pub invariant_of-result : goal.invariant_of-result
@@ -17,10 +17,10 @@ invariant_of-result c =
     let row_feeders = c.in_ok-origins.ensures.rows in
     let feeders = c.in_ok-origins.ensures.feeders in
     let long = c.in_ok-columns.ensures.long ∙ ap length c.deref.ensures.value in
-    let same : (k : ℕ) → k < length old → IsSameColumn (kept_at old k) (kept_at new k) =
-    subst (λ (columns : List OffsetColumn). (k : ℕ) → k < length columns → IsSameColumn (kept_at columns k) (kept_at new k)) c.deref.ensures.value c.in_ok-columns.ensures.same in
+    let same : (k : ℕ) → k < length old → IsSameColumn (encoded_at old k) (encoded_at new k) =
+    subst (λ (columns : List OffsetColumn). (k : ℕ) → k < length columns → IsSameColumn (encoded_at columns k) (encoded_at new k)) c.deref.ensures.value c.in_ok-columns.ensures.same in
     let table : IsTable i.schema.value.columns i.origins.feeders i.limit i.origins.rows new = record {
-      columns_are = are_kept_same i.schema.value.columns old (length i.origins.rows) c.self.invariant.0.columns_are new long same;
+      columns_are = are_encoded_same i.schema.value.columns old (length i.origins.rows) c.self.invariant.0.columns_are new long same;
       some = c.self.invariant.0.some;
       few = c.self.invariant.0.few;
       from = c.self.invariant.0.from;
@@ -43,8 +43,8 @@ returns c =
     let row_feeders = c.in_ok-origins.ensures.rows in
     let feeders = c.in_ok-origins.ensures.feeders in
     let long = c.in_ok-columns.ensures.long ∙ ap length c.deref.ensures.value in
-    let same : (k : ℕ) → k < length old → IsSameColumn (kept_at old k) (kept_at new k) =
-    subst (λ (columns : List OffsetColumn). (k : ℕ) → k < length columns → IsSameColumn (kept_at columns k) (kept_at new k)) c.deref.ensures.value c.in_ok-columns.ensures.same in
-    let rows = ap (λ xs. fed_rows xs new) row_feeders ∙ fed_rows-same i.origins.rows old new long (λ k within. (same k within).entries) in
-    let table : Declared → ℕ → List FedRow → Table = λ schema n rows. record { schema = schema; feeders = n; limit = i.limit; rows = rows } in
-    ap (λ n. table c.in_ok-schema.schema.value n (fed_rows c.in_ok-origins.origins.rows new)) feeders ∙ ap₂ (λ schema rows. table schema i.origins.feeders rows) c.in_ok-schema.ensures rows ∙ ap table_of c.self.view_is
+    let same : (k : ℕ) → k < length old → IsSameColumn (encoded_at old k) (encoded_at new k) =
+    subst (λ (columns : List OffsetColumn). (k : ℕ) → k < length columns → IsSameColumn (encoded_at columns k) (encoded_at new k)) c.deref.ensures.value c.in_ok-columns.ensures.same in
+    let rows = ap (λ xs. sourced_rows xs new) row_feeders ∙ sourced_rows-same i.origins.rows old new long (λ k within. (same k within).entries) in
+    let table : Declared → ℕ → List SourcedRow → Table = λ schema n rows. record { schema = schema; feeders = n; limit = i.limit; rows = rows } in
+    ap (λ n. table c.in_ok-schema.schema.value n (sourced_rows c.in_ok-origins.origins.rows new)) feeders ∙ ap₂ (λ schema rows. table schema i.origins.feeders rows) c.in_ok-schema.ensures rows ∙ ap table_of c.self.view_is

@@ -1,7 +1,7 @@
 use Rattle.std.proofs.Common.{◌-◌, ◌∙◌, arith}
 use Rattle.std.specs.Prelude.{◌==◌}
-use Rattle.bsi_words.specs.Places.{has_place}
-use Rattle.bsi_words.proofs.DigitMaps.{same_tests}
+use Rattle.bsi_kernels.specs.Places.{has_place}
+use Rattle.bsi_kernels.proofs.DigitMaps.{same_tests}
 use Rattle.bsi_components.proofs.component.binary_places.ComponentBinaryPlaces.place_into.Goals as goal
 
 pub returns-then-is_empty : goal.returns-then-is_empty

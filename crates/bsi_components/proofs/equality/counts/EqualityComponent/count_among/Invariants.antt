@@ -4,4 +4,4 @@ use Rattle.bsi_components.specs.Equality.{is_among}
 use Rattle.bsi_components.proofs.equality.counts.EqualityComponent.count_among.Given as goal
 
 abbrev pub invariant-digits : goal.invariant-digits
-invariant-digits l = l.rows ≡ count_where (is_among l.from l.j) l.found.bits l.self.digits
+invariant-digits l = l.rows ≡ count_where (is_among l.from l.j) l.selection.bits l.self.digits

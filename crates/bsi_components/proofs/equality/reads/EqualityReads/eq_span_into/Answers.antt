@@ -1,6 +1,6 @@
 use Rattle.std.proofs.Common.{◌≡◌, ◌+◌, ◌*◌, ◌-◌, ◌^◌, ◌&&◌, length, get_or, replicate, nat_eq, ap, ◌∙◌, arith}
 use Rattle.bsi_bits.specs.Packed.{bit_of}
-use Rattle.bsi_words.proofs.SpanBits.{ones_bit}
+use Rattle.bsi_kernels.proofs.SpanBits.{ones_bit}
 use Rattle.bsi_components.proofs.equality.reads.EqualityReads.eq_span_into.Goals as goal
 
 -- where no bitmap is stored for the digit, of a span of ones the rows are kept that have it

@@ -7,27 +7,27 @@ use Rattle.bsi_components.proofs.equality.reads.EqualityReads.sum_by_bitmaps.Goa
 
 pub digits-init : goal.digits-init
 digits-init c = record {
-  summed = sym (lower_sum_none c.args.found.now.bits c.args.component.now.digits);
+  summed = sym (lower_sum_none c.args.selection.now.bits c.args.component.now.digits);
   few = omega arith;
 }
 
 -- each row that has the digit adds it
 pub digits-preserved : goal.digits-preserved
 digits-preserved c =
-    let found = c.args.found.now.bits in
+    let selection = c.args.selection.now.bits in
     record {
       summed =
-          ap₂ (λ s n. s + c.digits.j * n) c.digits.invariant.summed (c.count_and.ensures ∙ ap (λ bits. count_by (λ b. b) (zip2 ◌&&◌ found bits)) c.bitmap.ensures)
-          ∙ lower_sum_more c.digits.j found c.args.component.now.digits;
+          ap₂ (λ s n. s + c.digits.j * n) c.digits.invariant.summed (c.count_and.ensures ∙ ap (λ bits. count_by (λ b. b) (zip2 ◌&&◌ selection bits)) c.bitmap.ensures)
+          ∙ lower_sum_more c.digits.j selection c.args.component.now.digits;
       few = omega (arith, small_product c.digits.j c.count_and.result (omega arith) c.count_and.type_inv);
     }
 
 -- the digits below the base are all
 pub returns : goal.returns
 returns c =
-    let found = c.args.found.now.bits in
+    let selection = c.args.selection.now.bits in
     let ds = c.args.component.now.digits in
     let base = c.own_base-j-end.result in
     let last : c.digits.j ≡ base = omega arith in
-    c.digits.invariant.summed ∙ ap (λ j. sum_by (λ v. cond (nat_lt v j) v 0) (items_where_true found ds)) last
-    ∙ lower_sum_all base found ds (omega arith) (λ k. let below = c.own_base-j-end.ensures.below k in omega arith)
+    c.digits.invariant.summed ∙ ap (λ j. sum_by (λ v. cond (nat_lt v j) v 0) (items_where_true selection ds)) last
+    ∙ lower_sum_all base selection ds (omega arith) (λ k. let below = c.own_base-j-end.ensures.below k in omega arith)

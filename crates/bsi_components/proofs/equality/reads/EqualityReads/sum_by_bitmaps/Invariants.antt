@@ -5,6 +5,6 @@ use Rattle.bsi_components.proofs.equality.reads.EqualityReads.sum_by_bitmaps.Giv
 
 abbrev pub invariant-digits : goal.invariant-digits
 invariant-digits l = record {
-  summed : l.sum ≡ sum_by (λ v. cond (nat_lt v l.j) v 0) (items_where_true l.found.bits l.component.digits);
+  summed : l.sum ≡ sum_by (λ v. cond (nat_lt v l.j) v 0) (items_where_true l.selection.bits l.component.digits);
   few : l.sum ≤ l.j * (1024 * 2 ^ 64);
 }

@@ -7,19 +7,19 @@ use Rattle.bsi_components.proofs.range.ranks.RangeComponent.find_rank.Goals.{in-
 
 pub likely_digit-requires-clause-few : goal.likely_digit-requires-clause-few
 likely_digit-requires-clause-few c =
-    omega (arith, few_ranks c.args.self.now.base c.args.rank c.args.found.now.bits c.args.self.now.digits c.requires.there, c.len.ensures.len, c.len.ensures.within)
+    omega (arith, few_ranks c.args.self.now.base c.args.rank c.args.selection.now.bits c.args.self.now.digits c.requires.there, c.len.ensures.len, c.len.ensures.within)
 
 -- the digit of the rank is one of all
 pub narrowed-between-requires-clause-holds : goal.narrowed-between-requires-clause-holds
 narrowed-between-requires-clause-holds c =
-    between_all c.args.self.now.base c.args.rank c.args.found.now.bits c.args.self.now.digits c.top.result c.top.ensures.base c.requires.same c.top.ensures.most c.requires.there
+    between_all c.args.self.now.base c.args.rank c.args.selection.now.bits c.args.self.now.digits c.top.result c.top.ensures.base c.requires.same c.top.ensures.most c.requires.there
 
 -- also after the counts near a likely digit
 pub digits-init : goal.digits-init
 digits-init c =
-    let IsHeld : DigitRange → Type 0 = λ b. IsBetween c.args.self.now.base c.args.rank c.args.found.now.bits c.args.self.now.digits b.low b.high b.below in
-    let all = between_all c.args.self.now.base c.args.rank c.args.found.now.bits c.args.self.now.digits c.top.result c.top.ensures.base c.requires.same c.top.ensures.most c.requires.there in
+    let IsNarrowed : DigitRange → Type 0 = λ b. IsBetween c.args.self.now.base c.args.rank c.args.selection.now.bits c.args.self.now.digits b.low b.high b.below in
+    let all = between_all c.args.self.now.base c.args.rank c.args.selection.now.bits c.args.self.now.digits c.top.result c.top.ensures.base c.requires.same c.top.ensures.most c.requires.there in
     elim c.match-likely_digit.branch [
-      | in-Some w ↦ subst IsHeld (sym w.between-is) w.narrowed-between-in-Some-2.ensures.holds
-      | in_default w ↦ subst IsHeld (sym w.between-is) all
+      | in-Some w ↦ subst IsNarrowed (sym w.between-is) w.narrowed-between-in-Some-2.ensures.holds
+      | in_default w ↦ subst IsNarrowed (sym w.between-is) all
     ]

@@ -7,12 +7,12 @@ use Rattle.bsi_components.proofs.range.reads.RangeReads.count_le.Goals as goal
 
 pub returns-then-d-top : goal.returns-then-d-top
 returns-then-d-top c =
-    let found = c.args.found.now.bits in
-    c.count_and.ensures ∙ ap (λ bits. count_by (λ b. b) (zip2 ◌&&◌ found bits)) c.bitmap.ensures
-    ∙ ap (count_by (λ b. b)) (zip2-map_right ◌&&◌ (λ v. nat_le v c.args.d) found c.args.component.now.digits)
+    let selection = c.args.selection.now.bits in
+    c.count_and.ensures ∙ ap (λ bits. count_by (λ b. b) (zip2 ◌&&◌ selection bits)) c.bitmap.ensures
+    ∙ ap (count_by (λ b. b)) (zip2-map_right ◌&&◌ (λ v. nat_le v c.args.d) selection c.args.component.now.digits)
 
 -- the greatest digit: every row
 pub returns-else-d-top : goal.returns-else-d-top
 returns-else-d-top c =
     c.count.ensures
-    ∙ sym (where_all c.args.d c.args.found.now.bits c.args.component.now.digits (sym c.requires.same) (λ k within. let most = c.top.ensures.most k in omega arith))
+    ∙ sym (where_all c.args.d c.args.selection.now.bits c.args.component.now.digits (sym c.requires.same) (λ k within. let most = c.top.ensures.most k in omega arith))

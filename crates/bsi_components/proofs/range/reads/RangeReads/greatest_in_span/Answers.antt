@@ -1,7 +1,7 @@
 use Rattle.std.proofs.Common.{◌+◌, ◌*◌, length, refl, rules}
 use Rattle.std.specs.Prelude.{slice_index}
 use Rattle.bsi_bits.specs.Packed.{bit_of}
-use Rattle.bsi_components.proofs.EndRows.{greatest_here}
+use Rattle.bsi_components.proofs.ExtremeRows.{greatest_here}
 use Rattle.bsi_components.proofs.range.reads.RangeReads.greatest_in_span.Goals as goal
 
 pub returns-then-not-has_above : goal.returns-then-not-has_above

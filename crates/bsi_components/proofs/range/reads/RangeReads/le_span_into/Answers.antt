@@ -1,6 +1,6 @@
 use Rattle.std.proofs.Common.{◌≡◌, ◌≤◌, ◌+◌, ◌*◌, ◌-◌, ◌^◌, length, get_or, replicate, sym, ap, ◌∙◌, le-leb, arith}
 use Rattle.bsi_bits.specs.Packed.{bit_of}
-use Rattle.bsi_words.proofs.SpanBits.{ones_bit}
+use Rattle.bsi_kernels.proofs.SpanBits.{ones_bit}
 use Rattle.bsi_components.proofs.range.reads.RangeReads.le_span_into.Goals as goal
 
 -- each digit is at most the greatest

@@ -1,7 +1,7 @@
 use Rattle.std.proofs.Common.{◌+◌, ◌*◌, length, refl, rules}
 use Rattle.std.specs.Prelude.{slice_index}
 use Rattle.bsi_bits.specs.Packed.{bit_of}
-use Rattle.bsi_components.proofs.EndRows.{least_here, least_next}
+use Rattle.bsi_components.proofs.ExtremeRows.{least_here, least_next}
 use Rattle.bsi_components.proofs.range.reads.RangeReads.least_in_span.Goals as goal
 
 pub returns-then-not-has_upto : goal.returns-then-not-has_upto

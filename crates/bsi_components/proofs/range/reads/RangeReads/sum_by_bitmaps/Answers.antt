@@ -8,7 +8,7 @@ use Rattle.bsi_components.proofs.range.reads.RangeReads.sum_by_bitmaps.Goals as 
 
 pub bitmaps-init : goal.bitmaps-init
 bitmaps-init c = record {
-  summed = sym (capped_sum_none c.args.found.now.bits c.args.component.now.digits);
+  summed = sym (capped_sum_none c.args.selection.now.bits c.args.component.now.digits);
   few = omega arith;
 }
 
@@ -16,8 +16,8 @@ bitmaps-init c = record {
 pub bitmaps-preserved : goal.bitmaps-preserved
 bitmaps-preserved c = record {
   summed =
-      ap₂ (λ s n. s + n) c.bitmaps.invariant.summed (c.count_and_not.ensures ∙ ap (λ bits. count_by (λ b. b) (zip2 without c.args.found.now.bits bits)) c.bitmap.ensures)
-      ∙ capped_sum_more c.bitmaps.j c.args.found.now.bits c.args.component.now.digits;
+      ap₂ (λ s n. s + n) c.bitmaps.invariant.summed (c.count_and_not.ensures ∙ ap (λ bits. count_by (λ b. b) (zip2 without c.args.selection.now.bits bits)) c.bitmap.ensures)
+      ∙ capped_sum_more c.bitmaps.j c.args.selection.now.bits c.args.component.now.digits;
   few = omega arith;
 }
 
@@ -26,5 +26,5 @@ pub returns : goal.returns
 returns c =
     let top = c.top-j-end.result in
     let last : c.bitmaps.j ≡ top = omega arith in
-    c.bitmaps.invariant.summed ∙ ap (λ j. sum_by (λ v. min v j) (items_where_true c.args.found.now.bits c.args.component.now.digits)) last
-    ∙ capped_sum_all top c.args.found.now.bits c.args.component.now.digits c.top-j-end.ensures.most
+    c.bitmaps.invariant.summed ∙ ap (λ j. sum_by (λ v. min v j) (items_where_true c.args.selection.now.bits c.args.component.now.digits)) last
+    ∙ capped_sum_all top c.args.selection.now.bits c.args.component.now.digits c.top-j-end.ensures.most

@@ -1,2 +1,0 @@
-mod Failing
-mod Notes

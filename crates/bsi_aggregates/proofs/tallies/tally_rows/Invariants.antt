@@ -1,0 +1,9 @@
+use Rattle.std.proofs.Common.{◌*◌}
+use Rattle.std.specs.Option.{option_map}
+use Rattle.bsi_shift.specs.Shifted.{shifted_entries}
+use Rattle.bsi_aggregates.specs.Tallies.{entries_or_nulls, AreEntryTallies}
+use Rattle.bsi_aggregates.proofs.tallies.tally_rows.Given as goal
+
+-- the rows of the words so far are tallied
+abbrev pub invariant-words : goal.invariant-words
+invariant-words l = AreEntryTallies l.keys (entries_or_nulls l.selection.bits (option_map (λ c. shifted_entries c.now) l.entries)) l.selection.bits (64 * l.at) l.tallies.items

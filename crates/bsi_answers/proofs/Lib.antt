@@ -1,0 +1,15 @@
+pub mod Asking
+mod Batching
+mod Certain
+mod Entries
+mod Listed
+pub mod Mixing
+pub mod Ordered
+pub mod Passing
+mod Perms
+mod Places
+mod Replies
+mod Selecting
+pub mod Showing
+mod Telling
+mod Texts

@@ -1,0 +1,29 @@
+use Rattle.std.proofs.Common.{◌≡◌, option_map, rules}
+use Rattle.csv.specs.Reading.{source_of, strip_bom}
+use Rattle.bsi_answers.specs.AskLines.{IsAskLine}
+use Rattle.std.specs.List.{AllZip}
+use Rattle.bsi_answers.specs.Writing.{WritesAll, WritesFirst}
+use Rattle.bsi_answers.proofs.Passing.{from_known, if_err, on_ok}
+use Rattle.bsi_answers.proofs.answering.answer_asks.Goals as goal
+
+pub returns-clause-ok : goal.returns-clause-ok
+returns-clause-ok g c =
+    let before = g.W.Write.contents c.args.writer.now in
+    let after = g.W.Write.contents c.answer_batches.new.writer in
+    let source = source_of (λ w. g.A.Read.remaining w.inner) c.new-records.result.input in
+    let is : source ≡ option_map strip_bom (g.A.Read.remaining c.args.asks) = search rules in
+    on_ok c.answer_batches.result
+    (from_known (g.A.Read.remaining c.args.asks) source
+    (λ bytes. WritesAll (AllZip (IsAskLine c.args.grammar c.args.table.now.schema c.args.table.now.rows)) bytes before after) is)
+    c.answer_batches.ensures.ok
+
+pub returns-clause-prefix : goal.returns-clause-prefix
+returns-clause-prefix g c =
+    let before = g.W.Write.contents c.args.writer.now in
+    let after = g.W.Write.contents c.answer_batches.new.writer in
+    let source = source_of (λ w. g.A.Read.remaining w.inner) c.new-records.result.input in
+    let is : source ≡ option_map strip_bom (g.A.Read.remaining c.args.asks) = search rules in
+    if_err c.answer_batches.result
+    (λ fault. from_known (g.A.Read.remaining c.args.asks) source
+    (λ bytes. WritesFirst (AllZip (IsAskLine c.args.grammar c.args.table.now.schema c.args.table.now.rows)) bytes fault before after) is)
+    c.answer_batches.ensures.prefix

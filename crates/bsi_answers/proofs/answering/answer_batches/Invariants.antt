@@ -1,0 +1,18 @@
+use Rattle.std.proofs.Common.{◌≡◌, ◌≤◌, None}
+use Rattle.csv.specs.Reading.{reader_state, source_of}
+use Rattle.bsi_input.specs.Sources.{max_records}
+use Rattle.bsi_input.specs.Texts.{ForText}
+use Rattle.bsi_answers.specs.AskLines.{IsAskLine}
+use Rattle.bsi_answers.proofs.Asking.{HasWritten}
+use Rattle.bsi_answers.proofs.answering.answer_batches.Given as goal
+
+-- the lines of the records so far were written
+abbrev pub invariant-batches : goal.invariant-batches
+invariant-batches g l = record {
+  going : l.records.end ≡ None;
+  counted : l.counter ≤ l.records.read_so_far;
+  few : l.records.read_so_far ≤ max_records;
+  stands : ForText (source_of (λ w. g.A.Read.remaining w.inner) l.initial.records.input) (λ bytes.
+      HasWritten (IsAskLine l.grammar l.table.schema l.table.rows) bytes (reader_state l.records.input)
+      (source_of (λ w. g.A.Read.remaining w.inner) l.records.input) l.records.read_so_far (g.W.Write.contents l.initial.writer) (g.W.Write.contents l.writer));
+}

@@ -1,8 +1,0 @@
-use Rattle.std.proofs.Common.{◌*◌}
-use Rattle.std.specs.Prelude.{min}
-use Rattle.bsi_columns.specs.Ends.{IsEndUpto}
-use Rattle.bsi_columns.proofs.decomposed.Decomposed.end_in_spans.Given as goal
-
--- the best one of the spans so far
-abbrev pub invariant-span : goal.invariant-span
-invariant-span g l = IsEndUpto l.end l.found.bits l.self.entries (64 * min (32 * l.k) l.len) l.best

@@ -1,8 +1,0 @@
-use Rattle.std.proofs.Common.{◌≡◌, ℕ, ◌+◌, ◌*◌, ◌<◌, ◌≤◌, true, length}
-use Rattle.std.specs.Prelude.{slice_index}
-use Rattle.bsi_bits.specs.Packed.{bit_of}
-use Rattle.bsi_components.proofs.equality.ends.EqualityComponent.least_by_bitmaps.Given as goal
-
--- each row's digit is past those so far
-abbrev pub invariant-digits : goal.invariant-digits
-invariant-digits l = (p : ℕ) → p < 64 * length l.span → bit_of l.span p ≡ true → l.digit ≤ slice_index l.self.digits (64 * l.at + p)

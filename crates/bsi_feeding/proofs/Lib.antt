@@ -1,2 +1,0 @@
-mod Feeds
-mod Filled

@@ -1,0 +1,18 @@
+use Rattle.std.proofs.Common.{◌≡◌, ℕ, Err, List, map, subst, sym}
+use Rattle.std.specs.Ordering.{int_eq}
+use Rattle.std.specs.Set.{distinct_count}
+use Rattle.bsi_rows.specs.Table.{Table}
+use Rattle.bsi_aggregates.specs.Replies.{selected_numbers, IsReplyOn}
+use Rattle.bsi_ffi.specs.Numbers.{IsUnasked}
+use Rattle.bsi_ffi.proofs.AskedOn.{for_memory}
+use Rattle.bsi_ffi.proofs.numbers.reply_distinct.Goals as goal
+
+-- only memory was refused
+pub returns-clause-counted : goal.returns-clause-counted
+returns-clause-counted c =
+    let table = c.args.opened.now.table in
+    let fields : List (List ℕ) = map (λ f. f.now) c.args.fields.now in
+    let asked = c.in_ok-pred.ensures.asked in
+    let refused : c.in-Err.refused ≡ _ = for_memory table fields c.args.name.now c.in_ok-pred.pred c.in_ok-pred.c asked (λ (count : ℕ). count ≡ distinct_count int_eq (selected_numbers c.in_ok-pred.c c.in_ok-pred.pred table.rows)) c.in-Err.refused
+    (subst (λ (t : Table). IsReplyOn t.schema c.in_ok-pred.c c.in_ok-pred.pred (λ (count : ℕ). count ≡ distinct_count int_eq (selected_numbers c.in_ok-pred.c c.in_ok-pred.pred t.rows)) (Err c.in-Err.refused)) c.index.ensures c.in-Err.ensures) in
+    subst (IsUnasked table fields c.args.name.now) (sym (c.refusal_of.ensures refused)) tt

@@ -1,7 +1,0 @@
-use Rattle.std.proofs.Common.{◌≡◌, ◌++◌}
-use Rattle.bsi_groups.specs.Replies.{block_numbers}
-use Rattle.bsi_groups.proofs.differing.push_block.Given as goal
-
--- the numbers at the places so far are appended
-abbrev pub invariant-rows : goal.invariant-rows
-invariant-rows l = l.numbers.items ≡ l.fn.numbers.items ++ block_numbers l.rows l.block l.r

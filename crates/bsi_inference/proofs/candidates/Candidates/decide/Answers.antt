@@ -1,0 +1,29 @@
+use Rattle.std.proofs.Common.{List, ℕ, sym}
+use Rattle.bsi_kinds.specs.declared.kind.Kind.TheVariants.{Decimal}
+use Rattle.bsi_inference.specs.Columns.{Accepts}
+use Rattle.bsi_inference.specs.Decisions.{Decides, DecidesTexts, IsColumnOf, IsDecidedFor}
+use Rattle.bsi_inference.proofs.Outcomes.{column_meant, column_takes, if_ok, texts_take}
+use Rattle.bsi_inference.proofs.candidates.Candidates.decide.Goals as goal
+
+pub returns-in-Decimals-clause-accepts : goal.returns-in-Decimals-clause-accepts
+returns-in-Decimals-clause-accepts c =
+    if_ok c.make_column.result (IsColumnOf (Decimal c.in-Decimals.places) c.in-Decimals.span c.args.self.nulls) (λ d. (f : List ℕ) → Accepts c.args.self f → IsDecidedFor c.args.self d f)
+    (column_takes c.args.self (Decimal c.in-Decimals.places) c.in-Decimals.span c.in-Decimals.ensures.accepts) c.make_column.ensures
+
+pub returns-in-Form-clause-accepts : goal.returns-in-Form-clause-accepts
+returns-in-Form-clause-accepts c =
+    let kind = c.in_ok-kind-in-Form.field-0 in
+    if_ok c.make_column-in-Form.result (IsColumnOf kind c.in-Form.span c.args.self.nulls) (λ d. (f : List ℕ) → Accepts c.args.self f → IsDecidedFor c.args.self d f)
+    (column_takes c.args.self kind c.in-Form.span (λ f accepts. let seen = c.in-Form.ensures.accepts f accepts in
+    record { number = seen.number; is = c.in_ok-kind-in-Form.ensures.spells c.args.self.point f seen.number seen.is; within = seen.within })) c.make_column-in-Form.ensures
+
+pub returns-in-Form-clause-meant : goal.returns-in-Form-clause-meant
+returns-in-Form-clause-meant c =
+    let kind = c.in_ok-kind-in-Form.field-0 in
+    if_ok c.make_column-in-Form.result (IsColumnOf kind c.in-Form.span c.args.self.nulls) (Decides c.args.self)
+    (column_meant c.args.self.gathered.state c.args.self.gathered.texts _ c.in-Form.form kind c.in-Form.span c.args.self.nulls (sym c.in-Form.ensures.is) c.in_ok-kind-in-Form.ensures.form) c.make_column-in-Form.ensures
+
+pub returns-clause-accepts : goal.returns-clause-accepts
+returns-clause-accepts c =
+    if_ok c.decide_gathered.result (DecidesTexts c.args.self.gathered.state c.args.self.gathered.texts) (λ d. (f : List ℕ) → Accepts c.args.self f → IsDecidedFor c.args.self d f)
+    (texts_take c.args.self) c.decide_gathered.ensures

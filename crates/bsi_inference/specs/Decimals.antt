@@ -1,0 +1,63 @@
+-- The decimals of a column: which fields they accept, and what a further field or another part of the column changes.
+use Rattle.std.specs.Prelude.{◌≡◌, ◌⊎◌, ◌-◌, ◌<◌, ◌≤◌, ℕ, Bool, not, ◌&&◌, is_some, max, Some, IsTrue}
+use Rattle.bsi_kinds.specs.Decimals.{decimal_entry, decimal_of, Field}
+use Rattle.bsi_kinds.specs.Places.{places_written}
+use Rattle.bsi_inference.specs.Codes.{is_code}
+use Rattle.bsi_inference.specs.Seen.{CoversSome, IsScaled, IsSeenIf, IsSeenWithAll}
+use Rattle.bsi_inference.specs.declared.seen.Seen.{Seen}
+use Rattle.bsi_inference.specs.declared.seen.Seen.TheVariants.{RuledOut}
+use Rattle.bsi_inference.specs.declared.decimals.Decimals.{Decimals}
+
+-- A field spells a decimal, and is no code.
+abbrev pub is_plain_decimal : ℕ → Field → Bool
+is_plain_decimal point field = not (is_code field) && is_some (decimal_of point field)
+
+-- The same, of at most `most` places.
+pub record IsPlainDecimal (point most : ℕ) (field : Field) : Type 0 where
+  pub plain : IsTrue (is_plain_decimal point field)
+  pub places : places_written point field ≤ most
+
+-- The decimals of a column accept a field: it has a number at their places that was seen.
+-- It is plain, if each field so far was plain.
+pub record AcceptsDecimal (point : ℕ) (decimals : Decimals) (field : Field) : Type 0 where
+  pub number : CoversSome decimals.seen (λ n. decimal_entry point decimals.places field ≡ Some n)
+  pub plain : IsTrue decimals.spelled → IsPlainDecimal point decimals.places field
+
+-- What is seen after a field, at some places. More than 18 places are ruled out.
+-- Otherwise the numbers so far are scaled, and the number of the field is added.
+abbrev pub IsSeenAt : ℕ → Field → Decimals → ℕ → Seen → Type 0
+IsSeenAt point field old places new =
+    ((18 < places) × (new ≡ RuledOut))
+    ⊎ ((scaled : Seen) × IsScaled (places - old.places) old.seen scaled × IsSeenIf (decimal_entry point places field) scaled new)
+
+-- The decimals of a column before and after they observe a field.
+pub record IsNextDecimals (point : ℕ) (field : Field) (old new : Decimals) : Type 0 where
+  -- The decimals accept the field.
+  pub accepts : AcceptsDecimal point new field
+  -- The decimals accept each field that they accepted before.
+  pub preserved : (f : Field) → AcceptsDecimal point old f → AcceptsDecimal point new f
+  -- Plain decimals stay plain exactly if the field is plain.
+  pub spelled : new.spelled ≡ (old.spelled && is_plain_decimal point field)
+  -- If plain, the decimals have the most places of a field so far.
+  pub places : IsTrue new.spelled → new.places ≡ max old.places (places_written point field)
+  -- If plain, the decimals have the numbers so far and that of the field, at the new places.
+  pub seen : IsTrue new.spelled → IsSeenAt point field old new.places new.seen
+
+-- What was seen, scaled to more places. More than 18 places are ruled out.
+abbrev pub IsBroughtTo : ℕ → Decimals → Seen → Type 0
+IsBroughtTo places old new =
+    ((18 < places) × (new ≡ RuledOut)) ⊎ ((places ≤ 18) × IsScaled (places - old.places) old.seen new)
+
+-- The decimals of two parts of a column, joined.
+pub record AreJoinedDecimals (old other new : Decimals) : Type 0 where
+  -- The decimals accept each field that they accepted before.
+  pub preserved : (point : ℕ) → (f : Field) → AcceptsDecimal point old f → AcceptsDecimal point new f
+  -- The decimals accept each field that the decimals of the other part accepted.
+  pub joined : (point : ℕ) → (f : Field) → AcceptsDecimal point other f → AcceptsDecimal point new f
+  -- The decimals are plain exactly if those of both parts were plain.
+  pub spelled : new.spelled ≡ (old.spelled && other.spelled)
+  -- The number of places is the greater one of the two parts.
+  pub places : new.places ≡ max old.places other.places
+  -- The numbers of both parts are scaled to the greater number of places, and joined.
+  pub seen : (first : Seen) × (second : Seen) × IsBroughtTo new.places old first × IsBroughtTo new.places other second
+      × IsSeenWithAll second first new.seen

@@ -1,0 +1,11 @@
+pub mod Candidates
+pub mod Choices
+pub mod Codes
+pub mod Columns
+pub mod Decimals
+pub mod Decisions
+pub mod Forms
+pub mod Gatherings
+pub mod Nulls
+pub mod Seen
+pub mod Texts

@@ -1,0 +1,87 @@
+//! Chooses what the fields of a column are read as (`choose`): the first candidate that is not ruled out.
+
+ghost use Rattle.std.specs.Prelude.{◌≡◌, ℕ};
+ghost use Rattle.bsi_kinds.specs.Decimals.{Field};
+ghost use Rattle.bsi_inference.specs.Candidates.{EachAccepts};
+ghost use Rattle.bsi_inference.specs.Choices.{choice_of, date_choice, form_choice, order_choice, HasFewPlaces, HasFormNumberIn, IsChosenFor};
+ghost use Rattle.bsi_inference.specs.Columns.{AcceptsValue};
+
+use crate::candidate::{Candidate, find_remaining, has_month_first};
+use crate::candidates::Candidates;
+use crate::form::Form;
+use crate::seen::Seen;
+use crate::span::Span;
+use bsi_kinds::{DateForm, DateOrder, MAX_PLACES};
+
+/// What is meant of the candidates of a column.
+#[derive(Clone, Copy, Debug, PartialEq, Eq)]
+pub(crate) enum Choice {
+    /// None: each field is null.
+    Nothing,
+    /// Decimals of so many places.
+    Decimals(u32, Span),
+    /// A form.
+    Form(Form, Span),
+    /// Decimals that need too many digits, and have so many places.
+    Digits(usize),
+    /// Dates, of which day or month may stand first, with this sign between two numbers.
+    Orders(u8),
+    /// Texts.
+    Texts,
+}
+
+impl Candidates {
+    /// Chooses the first candidate that is not ruled out.
+    pub(crate) fn choose(&self) -> Choice
+        ensures is { result ≡ choice_of self.now.decimals self.now.forms.items }
+        ensures few { HasFewPlaces result }
+        ensures accepts { (f : Field) → AcceptsValue self.now f → IsChosenFor self.now.point result f }
+    {
+        match self.decimals.seen {
+            Seen::Nothing => Choice::Nothing,
+            Seen::Numbers(span) if self.decimals.places <= MAX_PLACES as usize => {
+                Choice::Decimals(self.decimals.places as u32, span)
+            }
+            _ => self.choose_form(),
+        }
+    }
+
+    /// Chooses the first form that is not ruled out.
+    fn choose_form(&self) -> Choice
+        ensures is { result ≡ form_choice self.now.decimals self.now.forms.items }
+        ensures few { HasFewPlaces result }
+        ensures accepts { (f : Field) → AcceptsValue self.now f → IsChosenFor self.now.point result f }
+    {
+        match find_remaining(&self.forms) {
+            Some((form, span)) => choose_order(form, span, &self.forms),
+            None if self.decimals.spelled => Choice::Digits(self.decimals.places),
+            None => Choice::Texts,
+        }
+    }
+}
+
+/// Chooses a form, unless it has dates that may also have the month first.
+fn choose_order(form: Form, span: Span, candidates: &[Candidate]) -> Choice
+    ensures is { result ≡ order_choice candidates.now (form, span) }
+    ensures few { HasFewPlaces result }
+    ensures accepts { (point : ℕ) → (f : Field) → EachAccepts candidates.now f →
+        HasFormNumberIn form span f → IsChosenFor point result f }
+{
+    match form {
+        Form::Date(date) => choose_date(date, span, candidates),
+        _ => Choice::Form(form, span),
+    }
+}
+
+/// Chooses a form of dates, unless dates may also have the month first.
+fn choose_date(form: DateForm, span: Span, candidates: &[Candidate]) -> Choice
+    ensures is { result ≡ date_choice candidates.now span form }
+    ensures few { HasFewPlaces result }
+    ensures accepts { (point : ℕ) → (f : Field) → EachAccepts candidates.now f →
+        HasFormNumberIn (Form.Date form) span f → IsChosenFor point result f }
+{
+    match form.order {
+        DateOrder::DayFirst if has_month_first(candidates, form.sign) => Choice::Orders(form.sign),
+        _ => Choice::Form(Form::Date(form), span),
+    }
+}

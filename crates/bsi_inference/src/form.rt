@@ -1,0 +1,145 @@
+//! The forms in which dates, times and booleans may be written.
+
+ghost use Rattle.std.specs.Prelude.{◌≡◌, ℕ, ℤ, IfSome, IfNone, IfOk};
+ghost use Rattle.bsi_kinds.specs.Decimals.{Field};
+ghost use Rattle.bsi_kinds.specs.Kinds.{IsKind, IsSpelled};
+ghost use Rattle.bsi_inference.specs.Forms.{is_allowed, is_same_order, word_number, IsOfForm, SpellsInForm};
+
+use crate::NoMemory;
+use bsi_kinds::{
+    BooleanForm, DateForm, DateOrder, ISO_DATE, Kind, TimeForm, TimeUnit, read_date, read_time,
+};
+use std::alloc::Global;
+
+/// How the values of a column may be written, if they are no decimals and no texts.
+#[derive(Clone, Copy, Debug, PartialEq, Eq)]
+pub(crate) enum Form {
+    /// The words `false` and `true`.
+    Boolean,
+    /// Dates, written so.
+    Date(DateForm),
+    /// Times, written so.
+    Time(TimeForm),
+}
+
+/// The forms that a column may have: of two that read the same fields the first is meant.
+pub(crate) const FORMS: [Form; 13] = [
+    Form::Boolean,
+    Form::Date(ISO_DATE),
+    Form::Date(DateForm {
+        order: DateOrder::DayFirst,
+        sign: b'.',
+    }),
+    Form::Date(DateForm {
+        order: DateOrder::DayFirst,
+        sign: b'/',
+    }),
+    Form::Date(DateForm {
+        order: DateOrder::DayFirst,
+        sign: b'-',
+    }),
+    Form::Date(DateForm {
+        order: DateOrder::MonthFirst,
+        sign: b'/',
+    }),
+    Form::Date(DateForm {
+        order: DateOrder::MonthFirst,
+        sign: b'-',
+    }),
+    Form::Time(TimeForm {
+        date: ISO_DATE,
+        unit: TimeUnit::Seconds,
+        utc: false,
+    }),
+    Form::Time(TimeForm {
+        date: ISO_DATE,
+        unit: TimeUnit::Milliseconds,
+        utc: false,
+    }),
+    Form::Time(TimeForm {
+        date: ISO_DATE,
+        unit: TimeUnit::Microseconds,
+        utc: false,
+    }),
+    Form::Time(TimeForm {
+        date: ISO_DATE,
+        unit: TimeUnit::Seconds,
+        utc: true,
+    }),
+    Form::Time(TimeForm {
+        date: ISO_DATE,
+        unit: TimeUnit::Milliseconds,
+        utc: true,
+    }),
+    Form::Time(TimeForm {
+        date: ISO_DATE,
+        unit: TimeUnit::Microseconds,
+        utc: true,
+    }),
+];
+
+impl Form {
+    /// Reads a field as the number that stands for its value, or returns none if no number does. It allocates no memory.
+    pub(crate) fn read(self, field: &[u8]) -> Option<i64>
+        ensures some { IfSome result (SpellsInForm self field.now) }
+        ensures none { IfNone result ((n : ℤ) → SpellsInForm self field.now n → ⊥) }
+    {
+        match self {
+            Form::Boolean => read_word(field),
+            Form::Date(form) => read_date(form, field),
+            Form::Time(form) => read_time(form, field),
+        }
+    }
+
+    /// Returns whether a column may have this form, where the caller says which of day and month stands first in its dates,
+    /// or says nothing.
+    pub(crate) fn is_allowed(self, order: Option<DateOrder>) -> bool
+        ensures { result ≡ is_allowed order self }
+    {
+        match (order, self) {
+            (Some(order), Form::Date(form)) => is_same_order(order, form.order),
+            _ => true,
+        }
+    }
+
+    /// Makes the kind of columns of this form.
+    pub(crate) fn kind(self, alloc: Global) -> Result<Kind, NoMemory>
+        ensures kind { IfOk result IsKind }
+        ensures form { IfOk result (IsOfForm self) }
+        ensures spells { IfOk result (λ kind. (point : ℕ) → (f : Field) → (n : ℤ) →
+            SpellsInForm self f n → IsSpelled kind point f n) }
+    {
+        Ok(match self {
+            Form::Boolean => Kind::Boolean(BooleanForm {
+                no: Vec::from_slice(alloc, b"false".as_slice())?,
+                yes: Vec::from_slice(alloc, b"true".as_slice())?,
+            }),
+            Form::Date(form) => Kind::Date(form),
+            Form::Time(form) => Kind::Time(form),
+        })
+    }
+}
+
+/// Returns whether dates of an order are meant where the caller says which of day and month stands first.
+fn is_same_order(meant: DateOrder, order: DateOrder) -> bool
+    ensures { result ≡ is_same_order meant order }
+{
+    match order {
+        DateOrder::YearFirst => true,
+        DateOrder::DayFirst => matches!(meant, DateOrder::DayFirst),
+        DateOrder::MonthFirst => matches!(meant, DateOrder::MonthFirst),
+    }
+}
+
+/// Reads the word of a truth value.
+fn read_word(field: &[u8]) -> Option<i64>
+    ensures { result ≡ word_number field.now }
+{
+    if field == b"true".as_slice() {
+        Some(1)
+    } else if field == b"false".as_slice() {
+        Some(0)
+    } else {
+        None
+    }
+}

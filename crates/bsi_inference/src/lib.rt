@@ -1,0 +1,22 @@
+//! Infers what kind a column has from its fields: a first pass hands the fields over, one by one, and asks in the end.
+#![tactic(auto)]
+
+mod candidate;
+mod candidates;
+mod choice;
+mod code;
+mod deciding;
+mod decimals;
+mod decision;
+mod form;
+mod gathered;
+mod nulls;
+mod seen;
+mod span;
+mod text_set;
+
+pub use candidates::Candidates;
+pub use decision::{Column, Decision, Doubt};
+pub use nulls::usual_null_words;
+pub use span::Span;
+pub use std::alloc::AllocError as NoMemory;

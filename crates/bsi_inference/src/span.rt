@@ -1,0 +1,71 @@
+//! A span of numbers, from a least to a greatest one, that 63 bit slices tell apart (`Span`).
+
+ghost use Rattle.std.specs.Prelude.{◌≡◌, ◌^◌, ◌≤◌, pos, ◌-ℤ◌, ◌*ℤ◌, ◌<ℤ◌, ◌≤ℤ◌, IfSome, IfNone, FitsSigned};
+ghost use Rattle.std.specs.Int.{int_max, int_min, w64};
+
+/// Numbers from a least to a greatest one, which 63 bit slices tell apart.
+#[derive(Clone, Copy, Debug, PartialEq, Eq)]
+pub struct Span {
+    /// The least number.
+    pub least: i64,
+    /// The greatest number.
+    pub greatest: i64,
+    pub ghost least_fits: { FitsSigned w64 least },
+    pub ghost greatest_fits: { FitsSigned w64 greatest },
+    pub ghost ordered: { least ≤ℤ greatest },
+    pub ghost narrow: { (greatest -ℤ least) <ℤ pos (2 ^ 63) },
+}
+
+impl Span {
+    ghost use Rattle.bsi_inference.specs.Seen.{IsSpan};
+
+    /// Returns the span from a number to another one, or none if 63 bit slices do not tell its numbers apart.
+    pub fn new(least: i64, greatest: i64) -> Option<Span>
+        requires { least ≤ℤ greatest }
+        ensures least { IfSome result (λ span. span.least ≡ least) }
+        ensures greatest { IfSome result (λ span. span.greatest ≡ greatest) }
+        ensures wide { IfNone result (pos (2 ^ 63) ≤ℤ (greatest -ℤ least)) }
+    {
+        if i128::from(greatest) - i128::from(least) > i128::from(i64::MAX) {
+            return None;
+        }
+        Some(Span { least, greatest })
+    }
+
+    /// Returns the span of one number.
+    pub fn of(number: i64) -> Span
+        ensures least { result.least ≡ number }
+        ensures greatest { result.greatest ≡ number }
+    {
+        Span {
+            least: number,
+            greatest: number,
+        }
+    }
+
+    /// Returns the span with one number more, or none if 63 bit slices do not tell its numbers apart.
+    pub fn with(self, number: i64) -> Option<Span>
+        ensures least { IfSome result (λ span. span.least ≡ int_min self.least number) }
+        ensures greatest { IfSome result (λ span. span.greatest ≡ int_max self.greatest number) }
+        ensures wide { IfNone result (pos (2 ^ 63) ≤ℤ
+            (int_max self.greatest number -ℤ int_min self.least number)) }
+    {
+        Span::new(self.least.min(number), self.greatest.max(number))
+    }
+
+    /// Returns the span with so many digits 0 behind each number, or none if 64 bits do not hold them, or 63 bit slices do
+    /// not tell them apart.
+    pub(crate) fn scaled(self, digits: u32) -> Option<Span>
+        requires { digits ≤ 18 }
+        ensures least { IfSome result (λ span. span.least ≡ self.least *ℤ pos (10 ^ digits)) }
+        ensures greatest { IfSome result (λ span. span.greatest ≡ self.greatest *ℤ pos (10 ^ digits)) }
+        ensures none { IfNone result (IsSpan (self.least *ℤ pos (10 ^ digits))
+            (self.greatest *ℤ pos (10 ^ digits)) → ⊥) }
+    {
+        let factor = 10u64.pow(digits) as i64;
+        Span::new(
+            self.least.checked_mul(factor)?,
+            self.greatest.checked_mul(factor)?,
+        )
+    }
+}

@@ -1,0 +1,34 @@
+-- What a call does to a source of the records of a text (`RecordSource`): it reads the next one, or stops at a fault.
+use Rattle.std.specs.Prelude.{◌≡◌, ◌≢◌, ℕ, ◌+◌, List, [], ◌∷◌, Some, Err, Bool, true, false}
+use Rattle.csv.specs.declared.reader.Reader.{Reader}
+use Rattle.bsi_syntax.specs.Bytes.{KnownBytes}
+use Rattle.bsi_syntax.specs.Numbers.{Field}
+use Rattle.bsi_input.specs.Sources.{end_after, max_records, HasNext, HasReadRecords, IsOver, SourceEnd}
+use Rattle.bsi_input.specs.declared.rows.SourceFault.{SourceFault}
+use Rattle.bsi_input.specs.declared.rows.SourceFault.TheVariants.{BadHeader, TooLong}
+
+-- A source of records: its reader, the number of records read so far, and how it ended, if it has.
+pub record RecordSource (R : Type 0) : Type 0 where
+  pub input : Reader R
+  pub read_so_far : ℕ
+  pub end : SourceEnd
+
+-- A reader read one more record, which was counted (true), or had none left (false).
+abbrev pub ReadsRecord : {R : Type 0} → (R → KnownBytes) → Reader R → Reader R → ℕ → ℕ → List Field → Bool
+    → Type 0
+ReadsRecord rem old new before after fields true = HasReadRecords rem old new (fields ∷ []) × (after ≡ before + 1)
+ReadsRecord rem old new before after fields false = IsOver rem old × (after ≡ before)
+
+-- Why a reader stops: a fault, though not of a header. `TooLong` means that 1,000,000 records were read and one more
+-- follows.
+abbrev pub Stops : {R : Type 0} → (R → KnownBytes) → Reader R → ℕ → ℕ → SourceFault → Type 0
+Stops rem old before after fault =
+    (fault ≢ BadHeader) × (fault ≡ TooLong → (before ≡ max_records) × HasNext rem old) × (after ≡ before)
+
+abbrev pub ReadsNextRecord : {R : Type 0} → (R → KnownBytes) → RecordSource R → RecordSource R → List Field → Bool → Type 0
+ReadsNextRecord rem old new fields more =
+    ReadsRecord rem old.input new.input old.read_so_far new.read_so_far fields more × (new.end ≡ end_after more)
+
+-- A source after a call that raised a fault.
+abbrev pub StopsAt : {R : Type 0} → (R → KnownBytes) → RecordSource R → RecordSource R → SourceFault → Type 0
+StopsAt rem old new fault = Stops rem old.input old.read_so_far new.read_so_far fault × (new.end ≡ Some (Err fault))

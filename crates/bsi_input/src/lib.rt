@@ -1,0 +1,22 @@
+//! From bytes to records and rows, and what the lines of a script are.
+#![tactic(auto)]
+
+mod describing;
+pub mod laws;
+mod layout;
+mod reading;
+mod record_aware;
+mod rows;
+mod schema_text;
+mod texts;
+mod writing;
+
+pub use bsi_syntax::{DeclaredTable, NoMemory};
+pub use describing::describe_schema;
+pub use layout::{Layout, count_fields_named, field_index, is_good_header};
+pub use reading::{MAX_RECORDS, plain_reader, read_next};
+pub use record_aware::{RecordAwareReader, has_buffered_record};
+pub use rows::{RowSource, SourceFault};
+pub use schema_text::{SchemaFault, read_schema};
+pub use texts::RecordSource;
+pub use writing::{WriteFault, write_bytes};

@@ -1,9 +1,0 @@
-pub mod Chunks
-pub mod Coding
-pub mod Cut
-pub mod Eights
-pub mod Packing
-pub mod Padding
-pub mod Parts
-pub mod Told
-pub mod Unique

@@ -1,0 +1,14 @@
+use Rattle.std.proofs.Common.{◌+◌, ◌-◌, length, ap, ◌∙◌, arith}
+use Rattle.std.specs.Prelude.{bit_and, ◌&&◌, ◌*◌}
+use Rattle.bsi_bits.specs.Packed.{bit_of}
+use Rattle.bsi_bits.proofs.Logic.{and_bitwise}
+use Rattle.bsi_kernels.proofs.SpanBits.{stepped_place}
+use Rattle.bsi_kernels.proofs.spans.and_assign.Goals as goal
+
+pub returns-clause-bits : goal.returns-clause-bits
+returns-clause-bits c p below =
+    let at = c.args.at in
+    let n = at + length c.args.span.now - at in
+    ap (λ ws. bit_of ws p) c.and.ensures
+    ∙ stepped_place (λ _. Unit {0}) bit_and ◌&&◌ and_bitwise.at c.args.span.now c.words-words.result.now (λ k. tt) at n (omega arith) (omega (arith, c.words-words.ensures.few)) p below
+    ∙ ap (◌&&◌ (bit_of c.args.span.now p)) (c.words-words.ensures.places (64 * at + p))

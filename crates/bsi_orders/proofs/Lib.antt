@@ -1,2 +1,0 @@
-pub mod BlockEntries
-pub mod Unique

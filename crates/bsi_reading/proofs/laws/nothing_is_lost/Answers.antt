@@ -1,6 +1,0 @@
-use Rattle.bsi_rows.proofs.Balance.{conserved}
-use Rattle.bsi_reading.proofs.Pasts.{has_past}
-use Rattle.bsi_reading.proofs.laws.nothing_is_lost.Goals as goal
-
-pub returns : goal.returns
-returns c = λ records lines shown turns. has_past records lines shown conserved turns

@@ -1,6 +1,0 @@
-use Rattle.csv.specs.Reading.{strip_bom}
-use Rattle.bsi_reading.proofs.Joining.{read_whole}
-use Rattle.bsi_reading.proofs.laws.records_of_a_text.Goals as goal
-
-pub returns : goal.returns
-returns g c = λ x y bytes records start known read over. read_whole g.R.Read.remaining x y (strip_bom bytes) records start known read over

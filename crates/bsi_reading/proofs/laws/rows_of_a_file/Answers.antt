@@ -1,5 +1,0 @@
-use Rattle.bsi_reading.proofs.Joining.{is_whole}
-use Rattle.bsi_reading.proofs.laws.rows_of_a_file.Goals as goal
-
-pub returns : goal.returns
-returns g c = λ layout a b text start end rows stands taken over. is_whole g.R.Read.remaining layout a b text start end rows stands taken over

@@ -1,5 +1,0 @@
-use Rattle.bsi_reading.proofs.Joining.{taken_both}
-use Rattle.bsi_reading.proofs.laws.taken_by_calls.Goals as goal
-
-pub returns : goal.returns
-returns g c = λ layout a b c start middle end xs ys one two. taken_both g.R.Read.remaining layout a b c start middle end xs ys one two

@@ -1,4 +1,0 @@
-pub mod Faults
-pub mod Opens
-pub mod Saved
-pub mod Taking

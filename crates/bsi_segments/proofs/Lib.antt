@@ -1,0 +1,9 @@
+pub mod Chunks
+pub mod Coding
+pub mod Cut
+pub mod Eights
+pub mod Packing
+pub mod Padding
+pub mod ChunkBytes
+pub mod OneWord
+pub mod Unique

@@ -1,0 +1,171 @@
+-- A segment of words as bytes (`segment`), its checksum, and the faults that a reader of one meets (`MeetsFault`).
+use Rattle.std.specs.Prelude.{◌≡◌, ◌≢◌, ℕ, ◌+◌, ◌*◌, ◌%◌, ◌^◌, ◌<◌, List, [], ◌∷◌, ◌++◌, ◌⊎◌, length, map, take, drop, bit_xor, slice_index}
+use Rattle.std.specs.Int.{w64, from_le_bytes, rotate_left, to_le_bytes}
+use Rattle.std.specs.List.{flat_map, range_with_len}
+use Rattle.std.specs.Io.KnownBytes.{Consumes, IsAtEnd}
+use Rattle.bsi_segments.specs.declared.fault.SegmentFault.{SegmentFault}
+use Rattle.bsi_segments.specs.declared.fault.SegmentFault.TheVariants.{CutShort, Damaged, NoMemory, NotASegment, OtherVersion, Read}
+use Rattle.bsi_syntax.specs.Bytes.{Bytes, KnownBytes}
+
+-- ---- bytes
+
+-- The bytes of words, eight for each, the lowest first.
+abbrev pub bytes_of : List ℕ → List ℕ
+bytes_of words = flat_map (to_le_bytes w64) words
+
+-- Word k of a list of bytes.
+abbrev pub word_at : List ℕ → ℕ → ℕ
+word_at bytes k = from_le_bytes w64 (take 8 (drop (8 * k) bytes))
+
+abbrev pub words_of : ℕ → List ℕ → List ℕ
+words_of count bytes = map (word_at bytes) (range_with_len 0 count)
+
+-- Each word is a number of 64 bits, and so is the number of words.
+pub record AreWords (words : List ℕ) : Type 0 where
+  pub each : (k : ℕ) → slice_index words k < 2 ^ 64
+  pub few : length words < 2 ^ 64
+
+-- ---- the checksum
+
+abbrev pub multiplier : ℕ
+multiplier = 0x9e3779b97f4a7c15
+
+abbrev pub checksum_step : ℕ → ℕ → ℕ
+checksum_step sum word = rotate_left w64 (bit_xor sum word * multiplier % 2 ^ 64) 29
+
+unfoldable pub checksum_from : ℕ → List ℕ → ℕ
+checksum_from sum [] = sum
+checksum_from sum (word ∷ words) = checksum_from (checksum_step sum word) words
+
+abbrev pub checksum_of : List ℕ → ℕ
+checksum_of words = checksum_from (length words) words
+
+-- ---- a segment
+
+-- The first word of a segment: the bytes `bsikept`, and the version of the format, 1.
+abbrev pub magic : ℕ
+magic = 0x01_74_70_65_6b_69_73_62
+
+-- The words after the first word of a segment: the number of words in the body, the body, and a checksum.
+abbrev pub segment_rest : ℕ → List ℕ → List ℕ
+segment_rest sum words = length words ∷ words ++ sum ∷ []
+
+-- A segment: the first word, the number of words in the body, the body, and its checksum.
+abbrev pub segment : List ℕ → List ℕ
+segment words = magic ∷ segment_rest (checksum_of words) words
+
+-- ---- reading
+
+-- Words were read and appended to a list.
+pub record ReadsWords (before after : KnownBytes) (count : ℕ) (old new : List ℕ) : Type 0 where
+  -- The words that were read.
+  pub words : List ℕ
+  -- The new list is the old one, and then the words.
+  pub new_is : new ≡ old ++ words
+  -- There are `count` words.
+  pub many : length words ≡ count
+  -- The reader gave exactly the bytes of the words.
+  pub consumed : Consumes before after (bytes_of words)
+
+-- The reader gave these bytes, and has ended.
+pub record ReadsToEnd (before after : KnownBytes) (bytes : Bytes) : Type 0 where
+  pub consumed : Consumes before after bytes
+  pub ended : IsAtEnd after
+
+-- The reader has ended after fewer than n bytes.
+pub record EndsWithin (before after : KnownBytes) (n : ℕ) : Type 0 where
+  pub bytes : Bytes
+  pub few : length bytes < n
+  pub only : ReadsToEnd before after bytes
+
+-- Why `count` words could not be read.
+abbrev pub StopsBefore : KnownBytes → KnownBytes → ℕ → SegmentFault → Type 0
+StopsBefore before after count NotASegment = ⊥
+StopsBefore before after count OtherVersion = ⊥
+StopsBefore before after count CutShort = EndsWithin before after (8 * count)
+StopsBefore before after count Damaged = ⊥
+StopsBefore before after count Read = Unit {0}
+StopsBefore before after count NoMemory = Unit {0}
+
+-- The first word of no segment, of any version of the format.
+abbrev pub IsForeign : ℕ → Type 0
+IsForeign first = (first < 2 ^ 64) × (first % 2 ^ 56 ≢ magic % 2 ^ 56)
+
+-- The first word of a segment of another version of the format.
+abbrev pub IsOtherVersion : ℕ → Type 0
+IsOtherVersion first = (first < 2 ^ 64) × (first % 2 ^ 56 ≡ magic % 2 ^ 56) × (first ≢ magic)
+
+-- A proper prefix of the first word of a segment.
+abbrev pub IsMagicPrefix : List ℕ → Type 0
+IsMagicPrefix bytes = (length bytes < 8) × (bytes ≡ take (length bytes) (bytes_of (magic ∷ [])))
+
+-- Fewer than eight bytes, with which no segment of any version begins.
+abbrev pub IsNoMagicPrefix : List ℕ → Type 0
+IsNoMagicPrefix bytes = (length bytes < 8) × (bytes ≢ take (length bytes) (bytes_of (magic ∷ [])))
+
+-- The fault of a reader that ends within the first word, by the bytes that it had.
+abbrev pub IsShortWordFault : List ℕ → SegmentFault → Type 0
+IsShortWordFault bytes NotASegment = IsNoMagicPrefix bytes
+IsShortWordFault bytes OtherVersion = ⊥
+IsShortWordFault bytes CutShort = IsMagicPrefix bytes
+IsShortWordFault bytes Damaged = ⊥
+IsShortWordFault bytes Read = ⊥
+IsShortWordFault bytes NoMemory = ⊥
+
+-- Why no first word could be read.
+abbrev pub StopsInFirstWord : KnownBytes → KnownBytes → SegmentFault → Type 0
+StopsInFirstWord before after NotASegment = (bytes : Bytes) × IsNoMagicPrefix bytes × ReadsToEnd before after bytes
+StopsInFirstWord before after OtherVersion = ⊥
+StopsInFirstWord before after CutShort = (bytes : Bytes) × (0 < length bytes) × IsMagicPrefix bytes × ReadsToEnd before after bytes
+StopsInFirstWord before after Damaged = ⊥
+StopsInFirstWord before after Read = Unit {0}
+StopsInFirstWord before after NoMemory = ⊥
+
+-- The fault of a first word that is not the one of this version.
+abbrev pub IsFirstWordFault : ℕ → SegmentFault → Type 0
+IsFirstWordFault first NotASegment = IsForeign first
+IsFirstWordFault first OtherVersion = IsOtherVersion first
+IsFirstWordFault first CutShort = ⊥
+IsFirstWordFault first Damaged = ⊥
+IsFirstWordFault first Read = ⊥
+IsFirstWordFault first NoMemory = ⊥
+
+-- The checksum is not that of the words.
+abbrev pub IsDamaged : List ℕ → ℕ → Type 0
+IsDamaged words sum = AreWords words × (sum < 2 ^ 64) × (sum ≢ checksum_of words)
+
+-- The bytes after the first word end early: within the count, or before the counted words and the checksum are
+-- complete.
+abbrev pub IsTruncatedRest : List ℕ → Type 0
+IsTruncatedRest bytes =
+    (length bytes < 8) ⊎ ((count : ℕ) × (last : List ℕ) × (count < 2 ^ 64) × (bytes ≡ bytes_of (count ∷ []) ++ last) × (length last < 8 * (count + 1)))
+
+-- The first fault after the first word of a segment.
+abbrev pub IsRestFault : KnownBytes → KnownBytes → SegmentFault → Type 0
+IsRestFault before after NotASegment = ⊥
+IsRestFault before after OtherVersion = ⊥
+IsRestFault before after CutShort = (bytes : Bytes) × IsTruncatedRest bytes × ReadsToEnd before after bytes
+IsRestFault before after Damaged = (words : List ℕ) × (sum : ℕ) × IsDamaged words sum × Consumes before after (bytes_of (segment_rest sum words))
+IsRestFault before after Read = Unit {0}
+IsRestFault before after NoMemory = Unit {0}
+
+-- What was read may begin a segment of some version: no byte or a proper prefix of a first word, or a first word.
+abbrev pub MayBegin : KnownBytes → KnownBytes → Type 0
+MayBegin before after =
+    ((bytes : Bytes) × IsMagicPrefix bytes × ReadsToEnd before after bytes)
+    ⊎ ((first : ℕ) × (first % 2 ^ 56 ≡ magic % 2 ^ 56) × Consumes before after (bytes_of (first ∷ [])))
+
+-- A proper prefix of a segment, of at least one byte or of none.
+abbrev pub IsTruncated : List ℕ → Type 0
+IsTruncated bytes = IsMagicPrefix bytes ⊎ ((rest : List ℕ) × (bytes ≡ bytes_of (magic ∷ []) ++ rest) × IsTruncatedRest rest)
+
+-- The first fault in the bytes that a reader gave, from left to right.
+abbrev pub MeetsFault : KnownBytes → KnownBytes → SegmentFault → Type 0
+MeetsFault before after NotASegment =
+    ((first : ℕ) × IsForeign first × Consumes before after (bytes_of (first ∷ [])))
+    ⊎ ((bytes : Bytes) × IsNoMagicPrefix bytes × ReadsToEnd before after bytes)
+MeetsFault before after OtherVersion = (first : ℕ) × IsOtherVersion first × Consumes before after (bytes_of (first ∷ []))
+MeetsFault before after CutShort = (bytes : Bytes) × (0 < length bytes) × IsTruncated bytes × ReadsToEnd before after bytes
+MeetsFault before after Damaged = (words : List ℕ) × (sum : ℕ) × IsDamaged words sum × Consumes before after (bytes_of (magic ∷ segment_rest sum words))
+MeetsFault before after Read = Unit {0}
+MeetsFault before after NoMemory = Unit {0}

@@ -1,0 +1,100 @@
+-- What the commands over a saved index leave in the output, and what they report of a fault.
+use Rattle.std.specs.Io.KnownBytes.{Keeps}
+use Rattle.std.specs.Borrow.{Bor}
+use Rattle.std.specs.List.{Contains}
+use Rattle.std.specs.Prelude.{◌≡◌, ◌⊎◌, ℕ, Bool, List, IfSome, IsOk, Result, Err, length}
+use Rattle.bsi_store.specs.Loads.{HasAdded, HasSaved, IsAddFault, IsSaveFault, LeavesReported}
+use Rattle.bsi_store.specs.declared.add.AddPaths.{AddPaths}
+use Rattle.bsi_store.specs.declared.save.SavePaths.{SavePaths}
+use Rattle.bsi_answers.specs.declared.faults.FilesFault.TheVariants.{Write}
+use Rattle.bsi_input.specs.declared.writing.WriteFault.{WriteFault}
+use Rattle.bsi_shell.specs.FaultLines.{IsLineWritten, OrNoMemory}
+use Rattle.bsi_store.specs.Asked.{HasAsked, HasShown, LeavesAnswers, LeavesShown}
+use Rattle.bsi_store.specs.Faults.{store_fault_line, IsOfFile, NamesPath}
+use Rattle.bsi_store.specs.declared.ask.AskPaths.{AskPaths}
+use Rattle.bsi_store.specs.declared.fault.StoreFault.{StoreFault}
+use Rattle.bsi_store.specs.declared.fault.StoreFault.TheVariants.{Run}
+use Rattle.bsi_syntax.specs.Bytes.{KnownBytes}
+
+-- `Is` holds of what was written to the output, which was flushed.
+pub record IsFlushed (Is : KnownBytes → KnownBytes → Type 0) (before after : KnownBytes) : Type 0 where
+  pub middle : KnownBytes
+  pub is : Is before middle
+  pub flushed : Keeps middle after
+
+-- The rows of the row files were saved.
+abbrev pub HasSavedRows : {S : Type 0} → (S → KnownBytes) → (S → KnownBytes) → SavePaths → KnownBytes → KnownBytes → Type 0
+HasSavedRows rem put paths before after = HasSaved rem put (length paths.rows.items) before after
+
+-- The rows of the row files were added to a saved index.
+abbrev pub HasAddedRows : {S : Type 0} → (S → KnownBytes) → (S → KnownBytes) → AddPaths → KnownBytes → KnownBytes → Type 0
+HasAddedRows rem put paths before after = HasAdded rem put paths.so_far (length paths.rows.items) before after
+
+-- The questions of an opened file, or those of the input, were answered over a saved index.
+abbrev pub HasAskedEither : {S : Type 0} → (S → KnownBytes) → KnownBytes → AskPaths → KnownBytes → KnownBytes → Type 0
+HasAskedEither rem input paths before after =
+    ((asked : _) × HasAsked rem paths.so_far (rem asked) before after) ⊎ HasAsked rem paths.so_far input before after
+
+-- The command was done for some paths, and the output was flushed.
+abbrev pub HasDone : {P : Type 0} → (P → KnownBytes → KnownBytes → Type 0) → KnownBytes → KnownBytes → Type 0
+HasDone {P} Is before after = (paths : P) × IsFlushed (Is paths) before after
+
+-- A run ended by this fault, or it ended well and the output could not be flushed. The line of the fault was written.
+pub record EndedByFault (run : Result (Unit {0}) StoreFault) (reported : Result (Unit {0}) WriteFault) (stderr_before stderr_after : KnownBytes) : Type 0 where
+  pub fault : StoreFault
+  pub is : (run ≡ Err fault) ⊎ (IsOk run × (fault ≡ Run Write))
+  pub line : IsLineWritten reported stderr_before stderr_after (store_fault_line fault)
+
+-- A command over a saved index failed.
+pub record HasFailedStore (Leaves : StoreFault → KnownBytes → KnownBytes → Type 0) (Done : KnownBytes → KnownBytes → Type 0)
+    (before after : KnownBytes) (reported : Result (Unit {0}) WriteFault) (stderr_before stderr_after : KnownBytes) : Type 0 where
+  -- The fault of the command.
+  pub fault : StoreFault
+  -- The bytes of the output before the flush.
+  pub middle : KnownBytes
+  -- The output has what the fault leaves; or all was done, and the output could not be flushed.
+  pub left : Leaves fault before middle ⊎ ((fault ≡ Run Write) × Done before middle)
+  -- The flush left the bytes of the output unchanged.
+  pub flushed : Keeps middle after
+  -- The line of the fault was written to stderr or, if that failed, a prefix of the line.
+  pub line : IsLineWritten reported stderr_before stderr_after (store_fault_line fault)
+
+-- What a fault of `bsi save` says about its paths and its files, and what it leaves in the output.
+pub record LeavesSave {S : Type 0} (rem put : S → KnownBytes) (paths : SavePaths) (fault : StoreFault) (before after : KnownBytes) : Type 0 where
+  pub named : NamesPath (λ named. (named ≡ paths.schema) ⊎ ((named ≡ paths.to) ⊎ Contains paths.rows.items named)) fault
+  pub partial : LeavesReported (HasSavedRows rem put paths) (IsSaveFault rem (length paths.rows.items)) fault before after
+
+-- What a fault of `bsi add` says and leaves.
+pub record LeavesAdd {S : Type 0} (rem put : S → KnownBytes) (paths : AddPaths) (fault : StoreFault) (before after : KnownBytes) : Type 0 where
+  pub named : NamesPath (λ named. (named ≡ paths.index) ⊎ Contains paths.rows.items named) fault
+  pub partial : LeavesReported (HasAddedRows rem put paths) (IsAddFault rem paths.so_far (length paths.rows.items)) fault before after
+
+-- What a fault of `bsi ask` says and leaves, for the questions of an opened file or of the input.
+pub record LeavesAsk {S : Type 0} (rem : S → KnownBytes) (input : KnownBytes) (paths : AskPaths) (fault : StoreFault) (before after : KnownBytes) : Type 0 where
+  pub named : NamesPath (λ named. (named ≡ paths.index) ⊎ IfSome paths.asks (λ asks. named ≡ asks)) fault
+  pub met : IsOfFile rem fault
+  pub partial : (after ≡ before) ⊎ (((asked : S) × LeavesAnswers rem paths.so_far (rem asked) before after fault)
+      ⊎ LeavesAnswers rem paths.so_far input before after fault)
+
+-- What a fault of `bsi show` says and leaves.
+pub record LeavesShow {S : Type 0} (rem : S → KnownBytes) (path : Bor (List ℕ)) (fault : StoreFault) (before after : KnownBytes) : Type 0 where
+  pub named : NamesPath (λ named. named ≡ path) fault
+  pub met : IsOfFile rem fault
+  pub partial : LeavesShown rem fault before after
+
+-- The command failed for some paths.
+abbrev pub HasFailedSave : {S : Type 0} → (S → KnownBytes) → (S → KnownBytes) → KnownBytes → KnownBytes → Result (Unit {0}) WriteFault → KnownBytes → KnownBytes → Type 0
+HasFailedSave rem put before after reported stderr_before stderr_after =
+    OrNoMemory ((paths : SavePaths) × HasFailedStore (LeavesSave rem put paths) (HasSavedRows rem put paths) before after reported stderr_before stderr_after) before after reported stderr_before stderr_after
+
+abbrev pub HasFailedAdd : {S : Type 0} → (S → KnownBytes) → (S → KnownBytes) → KnownBytes → KnownBytes → Result (Unit {0}) WriteFault → KnownBytes → KnownBytes → Type 0
+HasFailedAdd rem put before after reported stderr_before stderr_after =
+    OrNoMemory ((paths : AddPaths) × HasFailedStore (LeavesAdd rem put paths) (HasAddedRows rem put paths) before after reported stderr_before stderr_after) before after reported stderr_before stderr_after
+
+abbrev pub HasFailedAsk : {S : Type 0} → (S → KnownBytes) → KnownBytes → KnownBytes → KnownBytes → Result (Unit {0}) WriteFault → KnownBytes → KnownBytes → Type 0
+HasFailedAsk rem input before after reported stderr_before stderr_after =
+    OrNoMemory ((paths : AskPaths) × HasFailedStore (LeavesAsk rem input paths) (HasAskedEither rem input paths) before after reported stderr_before stderr_after) before after reported stderr_before stderr_after
+
+abbrev pub HasFailedShow : {S : Type 0} → (S → KnownBytes) → KnownBytes → KnownBytes → Result (Unit {0}) WriteFault → KnownBytes → KnownBytes → Type 0
+HasFailedShow rem before after reported stderr_before stderr_after =
+    OrNoMemory ((path : Bor (List ℕ)) × HasFailedStore (LeavesShow rem path) (HasShown rem) before after reported stderr_before stderr_after) before after reported stderr_before stderr_after

@@ -1,0 +1,113 @@
+//! Writes the line of a fault on stderr, or the usage line of a command.
+ghost use Rattle.std.specs.Prelude.{◌≡◌, ◌≤◌, ◌++◌, codes, length};
+ghost use Rattle.bsi_answers.specs.FaultTexts.{max_fault_text};
+ghost use Rattle.bsi_store.specs.Faults.{file_fault_text, store_fault_line};
+ghost use Rattle.bsi_shell.specs.FaultLines.{fault_line, usage_of, IsLineWritten};
+
+use crate::files::RunFault;
+use crate::request::Subcommand;
+use arrayvec::ArrayString;
+use bsi_files::MAX_FAULT_TEXT;
+use bsi_store::{FileFault, MAX_FILE_TEXT, StoreFault};
+use bsi_text::{WriteFault, write_bytes};
+use std::io::Write;
+
+/// The most bytes of the line of a fault that names no path.
+const MAX_LINE: usize = MAX_FAULT_TEXT + 1;
+
+/// The most bytes of what follows a path, with its line end.
+const MAX_FILE_LINE: usize = 2 + MAX_FILE_TEXT + 1;
+
+/// Writes the line of a fault whose text is this. It makes one write where the writer takes the whole line.
+pub fn write_fault<F: Write>(text: &str, stderr: &mut F) -> Result<(), WriteFault>
+    requires { length text.now ≤ max_fault_text }
+    ensures { IsLineWritten result (F.contents stderr.old) (F.contents stderr.new)
+        (text.now ++ codes "\n") }
+{
+    let mut line = ArrayString::<MAX_LINE>::new();
+    line.push_str(text);
+    line.push_str("\n");
+    write_bytes(stderr, line.as_str().as_bytes())
+}
+
+/// Writes the line of a fault.
+pub(crate) fn write_run_fault<F: Write>(
+    fault: RunFault<'_>,
+    stderr: &mut F,
+) -> Result<(), WriteFault>
+    ensures { IsLineWritten result (F.contents stderr.old) (F.contents stderr.new) (fault_line fault.entry) }
+{
+    match fault {
+        RunFault::CannotOpen(path) => write_message("bsi: cannot open ", path, "\n", stderr),
+        RunFault::Run(fault) => write_fault(fault.text().as_str(), stderr),
+    }
+}
+
+/// Writes the line of a fault of a command over a saved index.
+pub(crate) fn write_store_fault<F: Write>(
+    fault: StoreFault<'_>,
+    stderr: &mut F,
+) -> Result<(), WriteFault>
+    ensures { IsLineWritten result (F.contents stderr.old) (F.contents stderr.new) (store_fault_line fault.entry) }
+{
+    match fault {
+        StoreFault::CannotOpen(path) => write_message("bsi: cannot open ", path, "\n", stderr),
+        StoreFault::CannotWrite(path) => write_message("bsi: cannot write ", path, "\n", stderr),
+        StoreFault::Unusable(path, fault) => write_unusable_file(path, fault, stderr),
+        StoreFault::Run(fault) => write_fault(fault.text().as_str(), stderr),
+    }
+}
+
+/// Writes the line of what is wrong with the file of a path.
+fn write_unusable_file<F: Write>(
+    path: &str,
+    fault: FileFault,
+    stderr: &mut F,
+) -> Result<(), WriteFault>
+    ensures { IsLineWritten result (F.contents stderr.old) (F.contents stderr.new)
+        (codes "bsi: " ++ path.now ++ (codes ": " ++ (file_fault_text fault ++ codes "\n"))) }
+{
+    let mut reported = ArrayString::<MAX_FILE_LINE>::new();
+    reported.push_str(": ");
+    reported.push_str(fault.text().as_str());
+    reported.push_str("\n");
+    write_message("bsi: ", path, reported.as_str(), stderr)
+}
+
+/// Writes a line that has a path between two texts.
+fn write_message<F: Write>(
+    before: &str,
+    path: &str,
+    after: &str,
+    stderr: &mut F,
+) -> Result<(), WriteFault>
+    ensures { IsLineWritten result (F.contents stderr.old) (F.contents stderr.new)
+        (before.now ++ (path.now ++ after.now)) }
+{
+    write_bytes(stderr, before.as_bytes())?;
+    write_bytes(stderr, path.as_bytes())?;
+    write_bytes(stderr, after.as_bytes())
+}
+
+/// Writes the usage line of a command.
+pub(crate) fn write_usage<F: Write>(command: Subcommand, stderr: &mut F) -> Result<(), WriteFault>
+    ensures { IsLineWritten result (F.contents stderr.old) (F.contents stderr.new) (usage_of command) }
+{
+    write_bytes(stderr, usage_of(command).as_bytes())
+}
+
+/// Returns the usage line of a command. Those of `script` and `files` are one.
+fn usage_of(command: Subcommand) -> &'static str
+    ensures { result.now ≡ usage_of command }
+{
+    match command {
+        Subcommand::Script | Subcommand::Files => {
+            "usage: bsi script | bsi files --schema FILE --asks FILE CSV..\n"
+        }
+        Subcommand::Check => "usage: bsi check --schema FILE [--asks FILE] CSV..\n",
+        Subcommand::Save => "usage: bsi save [--force] --schema FILE --to FILE CSV..\n",
+        Subcommand::Add => "usage: bsi add [--so-far] FILE CSV..\n",
+        Subcommand::Ask => "usage: bsi ask [--so-far] FILE [--asks FILE]\n",
+        Subcommand::Show => "usage: bsi show FILE\n",
+    }
+}

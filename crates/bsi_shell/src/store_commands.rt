@@ -1,0 +1,159 @@
+//! Carries out the commands over a saved index: `bsi save`, `bsi add`, `bsi ask` and `bsi show`.
+ghost use Rattle.std.specs.Prelude.{◌≡◌, ◌≤◌, IfErr, IsOk, OnOk, false};
+ghost use Rattle.std.specs.Io.KnownBytes.{Keeps};
+ghost use Rattle.bsi_shell.specs.StoreRuns.{EndedByFault, HasAddedRows, HasAskedEither, HasFailedStore, HasSavedRows, IsFlushed, LeavesAdd, LeavesAsk, LeavesSave, LeavesShow};
+ghost use Rattle.bsi_shell.specs.FaultLines.{IsLineWritten};
+ghost use Rattle.bsi_store.specs.Asked.{HasShown};
+ghost use Rattle.bsi_store.specs.Faults.{store_fault_line};
+
+use crate::fault_lines::write_store_fault;
+use crate::words::CommandEnd;
+use bsi_files::{Gate, Stopping};
+use bsi_store::{
+    AddPaths, AskPaths, LockFile, SavePaths, StoreFault, add_rows, ask_input, ask_over, save_rows,
+    show_index,
+};
+use bsi_text::WriteFault;
+use std::fs::OpenFile;
+use std::io::{Read, Write};
+use std::rt::Files;
+use std::sync::Wait;
+use std::thread::Threads;
+use std::time::Clock;
+
+/// Carries out `bsi save`.
+pub(crate) fn answer_save<
+    'a,
+    R: AllocGlobal + Files<File = S> + Threads + Wait + Sync,
+    S: Read + Write + OpenFile + LockFile + Drop + Send,
+    O: Write,
+    F: Write,
+    G: Gate + Stopping + Sync,
+>(rt: &R, paths: &SavePaths<'a>, output: &mut O, stderr: &mut F, gate: &G) -> CommandEnd
+    requires { G.STOPS ≡ false }
+    ensures status { result.status ≤ 1 }
+    ensures saved { result.status ≡ 0 →
+        IsFlushed (HasSavedRows S.remaining S.contents paths.now)
+        (O.contents output.old) (O.contents output.new) }
+    ensures reported { result.status ≡ 1 →
+        HasFailedStore (LeavesSave S.remaining S.contents paths.now) (HasSavedRows S.remaining S.contents paths.now)
+        (O.contents output.old) (O.contents output.new) result.reported (F.contents stderr.old) (F.contents stderr.new) }
+    ensures stderr_unchanged { result.status ≡ 0 → F.contents stderr.new ≡ F.contents stderr.old }
+{
+    let run = save_rows(rt, paths, output, gate);
+    finish_command(run, output, stderr)
+}
+
+/// Carries out `bsi add`.
+pub(crate) fn answer_add<
+    'a,
+    R: AllocGlobal + Clock + Files<File = S> + Threads + Wait + Sync,
+    S: Read + Write + OpenFile + LockFile + Drop + Send,
+    O: Write,
+    F: Write,
+    G: Gate + Stopping + Sync,
+>(rt: &R, paths: &AddPaths<'a>, output: &mut O, stderr: &mut F, gate: &G) -> CommandEnd
+    requires { G.STOPS ≡ false }
+    ensures status { result.status ≤ 1 }
+    ensures added { result.status ≡ 0 →
+        IsFlushed (HasAddedRows S.remaining S.contents paths.now)
+        (O.contents output.old) (O.contents output.new) }
+    ensures reported { result.status ≡ 1 →
+        HasFailedStore (LeavesAdd S.remaining S.contents paths.now) (HasAddedRows S.remaining S.contents paths.now)
+        (O.contents output.old) (O.contents output.new) result.reported (F.contents stderr.old) (F.contents stderr.new) }
+    ensures stderr_unchanged { result.status ≡ 0 → F.contents stderr.new ≡ F.contents stderr.old }
+{
+    let run = add_rows(rt, paths, output, gate);
+    finish_command(run, output, stderr)
+}
+
+/// Carries out `bsi ask`.
+pub(crate) fn answer_ask<
+    'a,
+    R: AllocGlobal + Files<File = S> + Threads + Sync,
+    S: Read + LockFile + Drop,
+    I: Read + Drop,
+    O: Write,
+    F: Write,
+>(rt: &R, paths: &AskPaths<'a>, input: I, output: &mut O, stderr: &mut F) -> CommandEnd
+    ensures status { result.status ≤ 1 }
+    ensures asked { result.status ≡ 0 →
+        IsFlushed (HasAskedEither S.remaining (I.remaining input) paths.now)
+        (O.contents output.old) (O.contents output.new) }
+    ensures reported { result.status ≡ 1 →
+        HasFailedStore (LeavesAsk S.remaining (I.remaining input) paths.now)
+        (HasAskedEither S.remaining (I.remaining input) paths.now)
+        (O.contents output.old) (O.contents output.new) result.reported (F.contents stderr.old) (F.contents stderr.new) }
+    ensures stderr_unchanged { result.status ≡ 0 → F.contents stderr.new ≡ F.contents stderr.old }
+{
+    let run = ask_either(rt, paths, input, output);
+    finish_command(run, output, stderr)
+}
+
+/// Carries out `bsi show`.
+pub(crate) fn answer_show<
+    'a,
+    R: AllocGlobal + Files<File = S>,
+    S: Read + LockFile + Drop,
+    O: Write,
+    F: Write,
+>(rt: &R, path: &'a str, output: &mut O, stderr: &mut F) -> CommandEnd
+    ensures status { result.status ≤ 1 }
+    ensures shown { result.status ≡ 0 →
+        IsFlushed (HasShown S.remaining) (O.contents output.old) (O.contents output.new) }
+    ensures reported { result.status ≡ 1 →
+        HasFailedStore (LeavesShow S.remaining path.entry) (HasShown S.remaining)
+        (O.contents output.old) (O.contents output.new) result.reported (F.contents stderr.old) (F.contents stderr.new) }
+    ensures stderr_unchanged { result.status ≡ 0 → F.contents stderr.new ≡ F.contents stderr.old }
+{
+    let run = show_index(rt, path, output);
+    finish_command(run, output, stderr)
+}
+
+/// Answers the questions of the file of a path, or those of the input.
+fn ask_either<
+    'a,
+    R: AllocGlobal + Files<File = S> + Threads + Sync,
+    S: Read + LockFile + Drop,
+    I: Read + Drop,
+    O: Write,
+>(rt: &R, paths: &AskPaths<'a>, input: I, output: &mut O) -> Result<(), StoreFault<'a>>
+    ensures asked { OnOk result (HasAskedEither S.remaining (I.remaining input) paths.now
+        (O.contents output.old) (O.contents output.new)) }
+    ensures fault { IfErr result (λ fault. LeavesAsk S.remaining (I.remaining input) paths.now fault
+        (O.contents output.old) (O.contents output.new)) }
+{
+    match paths.asks {
+        Some(asks) => ask_over(rt, paths, asks, output),
+        None => ask_input(rt, paths, input, output),
+    }
+}
+
+/// Ends a command, and flushes the output. A flush that fails counts only if the command met no fault.
+fn finish_command<O: Write, F: Write>(
+    run: Result<(), StoreFault<'_>>,
+    output: &mut O,
+    stderr: &mut F,
+) -> CommandEnd
+    ensures status { result.status ≤ 1 }
+    ensures ok { result.status ≡ 0 → IsOk run.entry }
+    ensures flushed { Keeps (O.contents output.old) (O.contents output.new) }
+    ensures reported { result.status ≡ 1 →
+        EndedByFault run.entry result.reported (F.contents stderr.old) (F.contents stderr.new) }
+    ensures stderr_unchanged { result.status ≡ 0 → F.contents stderr.new ≡ F.contents stderr.old }
+{
+    let flushed = output.flush();
+    match run {
+        Err(fault) => fail(fault, stderr),
+        Ok(()) if flushed.is_err() => fail(StoreFault::from(WriteFault), stderr),
+        Ok(()) => CommandEnd::by(0, Ok(())),
+    }
+}
+
+/// Ends a command by a fault, and writes its line.
+fn fail<F: Write>(fault: StoreFault<'_>, stderr: &mut F) -> CommandEnd
+    ensures status { result.status ≡ 1 }
+    ensures line { IsLineWritten result.reported (F.contents stderr.old) (F.contents stderr.new) (store_fault_line fault.entry) }
+{
+    CommandEnd::by(1, write_store_fault(fault, stderr))
+}

@@ -1,9 +1,0 @@
-use Rattle.std.proofs.Common.{◌+◌, ◌*◌}
-use Rattle.bsi_slices.specs.Slices.{number}
-use Rattle.bsi_slices.specs.Spans.{IsKept}
-use Rattle.bsi_slices.specs.Decisions.{passes}
-use Rattle.bsi_slices.proofs.slices.compare.keep_spans.Given as goal
-
--- the spans so far are kept
-abbrev pub invariant-span : goal.invariant-span
-invariant-span g l = IsKept (λ r. passes l.test (number l.slices (64 * l.start + r))) l.from (l.from + g.row.N * l.k) l.fn.words l.words

@@ -1,0 +1,178 @@
+//! Reads an index from a reader, segment by segment.
+
+ghost use Rattle.std.specs.Prelude.{◌≡◌, [], ℕ, List, Option, false, true, IfErr, IfNone, IfOk, IfSome, OnErr, length};
+ghost use Rattle.std.specs.Io.KnownBytes.{Consumes};
+ghost use Rattle.bsi_rows.specs.Table.{Table};
+ghost use Rattle.bsi_table.specs.Index.{table_of};
+ghost use Rattle.bsi_segments.specs.Segments.{ReadsToEnd};
+ghost use Rattle.bsi_storage.specs.Faults.{AcceptsRowsOf, EndsBy, HasReadTable, IsFirstSegmentFault, IsNextSegmentFault, IsOpened};
+ghost use Rattle.bsi_storage.specs.Saved.{table_segment, MayBeSaved};
+
+use crate::decoding::{Part, decode_part};
+use crate::{NoMemory, OpenFault};
+use bsi_segments::read_segment;
+use bsi_table::{AppendError, Index};
+use std::alloc::Global;
+use std::io::Read;
+
+/// An index that was opened.
+#[derive(Drop)]
+pub struct LoadedIndex {
+    /// The rows of all segments that were read as a whole.
+    pub index: Index,
+    /// The notes of the last of them.
+    pub notes: Vec<u8>,
+    /// How many bytes these segments take.
+    pub bytes: u64,
+    /// Why no more were read, if the file did not end there.
+    pub fault: Option<OpenFault>,
+}
+
+/// What was opened so far.
+#[derive(Drop)]
+struct LoadedSoFar {
+    index: Index,
+    notes: Vec<u8>,
+    bytes: u64,
+}
+
+impl LoadedSoFar {
+    /// Ends here, by a fault or where the file does.
+    fn ended(self, fault: Option<OpenFault>) -> LoadedIndex
+        ensures index { result.index ≡ self.index }
+        ensures notes { result.notes ≡ self.notes }
+        ensures bytes { result.bytes ≡ self.bytes }
+        ensures fault { result.fault ≡ fault }
+    {
+        let LoadedSoFar {
+            index,
+            notes,
+            bytes,
+        } = self;
+        LoadedIndex {
+            index,
+            notes,
+            bytes,
+            fault,
+        }
+    }
+}
+
+/// A segment that was read, and how many bytes it takes.
+#[derive(Drop)]
+struct SegmentRead {
+    part: Part,
+    bytes: u64,
+}
+
+/// Opens the index that a reader gives, as `write_index` wrote them: the rows of all segments, in their order. If the
+/// bytes are no index from some byte on, the whole segments before it are opened, and `fault` says what was met. It is
+/// an error if that is not even one segment. Beside the index it has in memory the words of one segment, and the index
+/// of a further one until it is joined.
+pub fn read_index<R: Read>(alloc: Global, reader: &mut R) -> Result<LoadedIndex, OpenFault>
+    ensures opened { IfOk result (λ opened.
+        IsOpened (R.remaining reader.old) (R.remaining reader.new)
+        (table_of opened.index) opened.notes.items opened.bytes opened.fault) }
+    ensures fault { IfErr result
+        (IsFirstSegmentFault (R.remaining reader.old) (R.remaining reader.new)) }
+{
+    let mut whole = read_first(alloc, reader)?;
+    // No file has so many segments. The bound lets the proof see that the loop ends.
+    'segments: for _ in 0..u64::MAX {
+        match read_next(alloc, reader, &mut whole) {
+            Ok(true) => {}
+            Ok(false) => return Ok(whole.ended(None)),
+            Err(fault) => return Ok(whole.ended(Some(fault))),
+        }
+    }
+    Ok(whole.ended(Some(OpenFault::Read)))
+}
+
+/// Reads the first segment.
+fn read_first<R: Read>(alloc: Global, reader: &mut R) -> Result<LoadedSoFar, OpenFault>
+    ensures read { IfOk result (λ whole. HasReadTable (R.remaining reader.old) (R.remaining reader.new)
+        (table_of whole.index) whole.notes.items whole.bytes) }
+    ensures fault { IfErr result
+        (IsFirstSegmentFault (R.remaining reader.old) (R.remaining reader.new)) }
+{
+    let Some(SegmentRead { part, bytes }) = read_part(alloc, reader)? else {
+        return Err(OpenFault::NotAnIndex);
+    };
+    let Part { index, notes } = part;
+    Ok(LoadedSoFar {
+        index,
+        notes,
+        bytes,
+    })
+}
+
+/// Reads a further segment and appends its rows. It returns false where the reader has ended.
+fn read_next<R: Read>(
+    alloc: Global,
+    reader: &mut R,
+    whole: &mut LoadedSoFar,
+) -> Result<bool, OpenFault>
+    ensures more { IfOk result (λ more. more ≡ true → (before : Option (List ℕ)) →
+        HasReadTable before (R.remaining reader.old)
+        (table_of whole.old.index) whole.old.notes.items whole.old.bytes →
+        HasReadTable before (R.remaining reader.new)
+        (table_of whole.new.index) whole.new.notes.items whole.new.bytes) }
+    ensures ended { IfOk result (λ more. more ≡ false →
+        ReadsToEnd (R.remaining reader.old) (R.remaining reader.new) []) }
+    ensures fault { IfErr result (IsNextSegmentFault (AcceptsRowsOf (table_of whole.old.index))
+        (R.remaining reader.old) (R.remaining reader.new)) }
+    ensures same { IfOk result (λ more. more ≡ false → whole.new ≡ whole.old) }
+    ensures unchanged { OnErr result (whole.new ≡ whole.old) }
+{
+    let Some(SegmentRead { part, bytes }) = read_part(alloc, reader)? else {
+        return Ok(false);
+    };
+    if !accepts_rows_of(&whole.index, &part.index) {
+        return Err(OpenFault::Damaged);
+    }
+    let Some(bytes) = whole.bytes.checked_add(bytes) else {
+        return Err(OpenFault::Read);
+    };
+    // The rows were counted, so only memory can be refused.
+    if whole.index.append_index(&part.index).is_err() {
+        return Err(OpenFault::NoMemory);
+    }
+    whole.notes = part.notes;
+    whole.bytes = bytes;
+    Ok(true)
+}
+
+/// Returns whether the rows of an index may be added to those of another.
+pub fn accepts_rows_of(first: &Index, more: &Index) -> bool
+    ensures yes { result ≡ true → AcceptsRowsOf (table_of first.now) (table_of more.now) }
+    ensures no { result ≡ false → AcceptsRowsOf (table_of first.now) (table_of more.now) → ⊥ }
+{
+    first.feeders() == more.feeders()
+        && first.limit() == more.limit()
+        && more.len() <= first.limit() - first.len()
+        && first.schema().is_same(more.schema())
+}
+
+/// Reads a segment, or none where the reader has ended.
+fn read_part<R: Read>(alloc: Global, reader: &mut R) -> Result<Option<SegmentRead>, OpenFault>
+    ensures read { IfOk result (λ next. IfSome next (λ read.
+        Consumes (R.remaining reader.old) (R.remaining reader.new)
+        (table_segment (table_of read.part.index) read.part.notes.items))) }
+    ensures valid { IfOk result (λ next. IfSome next (λ read.
+        MayBeSaved (table_of read.part.index) read.part.notes.items)) }
+    ensures bytes { IfOk result (λ next. IfSome next (λ read.
+        read.bytes ≡ length (table_segment (table_of read.part.index) read.part.notes.items))) }
+    ensures ended { IfOk result (λ next. IfNone next
+        (ReadsToEnd (R.remaining reader.old) (R.remaining reader.new) [])) }
+    ensures fault { IfErr result
+        (IsNextSegmentFault (λ t. Unit {0}) (R.remaining reader.old) (R.remaining reader.new)) }
+{
+    let Some(words) = read_segment(alloc, reader)? else {
+        return Ok(None);
+    };
+    let Some(part) = decode_part(alloc, &words)? else {
+        return Err(OpenFault::Damaged);
+    };
+    let bytes = 8 * (words.len() as u64 + 3);
+    Ok(Some(SegmentRead { part, bytes }))
+}

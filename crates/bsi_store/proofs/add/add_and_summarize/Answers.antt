@@ -1,0 +1,95 @@
+use Rattle.std.proofs.Common.{◌≡◌, ℕ, List, ap, inl, inr, length, map, rules, subst, sym, ◌∙◌}
+use Rattle.std.specs.Io.KnownBytes.{Appends}
+use Rattle.std.specs.Prelude.{IfErr}
+use Rattle.bsi_answers.proofs.Passing.{if_err}
+use Rattle.bsi_answers.specs.RowFiles.{fed_counts}
+use Rattle.bsi_answers.specs.Runs.{HasLoaded}
+use Rattle.bsi_storage.specs.Faults.{AcceptsRowsOf}
+use Rattle.bsi_storage.specs.Saved.{table_segment, MayBeSaved}
+use Rattle.bsi_schema.specs.Columns.{Declared}
+use Rattle.bsi_store.specs.declared.fault.StoreFault.{StoreFault}
+use Rattle.bsi_store.specs.Loads.{IsAddFault, IsReadOf}
+use Rattle.bsi_store.proofs.Failing.{not_loaded}
+use Rattle.bsi_store.proofs.add.add_and_summarize.Goals as goal
+use Rattle.bsi_table.specs.Index.{table_of}
+
+pub append_segment-requires : goal.append_segment-requires
+append_segment-requires g c = c.in_ok-saved-2.ensures.few c.in_ok-saved.ensures.few
+
+pub returns-clause-added : goal.returns-clause-added
+returns-clause-added g c = λ before after reported.
+    let first = c.in_ok-saved.saved in
+    let saved = c.in_ok-saved-2.saved in
+    let more = c.in_ok-more.more in
+    let counts = map fed_counts more.fed.items in
+    let table = table_of more.table in
+    let read : IsReadOf g.S.Read.remaining c.args.paths.now.so_far (table_of saved.index) saved.notes.items (g.S.Read.remaining c.reread_if_changed.new.file) =
+    c.in_ok-saved-2.ensures.read c.in_ok-saved.ensures.read in
+    let follows : AcceptsRowsOf (table_of saved.index) table = c.in_ok-check_rows_fit.ensures.follows in
+    let schema_is : first.index.schema ≡ saved.index.schema = sym c.in_ok-more.ensures.schema ∙ follows.schema in
+    let limit_is : first.index.limit ≡ saved.index.limit = sym c.in_ok-more.ensures.limit ∙ follows.limit in
+    record {
+      saved = table_of saved.index;
+      opened = read.saved;
+      ours = read.ours;
+      more = table;
+      feeders_are = follows.feeders;
+      within = follows.within;
+      added = record {
+        files = c.in_ok-rows.rows.items;
+        many = c.in_ok-rows.ensures.many ∙ ap length c.deref.ensures.value;
+        counts = counts;
+        schema_is = follows.schema;
+        limit_is = follows.limit;
+        loaded = λ texts are. subst (λ (n : ℕ). HasLoaded saved.index.schema n texts table.rows counts) limit_is
+            (subst (λ (s : Declared). HasLoaded s first.index.limit texts table.rows counts) schema_is (c.in_ok-more.ensures.rows texts are));
+        old = c.reread_if_changed.new.file;
+        new = c.append_segment.new.file;
+        valid = subst (λ (notes : List ℕ). MayBeSaved table notes) (sym read.notes_are) c.in_ok-append_segment.ensures.valid;
+        appended = subst (λ (notes : List ℕ). Appends (g.S.Write.contents c.reread_if_changed.new.file) (g.S.Write.contents c.append_segment.new.file) (table_segment table notes))
+            (sym read.notes_are) c.in_ok-append_segment.ensures.appended;
+        lines = subst (λ (bytes : List ℕ). Appends before after bytes) c.in_ok-text.ensures reported;
+      };
+      same = sym read.left_is;
+    }
+
+-- the rows were not loaded
+pub returns-in_err-more-clause-fault : goal.returns-in_err-more-clause-fault
+returns-in_err-more-clause-fault g c =
+    let rem = g.S.Read.remaining in
+    let so_far = c.args.paths.now.so_far in
+    let reported = c.in_err-more.field-0.0 in
+    let many : length c.in_ok-rows.rows.items ≡ length c.args.paths.now.rows.items = c.in_ok-rows.ensures.many ∙ ap length c.deref.ensures.value in
+    let failed : IsAddFault rem so_far (length c.args.paths.now.rows.items) reported = subst (λ (n : ℕ). IsAddFault rem so_far n reported) many
+    (not_loaded rem so_far (table_of c.in_ok-saved.saved.index) c.in_ok-saved.ensures.read.saved c.in_ok-rows.rows.items c.args.paths.now.index reported c.in_err-more.ensures.fault) in
+    let met : IfErr c.from_residual-in_err-more.result (λ (fault : StoreFault). fault ≡ reported) = search rules in
+    if_err c.from_residual-in_err-more.result (λ fault is. subst (IsAddFault rem so_far (length c.args.paths.now.rows.items)) (sym is) failed) met
+
+-- or, with those that are saved, they pass the limit
+pub returns-in_err-check_rows_fit-clause-fault : goal.returns-in_err-check_rows_fit-clause-fault
+returns-in_err-check_rows_fit-clause-fault g c =
+    let rem = g.S.Read.remaining in
+    let so_far = c.args.paths.now.so_far in
+    let reported = c.in_err-check_rows_fit.field-0.0 in
+    let saved = c.in_ok-saved-2.saved in
+    let read : IsReadOf rem so_far (table_of saved.index) saved.notes.items (rem c.reread_if_changed.new.file) = c.in_ok-saved-2.ensures.read c.in_ok-saved.ensures.read in
+    let failed : IsAddFault rem so_far (length c.args.paths.now.rows.items) reported = elim c.in_err-check_rows_fit.ensures.fault [
+      | inl none ↦ inl (inl none)
+      | inr past ↦ inr (inr (inl (
+        past.0,
+        record {
+          first = table_of c.in_ok-saved.saved.index;
+          opened = c.in_ok-saved.ensures.read.saved;
+          files = c.in_ok-rows.rows.items;
+          many = c.in_ok-rows.ensures.many ∙ ap length c.deref.ensures.value;
+          rows = c.in_ok-more.more.table.rows;
+          counts = map fed_counts c.in_ok-more.more.fed.items;
+          loaded = c.in_ok-more.ensures.rows;
+          saved = table_of saved.index;
+          read = read.saved;
+          past = past.1;
+        },
+      )))
+    ] in
+    let met : IfErr c.from_residual-in_err-check_rows_fit.result (λ (fault : StoreFault). fault ≡ reported) = search rules in
+    if_err c.from_residual-in_err-check_rows_fit.result (λ fault is. subst (IsAddFault rem so_far (length c.args.paths.now.rows.items)) (sym is) failed) met

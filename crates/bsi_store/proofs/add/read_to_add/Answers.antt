@@ -1,0 +1,30 @@
+use Rattle.std.proofs.Common.{◌≡◌, Some, arith, refl, rules}
+use Rattle.bsi_storage.specs.declared.fault.OpenFault.TheVariants.{OtherVersion}
+use Rattle.bsi_store.proofs.Notes.{notes_few}
+use Rattle.bsi_store.proofs.add.read_to_add.Goals as goal
+use Rattle.bsi_table.specs.Index.{table_of}
+
+pub returns-in_default-clause-few : goal.returns-in_default-clause-few
+returns-in_default-clause-few g c =
+    let saved = c.in_ok-saved.saved in
+    let opened = c.in_ok-saved.ensures.opened in
+    notes_few (g.S.Read.remaining c.args.file.now) opened.middle (table_of saved.index) saved.notes.items saved.bytes opened.read
+
+pub returns-in_default-clause-read : goal.returns-in_default-clause-read
+returns-in_default-clause-read g c =
+    let saved = c.in_ok-saved.saved in
+    record {
+      saved = record {
+        file = c.args.file.now;
+        after = g.S.Read.remaining c.read_saved.new.file;
+        notes = saved.notes.items;
+        size = saved.bytes;
+        fault = saved.fault;
+        opened = c.in_ok-saved.ensures.opened;
+        known = c.in_ok-saved.ensures.known;
+        whole = c.in_ok-saved.ensures.whole;
+      };
+      notes_are = refl;
+      left_is = refl;
+      ours = λ is. first_of (cc is, search (rules, is), grind (arith, is));
+    }

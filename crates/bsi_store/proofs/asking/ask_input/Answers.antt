@@ -1,9 +1,0 @@
-use Rattle.bsi_store.proofs.asking.ask_input.Goals as goal
-use Rattle.bsi_table.specs.Index.{table_of}
-
-pub returns-clause-asked : goal.returns-clause-asked
-returns-clause-asked g c = record {
-  table = table_of c.in_ok-opened.opened.index;
-  kept = c.in_ok-opened.ensures.kept;
-  answered = c.in_ok-answer_asks.ensures.ok;
-}

@@ -1,0 +1,206 @@
+-- What `bsi save` and `bsi add` write to the index file and report (`HasSaved`, `HasAdded`), and their faults.
+use Rattle.std.specs.Borrow.{Bor}
+use Rattle.std.specs.Prelude.{◌≡◌, ◌≢◌, ◌⊎◌, ◌+◌, ◌<◌, ◌≤◌, ◌++◌, ℕ, Bool, false, List, [], Some, IfSome, codes, length, map}
+use Rattle.std.specs.Io.KnownBytes.{Appends}
+use Rattle.std.specs.List.{concat}
+use Rattle.bsi_rows.specs.Rows.{SourcedRow}
+use Rattle.bsi_rows.specs.Table.{max_feeders, Table}
+use Rattle.bsi_schema.specs.Columns.{Declared}
+use Rattle.bsi_answers.specs.RowFiles.{FedCounts}
+use Rattle.bsi_answers.specs.Runs.{fed_lines, HasLoaded}
+use Rattle.bsi_answers.specs.Writing.{WhereFilesKnown}
+use Rattle.bsi_answers.specs.declared.faults.FilesFault.{FilesFault}
+use Rattle.bsi_answers.specs.declared.faults.FilesFault.TheVariants.{IndexFull, NoMemory, TooManyFiles, Write}
+use Rattle.bsi_files.specs.RunFaults.{IsFaultOf, IsFaultOver}
+use Rattle.bsi_input.specs.SchemaTexts.{IsSchemaText}
+use Rattle.bsi_input.specs.Waiting.{AppendsPrefix}
+use Rattle.bsi_storage.specs.Saved.{table_segment, MayBeSaved}
+use Rattle.bsi_storage.specs.declared.fault.OpenFault.TheVariants.{OtherVersion}
+use Rattle.bsi_store.specs.Asked.{IsSavedIn}
+use Rattle.bsi_store.specs.Faults.{IsFileFault}
+use Rattle.bsi_store.specs.declared.fault.FileFault.TheVariants as file
+use Rattle.bsi_store.specs.declared.fault.FileFault.TheVariants.{InUse}
+use Rattle.bsi_store.specs.declared.fault.StoreFault.{StoreFault}
+use Rattle.bsi_store.specs.declared.fault.StoreFault.TheVariants.{Run, Unusable}
+use Rattle.bsi_store.specs.Lines.{number_line}
+use Rattle.bsi_syntax.specs.Bytes.{Bytes, KnownBytes}
+
+-- The summary of a load: the line of each row file, and the number of rows after this word.
+abbrev pub loaded_lines : List ℕ → List FedCounts → ℕ → List ℕ
+loaded_lines word counts number = concat (fed_lines 0 counts) ++ number_line word number
+
+-- The rows of some files were written to an index file, as one segment.
+pub record WroteSegment {S : Type 0} (rem put : S → KnownBytes) (count : ℕ) (word : List ℕ) (schema : Declared) (limit : ℕ)
+    (notes : Bytes) (table : Table) (before after : KnownBytes) : Type 0 where
+  -- The row files that were opened.
+  pub files : List S
+  -- There are `count` row files.
+  pub many : length files ≡ count
+  -- The numbers of accepted rows and of bad records of each file.
+  pub counts : List FedCounts
+  -- The table has the schema.
+  pub schema_is : table.schema ≡ schema
+  -- The table has the limit.
+  pub limit_is : table.limit ≡ limit
+  -- If the bytes of the row files are known, the table has exactly their good rows, which are counted.
+  pub loaded : (texts : List Bytes) → map rem files ≡ map Some texts → HasLoaded schema limit texts table.rows counts
+  -- The index file before the write.
+  pub old : S
+  -- The index file after the write.
+  pub new : S
+  -- An index may have this table, and these notes.
+  pub valid : MayBeSaved table notes
+  -- The index file is the old one, followed by the segment of the table.
+  pub appended : Appends (put old) (put new) (table_segment table notes)
+  -- The summary was written to the output.
+  pub lines : Appends before after (loaded_lines word counts (length table.rows))
+
+-- A new index was saved.
+pub record HasSaved {S : Type 0} (rem put : S → KnownBytes) (count : ℕ) (before after : KnownBytes) : Type 0 where
+  -- The schema file that was read.
+  pub schema_file : S
+  -- The table that was saved.
+  pub table : Table
+  -- The schema file declares the schema and the limit of the table.
+  pub declared : IfSome (rem schema_file) (λ bytes. IsSchemaText bytes table.schema table.limit)
+  -- The table has a feeder for each row file.
+  pub feeders_are : table.feeders ≡ count
+  -- The table was written as one segment, without notes, and is reported under the word `saved`.
+  pub saved : WroteSegment rem put count (codes "saved") table.schema table.limit [] table before after
+
+-- A saved index was read.
+pub record IsReadOf {S : Type 0} (rem : S → KnownBytes) (so_far : Bool) (t : Table) (notes : Bytes) (left : KnownBytes) : Type 0 where
+  -- The table was opened from a file.
+  pub saved : IsSavedIn rem so_far t
+  -- The notes are those of the file.
+  pub notes_are : saved.notes ≡ notes
+  -- `left` is what is left of the file.
+  pub left_is : saved.after ≡ left
+  -- No segment of another version follows.
+  pub ours : saved.fault ≢ Some OtherVersion
+
+-- Rows were added to a saved index.
+pub record HasAdded {S : Type 0} (rem put : S → KnownBytes) (so_far : Bool) (count : ℕ) (before after : KnownBytes)
+    : Type 0 where
+  -- The table of the index file.
+  pub saved : Table
+  -- The table was opened from the index file.
+  pub opened : IsSavedIn rem so_far saved
+  -- No segment of another version follows.
+  pub ours : opened.fault ≢ Some OtherVersion
+  -- The table of the rows to add.
+  pub more : Table
+  -- Both tables have the same number of feeders.
+  pub feeders_are : more.feeders ≡ saved.feeders
+  -- The rows of both tables together are within the limit of the saved table.
+  pub within : length saved.rows + length more.rows ≤ saved.limit
+  -- The rows were written as one segment, with the notes of the file, and reported under the word `added`.
+  pub added : WroteSegment rem put count (codes "added") saved.schema saved.limit opened.notes more before after
+  -- The file that was written to had left what the read left of the index file.
+  pub same : rem added.old ≡ opened.after
+
+-- A fault that says nothing about the bytes of a file.
+abbrev pub IsNotAboutBytes : StoreFault → Type 0
+IsNotAboutBytes (Unusable path InUse) = Unit {0}
+IsNotAboutBytes (Unusable path why) = ⊥
+IsNotAboutBytes (Run NoMemory) = Unit {0}
+IsNotAboutBytes (Run fault) = ⊥
+IsNotAboutBytes fault = Unit {0}
+
+-- If the fault says something about the bytes of a file, a file with this fault was opened.
+abbrev pub IsMet : {S : Type 0} → (S → KnownBytes) → StoreFault → Type 0
+IsMet {S} rem fault = IsNotAboutBytes fault ⊎ ((path : Bor (List ℕ)) × (file : S) × IsFileFault path (rem file) fault)
+
+-- ---- of saving
+
+-- Row files could not be loaded by a schema file.
+pub record HasFailedRun {S : Type 0} (rem : S → KnownBytes) (count : ℕ) (fault : FilesFault) : Type 0 where
+  -- The schema file.
+  pub schema : S
+  -- The row files.
+  pub files : List S
+  -- There are `count` row files.
+  pub many : length files ≡ count
+  -- `TooManyFiles` is answered for more than 64 files.
+  pub past : fault ≡ TooManyFiles → max_feeders < count
+  -- The files have the fault, as far as their bytes are known.
+  pub met : WhereFilesKnown (rem schema) (map rem files) (λ declared texts. IsFaultOf false declared texts fault)
+  -- The fault is not one of writing to the output.
+  pub unwritten : fault ≢ Write
+
+-- The fault of a command that saves no rows.
+abbrev pub IsSaveFault : {S : Type 0} → (S → KnownBytes) → ℕ → StoreFault → Type 0
+IsSaveFault rem count fault = IsMet rem fault ⊎ ((run : FilesFault) × (fault ≡ Run run) × HasFailedRun rem count run)
+
+-- ---- of adding
+
+-- The saved table has fewer feeders than there are row files.
+abbrev pub IsTooMany : {S : Type 0} → (S → KnownBytes) → Bool → ℕ → StoreFault → Type 0
+IsTooMany rem so_far count fault =
+    (path : Bor (List ℕ)) × (saved : Table) × IsSavedIn rem so_far saved × (saved.feeders < count)
+    × (fault ≡ Unusable path (file.TooManyFiles saved.feeders))
+
+-- Row files have this fault, as far as their bytes are known, when they are loaded by this schema and limit.
+pub record IsRowFilesFault (schema : Declared) (limit : ℕ) (files : List KnownBytes) (fault : FilesFault) : Type 0 where
+  pub few : fault ≢ TooManyFiles
+  pub met : IsFaultOver false schema limit files fault
+  pub unwritten : fault ≢ Write
+
+-- The fault of the command is that of the row files.
+abbrev pub IsRunFaultOver : Declared → ℕ → List KnownBytes → StoreFault → Type 0
+IsRunFaultOver schema limit files fault = (run : FilesFault) × (fault ≡ Run run) × IsRowFilesFault schema limit files run
+
+-- Row files could not be loaded by the schema of a saved table.
+pub record HasFailedLoad {S : Type 0} (rem : S → KnownBytes) (so_far : Bool) (count : ℕ) (fault : StoreFault) : Type 0 where
+  -- The saved table.
+  pub saved : Table
+  -- The table was opened from an index file.
+  pub opened : IsSavedIn rem so_far saved
+  -- The row files.
+  pub files : List S
+  -- There are `count` row files.
+  pub many : length files ≡ count
+  -- The fault is that of the row files, loaded by the schema and limit of the saved table.
+  pub reported : IsRunFaultOver saved.schema saved.limit (map rem files) fault
+
+-- Row files were loaded by the schema of a saved table, and their rows exceed the limit of a saved table.
+pub record ExceedLimit {S : Type 0} (rem : S → KnownBytes) (so_far : Bool) (count : ℕ) : Type 0 where
+  -- The table whose schema and limit were used.
+  pub first : Table
+  -- The table whose schema was used was opened from an index file.
+  pub opened : IsSavedIn rem so_far first
+  -- The row files.
+  pub files : List S
+  -- There are `count` row files.
+  pub many : length files ≡ count
+  -- The rows of the files.
+  pub rows : List SourcedRow
+  -- The numbers of accepted rows and of bad records of each file.
+  pub counts : List FedCounts
+  -- If the bytes of the files are known, the rows are exactly their good rows.
+  pub loaded : (texts : List Bytes) → map rem files ≡ map Some texts → HasLoaded first.schema first.limit texts rows counts
+  -- The table that the rows were to be added to.
+  pub saved : Table
+  -- The table to add to was opened from an index file.
+  pub read : IsSavedIn rem so_far saved
+  -- The rows of the table to add to, and of the files, exceed the limit of that table.
+  pub past : saved.limit < length saved.rows + length rows
+
+-- The fault of a command that adds no rows.
+abbrev pub IsAddFault : {S : Type 0} → (S → KnownBytes) → Bool → ℕ → StoreFault → Type 0
+IsAddFault rem so_far count fault =
+    IsMet rem fault ⊎ (IsTooMany rem so_far count fault ⊎ (((fault ≡ Run IndexFull) × ExceedLimit rem so_far count)
+    ⊎ HasFailedLoad rem so_far count fault))
+
+-- ---- what is reported
+
+-- The text reports on something that happened: where it is written, it did happen.
+abbrev pub ReportsOn : (KnownBytes → KnownBytes → Type 0) → List ℕ → Type 0
+ReportsOn Happened text = (before after : KnownBytes) → Appends before after text → Happened before after
+
+-- What a fault leaves of an output: nothing, with such a fault; or all happened, and the output has a prefix of the
+-- report.
+abbrev pub LeavesReported : (KnownBytes → KnownBytes → Type 0) → (StoreFault → Type 0) → StoreFault → KnownBytes → KnownBytes
+    → Type 0
+LeavesReported Happened Is fault before after =
+    (Is fault × (after ≡ before)) ⊎ ((fault ≡ Run Write) × (text : Bytes) × ReportsOn Happened text × AppendsPrefix before after text)

@@ -1,0 +1,243 @@
+//! Adds the rows of row files to a saved index.
+
+ghost use Rattle.std.specs.Prelude.{◌≡◌, ◌+◌, ◌<◌, ◌≤◌, ◌⊎◌, IfErr, IfOk, List, OnOk, Some, false, length, map, ℕ};
+ghost use Rattle.std.specs.Io.KnownBytes.{Appends};
+ghost use Rattle.bsi_answers.specs.RowFiles.{fed_counts};
+ghost use Rattle.bsi_answers.specs.Runs.{HasLoaded};
+ghost use Rattle.bsi_rows.specs.Table.{max_feeders, no_rows, with_rows};
+ghost use Rattle.bsi_storage.specs.Faults.{AcceptsRowsOf};
+ghost use Rattle.bsi_storage.specs.Saved.{max_notes, table_segment, MayBeSaved};
+ghost use Rattle.bsi_store.specs.Loads.{HasAdded, IsAddFault, IsMet, IsNotAboutBytes, IsReadOf, IsRunFaultOver, LeavesReported, ReportsOn};
+ghost use Rattle.std.specs.List.{Contains};
+ghost use Rattle.bsi_store.specs.Faults.{IsFileFault, NamesPath};
+ghost use Rattle.bsi_table.specs.Index.{table_of};
+
+use crate::add_file::{lock_to_add, open_each, open_to_add};
+use crate::summary::summary_lines;
+use crate::{FileFault, LockFile, StoreFault, read_saved};
+use bsi_files::{FilesFault, Gate, Loaded, Stopping, load_files};
+use bsi_input::write_bytes;
+use bsi_storage::{LoadedIndex, OpenFault, accepts_rows_of, write_index};
+use bsi_table::{Index, NoMemory};
+use std::alloc::Global;
+use std::fs::OpenFile;
+use std::io::{Read, Write};
+use std::rt::Files;
+use std::sync::Wait;
+use std::thread::Threads;
+use std::time::Clock;
+
+/// The paths of rows that are added to a saved index, each as it was written.
+#[derive(Drop)]
+pub struct AddPaths<'a> {
+    /// The file of the index.
+    pub index: &'a str,
+    /// The row files.
+    pub rows: Vec<&'a str>,
+    /// Whether rows are added behind the whole segments before a fault of the file. What follows them is cut off.
+    pub so_far: bool,
+    ghost some: { 0 < length rows.items },
+}
+
+/// Loads row files as a run over files does, by the schema of a saved index, and adds their rows to its file. Row file
+/// k is feeder k. It writes the line of each file, and how many rows were added. After a fault the file has the rows
+/// that it had, unless only these lines could not be written: then the rows are added.
+pub fn add_rows<
+    'a,
+    R: AllocGlobal + Clock + Files<File = S> + Threads + Wait + Sync,
+    S: Read + Write + OpenFile + LockFile + Drop + Send,
+    O: Write,
+    G: Gate + Stopping + Sync,
+>(rt: &R, paths: &AddPaths<'a>, output: &mut O, gate: &G) -> Result<(), StoreFault<'a>>
+    requires { G.STOPS ≡ false }
+    ensures added { OnOk result (HasAdded S.remaining S.contents paths.now.so_far
+        (length paths.now.rows.items) (O.contents output.old) (O.contents output.new)) }
+    ensures named { IfErr result
+        (NamesPath (λ named. (named ≡ paths.now.index) ⊎ Contains paths.now.rows.items named)) }
+    ensures prefix { IfErr result (λ fault. LeavesReported
+        (HasAdded S.remaining S.contents paths.now.so_far (length paths.now.rows.items))
+        (IsAddFault S.remaining paths.now.so_far (length paths.now.rows.items)) fault
+        (O.contents output.old) (O.contents output.new)) }
+{
+    let text = add_and_summarize(rt, paths, gate)?;
+    write_bytes(output, text.as_slice())?;
+    Ok(())
+}
+
+/// Adds rows as `add_rows` does, and returns its summary.
+fn add_and_summarize<
+    'a,
+    R: AllocGlobal + Clock + Files<File = S> + Threads + Wait + Sync,
+    S: Read + Write + OpenFile + LockFile + Drop + Send,
+    G: Gate + Stopping + Sync,
+>(rt: &R, paths: &AddPaths<'a>, gate: &G) -> Result<Vec<u8>, StoreFault<'a>>
+    requires { G.STOPS ≡ false }
+    ensures added { IfOk result (λ text. ReportsOn (HasAdded S.remaining S.contents
+        paths.now.so_far (length paths.now.rows.items)) text.items) }
+    ensures fault { IfErr result
+        (IsAddFault S.remaining paths.now.so_far (length paths.now.rows.items)) }
+    ensures named { IfErr result
+        (NamesPath (λ named. (named ≡ paths.now.index) ⊎ Contains paths.now.rows.items named)) }
+{
+    let mut file = open_to_add(rt, paths.index)?;
+    let saved = read_to_add(rt.alloc(), paths.index, &mut file, paths.so_far)?;
+    // Without a lock, so that slow row files stop no other command.
+    let _ = file.unlock();
+    let rows = open_each(rt, &paths.rows)?;
+    let more = load_more(rt, paths.index, &saved.index, rows, gate)?;
+    let text = summary_lines(rt.alloc(), "added", &more)?;
+    lock_to_add(rt, paths.index, &file)?;
+    let saved = reread_if_changed(rt.alloc(), paths.index, saved, &mut file, paths.so_far)?;
+    check_rows_fit(paths.index, &saved.index, &more.table)?;
+    append_segment(rt.alloc(), paths.index, &saved, &more.table, &mut file)?;
+    Ok(text)
+}
+
+/// Reads the index of a file, as `read_saved` does. It refuses segments of another version behind it, which are never
+/// cut off.
+fn read_to_add<'a, S: Read>(
+    alloc: Global,
+    path: &'a str,
+    file: &mut S,
+    so_far: bool,
+) -> Result<LoadedIndex, StoreFault<'a>>
+    ensures read { IfOk result (λ opened. IsReadOf S.remaining so_far (table_of opened.index)
+        opened.notes.items (S.remaining file.new)) }
+    ensures few { IfOk result (λ opened. length opened.notes.items ≤ max_notes) }
+    ensures fault { IfErr result (IsFileFault path.entry (S.remaining file.old)) }
+    ensures named { IfErr result (NamesPath (λ named. named ≡ path.entry)) }
+{
+    let saved = read_saved(alloc, path, file, so_far)?;
+    match saved.fault {
+        Some(OpenFault::OtherVersion) => {
+            Err(StoreFault::Unusable(path, FileFault::OtherVersion))
+        }
+        _ => Ok(saved),
+    }
+}
+
+/// Returns what a file has once no other command can write it: what was read of it or, if it has grown since or is to
+/// be cut, what is read anew. It refuses a file that is shorter than what was read.
+fn reread_if_changed<'a, S: Read + OpenFile + LockFile>(
+    alloc: Global,
+    path: &'a str,
+    saved: LoadedIndex,
+    file: &mut S,
+    so_far: bool,
+) -> Result<LoadedIndex, StoreFault<'a>>
+    ensures read { IsReadOf S.remaining so_far (table_of saved.index) saved.notes.items (S.remaining file.old) →
+        IfOk result (λ opened. IsReadOf S.remaining so_far (table_of opened.index)
+        opened.notes.items (S.remaining file.new)) }
+    ensures few { length saved.notes.items ≤ max_notes →
+        IfOk result (λ opened. length opened.notes.items ≤ max_notes) }
+    ensures fault { IfErr result (IsMet S.remaining) }
+    ensures named { IfErr result (NamesPath (λ named. named ≡ path.entry)) }
+{
+    let Ok(metadata) = file.metadata() else {
+        return Err(StoreFault::CannotWrite(path));
+    };
+    if metadata.len() < saved.bytes {
+        return Err(StoreFault::Unusable(path, FileFault::InUse));
+    }
+    if metadata.len() == saved.bytes && saved.fault.is_none() {
+        return Ok(saved);
+    }
+    if file.rewind().is_err() {
+        return Err(StoreFault::CannotWrite(path));
+    }
+    read_to_add(alloc, path, file, so_far)
+}
+
+/// Refuses rows for which a saved index has no space, or which are not encoded as its own are.
+fn check_rows_fit<'a>(path: &'a str, saved: &Index, more: &Index) -> Result<(), StoreFault<'a>>
+    ensures follows { OnOk result (AcceptsRowsOf (table_of saved.now) (table_of more.now)) }
+    ensures fault { IfErr result (λ fault. IsNotAboutBytes fault
+        ⊎ ((fault ≡ StoreFault.Run FilesFault.IndexFull)
+        × (saved.now.limit < length saved.now.rows + length more.now.rows))) }
+    ensures named { IfErr result (NamesPath (λ named. named ≡ path.entry)) }
+{
+    if more.len() > saved.limit() - saved.len() {
+        return Err(StoreFault::Run(FilesFault::IndexFull));
+    }
+    if !accepts_rows_of(saved, more) {
+        return Err(StoreFault::Unusable(path, FileFault::InUse));
+    }
+    Ok(())
+}
+
+/// Loads row files into an index that encodes its columns as another does, and has as many feeders. It refuses more
+/// files than it has feeders.
+fn load_more<
+    'a,
+    R: AllocGlobal + Threads + Wait + Sync,
+    S: Read + Drop + Send,
+    G: Gate + Stopping + Sync,
+>(rt: &R, path: &'a str, saved: &Index, rows: Vec<S>, gate: &G) -> Result<Loaded, StoreFault<'a>>
+    requires some { 0 < length rows.items }
+    requires never { G.STOPS ≡ false }
+    ensures schema { IfOk result (λ loaded. loaded.table.schema ≡ saved.now.schema) }
+    ensures feeders { IfOk result (λ loaded. loaded.table.feeders ≡ saved.now.feeders) }
+    ensures limit { IfOk result (λ loaded. loaded.table.limit ≡ saved.now.limit) }
+    ensures rows { IfOk result (λ loaded. (texts : List (List ℕ)) →
+        map S.remaining rows.items ≡ map Some texts →
+        HasLoaded saved.now.schema saved.now.limit texts loaded.table.rows
+        (map fed_counts loaded.fed.items)) }
+    ensures few { IfOk result (λ loaded. length loaded.fed.items ≤ max_feeders) }
+    ensures fault { IfErr result (λ fault. IsNotAboutBytes fault ⊎ (((saved.now.feeders < length rows.items)
+        × (fault ≡ StoreFault.Unusable path.entry (FileFault.TooManyFiles saved.now.feeders)))
+        ⊎ IsRunFaultOver saved.now.schema saved.now.limit (map S.remaining rows.items) fault)) }
+    ensures named { IfErr result (NamesPath (λ named. named ≡ path.entry)) }
+{
+    if rows.len() > saved.feeders() as usize {
+        return Err(StoreFault::Unusable(path, FileFault::TooManyFiles(saved.feeders())));
+    }
+    let schema = saved.schema().copy()?;
+    let Loaded { table, fed } = load_files(rt, schema, saved.limit(), rows, gate)?;
+    let table = with_feeders_of(saved, &table)?;
+    Ok(Loaded { table, fed })
+}
+
+/// Makes an index of all rows of another one, with the feeders of a saved index, which encodes its columns alike, has
+/// as many feeders or more, and takes so many rows.
+fn with_feeders_of(saved: &Index, table: &Index) -> Result<Index, NoMemory>
+    ensures { IfOk result (λ more. table_of more
+        ≡ with_rows (no_rows saved.now.schema saved.now.feeders saved.now.limit) table.now.rows) }
+{
+    let mut more = saved.new_like()?;
+    if !more.is_encoded_like(table) {
+        return Err(NoMemory);
+    }
+    match more.append_index(table) {
+        Ok(_) => Ok(more),
+        Err(_) => Err(NoMemory),
+    }
+}
+
+/// Appends the segment of further rows to a file, behind what was opened of it, and has the system store it. After a
+/// fault it cuts the file back.
+fn append_segment<'a, S: Write + OpenFile>(
+    alloc: Global,
+    path: &'a str,
+    saved: &LoadedIndex,
+    more: &Index,
+    file: &mut S,
+) -> Result<(), StoreFault<'a>>
+    requires { length saved.now.notes.items ≤ max_notes }
+    ensures appended { OnOk result (Appends (S.contents file.old) (S.contents file.new)
+        (table_segment (table_of more.now) saved.now.notes.items)) }
+    ensures valid { OnOk result (MayBeSaved (table_of more.now) saved.now.notes.items) }
+    ensures fault { IfErr result IsNotAboutBytes }
+    ensures named { IfErr result (NamesPath (λ named. named ≡ path.entry)) }
+{
+    if saved.fault.is_some() && file.set_len(saved.bytes).is_err() {
+        return Err(StoreFault::CannotWrite(path));
+    }
+    let written = write_index(alloc, more, &saved.notes, file);
+    let fault = match written {
+        Ok(()) if file.sync_all().is_ok() => return Ok(()),
+        Ok(()) => StoreFault::CannotWrite(path),
+        Err(fault) => StoreFault::unsaved(path, fault),
+    };
+    let _ = file.set_len(saved.bytes);
+    Err(fault)
+}

@@ -1,0 +1,71 @@
+//! Shows what a saved index has: its columns, rows and sizes.
+
+ghost use Rattle.std.specs.Prelude.{◌≡◌, ◌<◌, ◌++◌, IfErr, IfOk, length, OnOk};
+ghost use Rattle.bsi_schema.specs.Columns.{column_at};
+ghost use Rattle.bsi_store.specs.Asked.{HasShown, LeavesShown};
+ghost use Rattle.bsi_store.specs.Faults.{IsOfFile, NamesPath};
+ghost use Rattle.bsi_store.specs.Lines.{bitmap_bytes, size_lines, IsShownText};
+ghost use Rattle.bsi_table.specs.Index.{table_of};
+
+use crate::StoreFault;
+use crate::lines::{push_bytes_line, push_count_line};
+use crate::lock::LockFile;
+use crate::opening::open_index;
+use bsi_input::{describe_schema, write_bytes};
+use bsi_table::{Index, NoMemory, count_bitmaps};
+use std::alloc::Global;
+use std::io::{Read, Write};
+use std::rt::Files;
+
+/// Writes the records of a schema file that declares the columns and the limit of a saved index, how many feeders and
+/// rows it has, and how many bytes the bitmaps of each column take.
+pub fn show_index<'a, R: AllocGlobal + Files<File = S>, S: Read + LockFile + Drop, O: Write>(
+    rt: &R,
+    path: &'a str,
+    output: &mut O,
+) -> Result<(), StoreFault<'a>>
+    ensures shown { OnOk result
+        (HasShown S.remaining (O.contents output.old) (O.contents output.new)) }
+    ensures named { IfErr result (NamesPath (λ named. named ≡ path.entry)) }
+    ensures fault { IfErr result (IsOfFile S.remaining) }
+    ensures prefix { IfErr result (λ fault. LeavesShown S.remaining fault
+        (O.contents output.old) (O.contents output.new)) }
+{
+    let opened = open_index(rt, path, false)?;
+    let text = describe_index(rt.alloc(), &opened.index)?;
+    write_bytes(output, text.as_slice())?;
+    Ok(())
+}
+
+/// Makes the description of an index.
+fn describe_index(alloc: Global, index: &Index) -> Result<Vec<u8>, NoMemory>
+    ensures { IfOk result (λ text. IsShownText (table_of index.now) text.items) }
+{
+    let mut text = describe_schema(alloc, index.schema(), index.limit())?;
+    push_count_line("feeders", u64::from(index.feeders()), &mut text)?;
+    push_count_line("rows", index.len(), &mut text)?;
+    push_size_lines(index, &mut text)?;
+    Ok(text)
+}
+
+/// Adds for each column how many bytes its bitmaps take.
+fn push_size_lines(index: &Index, text: &mut Vec<u8>) -> Result<(), NoMemory>
+    ensures { OnOk result (text.new.items
+        ≡ text.old.items ++ size_lines (length index.now.rows) index.now.schema.columns) }
+{
+    'columns: for c in 0..index.schema().columns() {
+        push_bytes_line(index.schema().name(c), count_bytes(index, c), text)?;
+    }
+    Ok(())
+}
+
+/// Returns how many bytes the bitmaps of column `c` take.
+fn count_bytes(index: &Index, c: u32) -> u64
+    requires { c < length index.now.schema.columns }
+    ensures { result ≡ bitmap_bytes (length index.now.rows) (column_at index.now.schema.columns c) }
+{
+    let rows = index.len();
+    // The proof takes from this that there are at most 2^32 rows.
+    prove!(rows <= index.limit());
+    8 * rows.div_ceil(64) * count_bitmaps(index.schema().form(c)) as u64
+}

@@ -1,3 +1,0 @@
-pub mod Editions
-pub mod History
-pub mod Questions

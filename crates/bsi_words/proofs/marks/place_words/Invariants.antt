@@ -1,5 +1,0 @@
-use Rattle.bsi_words.proofs.PlaceWords.{ArePlaces}
-use Rattle.bsi_words.proofs.marks.place_words.Given as goal
-
-abbrev pub invariant-places : goal.invariant-places
-invariant-places l = ArePlaces l.p l.block l.words

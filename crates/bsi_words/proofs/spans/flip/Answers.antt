@@ -1,7 +1,0 @@
-use Rattle.std.proofs.Common.{ap, ◌∙◌}
-use Rattle.bsi_bits.specs.Packed.{bit_of}
-use Rattle.bsi_words.proofs.SpanBits.{turned_place}
-use Rattle.bsi_words.proofs.spans.flip.Goals as goal
-
-pub returns-clause-bits : goal.returns-clause-bits
-returns-clause-bits c p below = ap (λ ws. bit_of ws p) c.not.ensures ∙ turned_place c.args.span.now c.know_fits.ensures p below

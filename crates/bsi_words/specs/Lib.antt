@@ -1,7 +1,0 @@
-pub mod Ends
-pub mod Listing
-pub mod Marks
-pub mod Nulls
-pub mod Places
-pub mod Ranks
-pub mod Spans
