@@ -17,7 +17,8 @@ use Rattle.bsi_syntax.specs.Numbers.{Field}
 use Rattle.bsi_input.proofs.FirstRecords.{first_more, HasReadFirst}
 use Rattle.bsi_input.proofs.Waiting.{cut_whole}
 use Rattle.bsi_input.specs.RecordSources.{RecordSource}
-use Rattle.bsi_input.specs.Sources.{max_records, HasReadRecords}
+use Rattle.bsi_input.specs.Formats.{max_records}
+use Rattle.bsi_input.specs.Sources.{HasReadRecords}
 use Rattle.bsi_input.specs.Waiting.{AppendsPrefix}
 use Rattle.bsi_rows.specs.Rows.{SourcedRow}
 use Rattle.bsi_rows.specs.declared.question.Question.{Question}

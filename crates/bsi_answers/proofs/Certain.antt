@@ -19,7 +19,8 @@ use Rattle.bsi_rows.specs.declared.query.Answer.{Answer}
 use Rattle.bsi_rows.specs.declared.query.Answer.TheVariants.{Count as count_answer, Sum as sum_answer, Value as value_answer, Rows as rows_answer}
 use Rattle.bsi_rows.specs.declared.query.Query.{Query}
 use Rattle.bsi_input.specs.Pasts.{FindMemory}
-use Rattle.bsi_input.specs.RowFiles.{bad_count, good_rows}
+use Rattle.bsi_input.specs.Formats.{bad_count, good_rows}
+use Rattle.bsi_input.specs.RowFiles.{plain_format}
 use Rattle.bsi_input.specs.SchemaTexts.{table_declared, Declares, IsSchemaText}
 use Rattle.bsi_input.specs.Texts.{AreAllRecords}
 use Rattle.bsi_input.proofs.Determined.{same_selected, same_total}
@@ -67,8 +68,8 @@ one_file reading schema bytes a b one two =
     let same : one.header ∷ one.records ≡ two.header ∷ two.records = reading bytes (one.header ∷ one.records) (two.header ∷ two.records) one.all two.all in
     let header : one.header ≡ two.header = cc (same) in
     let records : one.records ≡ two.records = cc (same) in
-    made a.rows b.rows a.bad b.bad (one.rows_are ∙ (ap₂ (λ h rs. good_rows schema h rs) header records ∙ sym two.rows_are))
-    (one.bad_is ∙ (ap₂ (λ h rs. bad_count schema h rs) header records ∙ sym two.bad_is))
+    made a.rows b.rows a.bad b.bad (one.rows_are ∙ (ap₂ (λ h rs. good_rows (plain_format schema) h rs) header records ∙ sym two.rows_are))
+    (one.bad_is ∙ (ap₂ (λ h rs. bad_count (plain_format schema) h rs) header records ∙ sym two.bad_is))
   where
     made : (xs ys : List Entries) (m n : ℕ) → xs ≡ ys → m ≡ n
         → (let f : RowFile = record { rows = xs; bad = m } in let g : RowFile = record { rows = ys; bad = n } in f ≡ g)

@@ -9,7 +9,8 @@ use Rattle.bsi_syntax.specs.Questions.{IsQuestion}
 use Rattle.bsi_syntax.specs.Vocabularies.{schema_vocabulary}
 use Rattle.bsi_syntax.specs.declared.grammar.Grammar.{Grammar}
 use Rattle.bsi_input.specs.RecordSources.{RecordSource}
-use Rattle.bsi_input.specs.Sources.{max_records, HasNext, HasReadRecords, IsOver}
+use Rattle.bsi_input.specs.Formats.{max_records}
+use Rattle.bsi_input.specs.Sources.{HasNext, HasReadRecords, IsOver}
 use Rattle.bsi_rows.specs.declared.question.Question.{Question}
 use Rattle.bsi_schema.specs.Columns.{Declared}
 use Rattle.bsi_answers.specs.Writing.{AreWrittenBefore}

@@ -4,8 +4,8 @@ use Rattle.bsi_syntax.specs.Bytes.{Bytes}
 use Rattle.bsi_syntax.specs.Numbers.{Field}
 use Rattle.bsi_schema.specs.Columns.{Declared}
 use Rattle.bsi_rows.specs.Rows.{Entries}
-use Rattle.bsi_input.specs.RowFiles.{bad_count, good_rows, is_header}
-use Rattle.bsi_input.specs.Sources.{max_records}
+use Rattle.bsi_input.specs.Formats.{bad_count, good_rows, max_records}
+use Rattle.bsi_input.specs.RowFiles.{is_header, plain_format}
 use Rattle.bsi_input.specs.Texts.{AreAllRecords}
 use Rattle.bsi_answers.specs.declared.fed.Fed.{Fed}
 
@@ -27,9 +27,9 @@ pub record IsRowFile (schema : Declared) (bytes : Bytes) (file : RowFile) : Type
   -- The fields of the header are the names of the columns, each once, in any order.
   pub header_is : is_header schema header ≡ true
   -- The rows are those of the good records.
-  pub rows_are : file.rows ≡ good_rows schema header records
+  pub rows_are : file.rows ≡ good_rows (plain_format schema) header records
   -- The count is that of the bad records.
-  pub bad_is : file.bad ≡ bad_count schema header records
+  pub bad_is : file.bad ≡ bad_count (plain_format schema) header records
 
 abbrev pub file_rows : RowFile → List Entries
 file_rows file = file.rows

@@ -1,7 +1,8 @@
 //! Reads the questions of a text in batches, each of which is read before any of its questions is answered.
 
 ghost use Rattle.std.specs.Prelude.{◌≡◌, ◌≤◌, None, IfErr, IfOk, true};
-ghost use Rattle.bsi_input.specs.Sources.{max_records, HasNext};
+ghost use Rattle.bsi_input.specs.Formats.{max_records};
+ghost use Rattle.bsi_input.specs.Sources.{HasNext};
 ghost use Rattle.bsi_answers.specs.Faults.{may_follow_output};
 ghost use Rattle.bsi_answers.specs.Batches.{ReadsAsk, ReadsBatch, StopsInBatch};
 

@@ -9,7 +9,8 @@ use Rattle.bsi_syntax.specs.Numbers.{Field}
 use Rattle.bsi_syntax.specs.Reading.{IsReadAs}
 use Rattle.bsi_rows.specs.declared.query.Query.{Query}
 use Rattle.bsi_schema.specs.Columns.{Declared}
-use Rattle.bsi_input.specs.Sources.{max_records, IsPlainReader}
+use Rattle.bsi_input.specs.Formats.{max_records}
+use Rattle.bsi_input.specs.Sources.{IsPlainReader}
 use Rattle.bsi_input.proofs.FirstRecords.{first_all, first_more, first_none, HasReadFirst}
 use Rattle.bsi_input.proofs.Taking.{is_over, one_read}
 use Rattle.bsi_check.specs.Checks.{AreCountedAsks, AsksNoQuery, AsksQuery, HaveBadAsks, IsAskVerdict}

@@ -6,8 +6,9 @@ use Rattle.bsi_rows.specs.Rows.{Entries}
 use Rattle.bsi_syntax.specs.Bytes.{KnownBytes}
 use Rattle.bsi_syntax.specs.Numbers.{Field}
 use Rattle.bsi_schema.specs.Columns.{Declared}
-use Rattle.bsi_input.specs.RowFiles.{good_row, is_header}
-use Rattle.bsi_input.specs.Sources.{counts_of, max_records, Counts, HasReadRows, IsAfterHeader, IsPlainReader, Layout}
+use Rattle.bsi_input.specs.Formats.{good_row, max_records}
+use Rattle.bsi_input.specs.RowFiles.{is_header}
+use Rattle.bsi_input.specs.Sources.{counts_of, Counts, HasReadRows, IsAfterHeader, IsPlainReader, Layout}
 use Rattle.bsi_input.proofs.Joining.{is_whole, taken_both}
 use Rattle.bsi_input.proofs.Taking.{has_more, is_over, of_text, taken_bad, taken_good, taken_none, AreTaken}
 use Rattle.bsi_check.specs.Checks.{layout_of, HasCounted, HasTooManyRecords, IsCountedFile}
@@ -18,7 +19,7 @@ pub record AreCounted {R : Type 0} (rem : R → KnownBytes) (layout : Layout) (o
   pub rows : List Entries
   pub read_so_far : HasReadRows rem layout old new (counts_of 0 0) (counts_of records bad) rows
   pub plain : IsPlainReader new
-  pub few : records ≤ max_records
+  pub few : records ≤ layout.format.most
   pub fewer : bad ≤ records
 
 pub counted_none : {R : Type 0} (rem : R → KnownBytes) (layout : Layout) (input : Reader R) → IsPlainReader input → AreCounted rem layout input input 0 0
@@ -42,11 +43,11 @@ module _ {R : Type 0} (rem : R → KnownBytes) (layout : Layout) (old b : Reader
     counts = record { few = are.few; bad = are.fewer };
   }
 
-  pub counted_good : (c : Reader R) (fields : List Field) → ReadRecord rem b c true fields → IsPlainReader c → records < max_records
-      → true ≡ is_some (good_row layout.schema layout.header fields) → AreCounted rem layout old c (records + 1) bad
-  counted_good c fields next plain few good = by (good_row layout.schema layout.header fields) refl good
+  pub counted_good : (c : Reader R) (fields : List Field) → ReadRecord rem b c true fields → IsPlainReader c → records < layout.format.most
+      → true ≡ is_some (good_row layout.format layout.header fields) → AreCounted rem layout old c (records + 1) bad
+  counted_good c fields next plain few good = by (good_row layout.format layout.header fields) refl good
     where
-      by : (o : Option Entries) → good_row layout.schema layout.header fields ≡ o → true ≡ is_some o → AreCounted rem layout old c (records + 1) bad
+      by : (o : Option Entries) → good_row layout.format layout.header fields ≡ o → true ≡ is_some o → AreCounted rem layout old c (records + 1) bad
       by None is good = cc (good)
       by (Some row) is good = record {
         rows = are.rows ++ row ∷ [];
@@ -57,11 +58,11 @@ module _ {R : Type 0} (rem : R → KnownBytes) (layout : Layout) (old b : Reader
         fewer = omega (arith, are.fewer);
       }
 
-  pub counted_bad : (c : Reader R) (fields : List Field) → ReadRecord rem b c true fields → IsPlainReader c → records < max_records
-      → false ≡ is_some (good_row layout.schema layout.header fields) → AreCounted rem layout old c (records + 1) (bad + 1)
-  counted_bad c fields next plain few good = by (good_row layout.schema layout.header fields) refl good
+  pub counted_bad : (c : Reader R) (fields : List Field) → ReadRecord rem b c true fields → IsPlainReader c → records < layout.format.most
+      → false ≡ is_some (good_row layout.format layout.header fields) → AreCounted rem layout old c (records + 1) (bad + 1)
+  counted_bad c fields next plain few good = by (good_row layout.format layout.header fields) refl good
     where
-      by : (o : Option Entries) → good_row layout.schema layout.header fields ≡ o → false ≡ is_some o → AreCounted rem layout old c (records + 1) (bad + 1)
+      by : (o : Option Entries) → good_row layout.format layout.header fields ≡ o → false ≡ is_some o → AreCounted rem layout old c (records + 1) (bad + 1)
       by (Some row) is good = cc (good)
       by None is good =
           let one = taken_bad rem layout b b now now here c fields next plain few (sym is) in
@@ -83,12 +84,13 @@ module _ {R : Type 0} (rem : R → KnownBytes) (layout : Layout) (old b : Reader
   }
 
   -- the most records were read, and there is one more
-  pub counted_long : (c : Reader R) (fields : List Field) → max_records ≤ records → ReadRecord rem b c true fields → HasTooManyRecords rem old
-  counted_long c fields most next = record {
+  pub counted_long : (c : Reader R) (fields : List Field) → layout.format.most ≡ max_records → max_records ≤ records → ReadRecord rem b c true fields
+      → HasTooManyRecords rem old
+  counted_long c fields plain most next = record {
     at = b;
     records = are.read_so_far.records;
     read = are.read_so_far.read;
-    many = omega (arith, are.read_so_far.read_so_far, are.few, most);
+    many = omega (arith, are.read_so_far.read_so_far, are.few, plain, most);
     more = has_more rem old b c fields are.plain.config next;
   }
 

@@ -9,8 +9,9 @@ use Rattle.bsi_syntax.specs.Numbers.{Field}
 use Rattle.bsi_rows.specs.Rows.{Entries}
 use Rattle.bsi_rows.specs.declared.query.Query.{Query}
 use Rattle.bsi_schema.specs.Columns.{Declared}
-use Rattle.bsi_input.specs.RowFiles.{is_header}
-use Rattle.bsi_input.specs.Sources.{counts_of, max_records, HasNext, HasNoHeader, HasReadRecords, HasReadRows, IsOver, IsWholeFile, Layout}
+use Rattle.bsi_input.specs.Formats.{max_records}
+use Rattle.bsi_input.specs.RowFiles.{is_header, plain_format}
+use Rattle.bsi_input.specs.Sources.{counts_of, HasNext, HasNoHeader, HasReadRecords, HasReadRows, IsOver, IsWholeFile, Layout}
 use Rattle.bsi_input.specs.Texts.{AreAllRecords, AreFirstRecords, AreTooMany}
 use Rattle.bsi_input.specs.declared.rows.SourceFault.TheVariants as source
 use Rattle.bsi_check.specs.declared.finding.AsksFinding.{AsksFinding}
@@ -22,7 +23,7 @@ use Rattle.bsi_check.specs.declared.finding.FileFinding.TheVariants.{Counted, No
 -- ---- a row file
 
 abbrev pub layout_of : Declared → List Field → Layout
-layout_of schema header = record { schema = schema; header = header }
+layout_of schema header = record { format = plain_format schema; header = header }
 
 -- The records that a reader had left were counted.
 pub record HasCounted {R : Type 0} (rem : R → KnownBytes) (layout : Layout) (input : Reader R)
@@ -81,7 +82,7 @@ pub record IsTooLongRowFile (schema : Declared) (text : Bytes) : Type 0 where
 -- The finding that a check has for a row file with this text. A fault of the reader says nothing of the text.
 abbrev pub IsFileFinding : Declared → FileFinding → List ℕ → Type 0
 IsFileFinding schema (Counted counts) text = IsCountedFile schema counts text
-IsFileFinding schema NoHeader text = HasNoHeader schema (strip_bom text)
+IsFileFinding schema NoHeader text = HasNoHeader (plain_format schema) (strip_bom text)
 IsFileFinding schema (Unread source.TooLong) text = IsTooLongRowFile schema text
 IsFileFinding schema (Unread source.Read) text = ⊤
 IsFileFinding schema (Unread fault) text = ⊥

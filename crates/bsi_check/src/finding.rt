@@ -1,6 +1,6 @@
 //! What a check finds: of a row file, and of a file of questions.
 ghost use Rattle.std.specs.Prelude.{◌≤◌};
-ghost use Rattle.bsi_input.specs.Sources.{max_records};
+ghost use Rattle.bsi_input.specs.Formats.{max_records};
 
 use bsi_input::SourceFault;
 

@@ -4,8 +4,9 @@ ghost use Rattle.std.specs.Prelude.{◌≡◌, ◌≢◌, ◌∷◌, [], is_some
 ghost use Rattle.csv.specs.Reading.{reader_state, source_of};
 ghost use Rattle.csv.specs.Records.{fields_of};
 ghost use Rattle.csv.specs.declared.parser.State.TheVariants as st;
-ghost use Rattle.bsi_input.specs.RowFiles.{good_row};
-ghost use Rattle.bsi_input.specs.Sources.{IsPlainReader};
+ghost use Rattle.bsi_input.specs.Formats.{good_row};
+ghost use Rattle.bsi_input.specs.RowFiles.{plain_format};
+ghost use Rattle.bsi_input.specs.Sources.{plain_layout, IsPlainReader};
 ghost use Rattle.bsi_input.specs.Texts.{ForText};
 ghost use Rattle.bsi_check.specs.Checks.{HasCounted, HasTooManyRecords, IsFileFinding, IsTooLongRowFile};
 ghost use Rattle.bsi_check.specs.Reasons.{fault_why, AddsBadRecordReasons, AddsFileReasons, AddsFirstReasons, AddsOneReason, AddsReasons, AddsSomeReasons};
@@ -97,14 +98,14 @@ fn add_bad_header(
 /// many more there are.
 fn check_records<I: Read + Drop>(
     alloc: Global,
-    layout: &Layout,
+    layout: &Layout<Schema>,
     lines: Lines,
     path: &str,
     input: &mut Reader<I>,
     reasons: &mut Vec<u8>,
 ) -> Result<FileCounts, SourceFault>
     requires plain { IsPlainReader input.old }
-    ensures counted { IfOk result (HasCounted I.remaining layout.now input.old) }
+    ensures counted { IfOk result (HasCounted I.remaining (plain_layout layout.now) input.old) }
     ensures reported { IfOk result (λ counts.
         AddsBadRecordReasons path.now counts.bad reasons.old.items reasons.new.items) }
     ensures some_reasons { IfErr result (λ fault. fault ≢ SourceFault.NoMemory →
@@ -123,14 +124,14 @@ fn check_records<I: Read + Drop>(
 /// Reads and counts the records of a row file after its header, and adds the reason of each of the first 100 bad ones.
 fn count_records<I: Read + Drop>(
     alloc: Global,
-    layout: &Layout,
+    layout: &Layout<Schema>,
     mut lines: Lines,
     path: &str,
     input: &mut Reader<I>,
     reasons: &mut Vec<u8>,
 ) -> Result<FileCounts, SourceFault>
     requires plain { IsPlainReader input.old }
-    ensures counted { IfOk result (HasCounted I.remaining layout.now input.old) }
+    ensures counted { IfOk result (HasCounted I.remaining (plain_layout layout.now) input.old) }
     ensures reported { IfOk result (λ counts.
         AddsFirstReasons path.now counts.bad reasons.old.items reasons.new.items) }
     ensures some_reasons { IfErr result (λ fault. fault ≢ SourceFault.NoMemory →
@@ -168,13 +169,14 @@ fn count_records<I: Read + Drop>(
 /// Returns whether a record is good. It uses the row up.
 fn is_good_record(
     alloc: Global,
-    layout: &Layout,
+    layout: &Layout<Schema>,
     fields: &ByteRecord,
     entries: &mut Vec<Option<i64>>,
     row: &mut Row,
 ) -> Result<bool, NoMemory>
     ensures { IfOk result (λ good. good
-        ≡ is_some (good_row layout.now.schema layout.now.header (fields_of fields.now))) }
+        ≡ is_some (good_row (plain_format layout.now.format) layout.now.header
+        (fields_of fields.now))) }
 {
     layout.read(alloc, fields, entries, row)
 }
@@ -182,7 +184,7 @@ fn is_good_record(
 /// Adds the reason why a record is bad.
 fn add_bad_record(
     alloc: Global,
-    layout: &Layout,
+    layout: &Layout<Schema>,
     path: &str,
     line: u64,
     fields: &ByteRecord,

@@ -14,9 +14,10 @@ use Rattle.bsi_syntax.specs.Bytes.{KnownBytes}
 use Rattle.bsi_syntax.specs.Numbers.{Field}
 use Rattle.bsi_schema.specs.Columns.{Declared}
 use Rattle.bsi_rows.specs.Rows.{Entries}
-use Rattle.bsi_input.specs.RowFiles.{good_rows}
+use Rattle.bsi_input.specs.Formats.{good_rows, max_records}
 use Rattle.bsi_input.specs.SchemaTexts.{IsSchemaText}
-use Rattle.bsi_input.specs.Sources.{max_records, Counts, IsAfterHeader, Source, SourceEnd}
+use Rattle.bsi_input.specs.RowFiles.{plain_format}
+use Rattle.bsi_input.specs.Sources.{plain_layout, Counts, IsAfterHeader, SourceEnd, SourceOf}
 use Rattle.bsi_input.specs.declared.rows.SourceFault.{SourceFault}
 use Rattle.bsi_input.specs.declared.rows.SourceFault.TheVariants as source
 use Rattle.bsi_input.proofs.FirstRecords.{first_join, HasReadFirst}
@@ -40,7 +41,7 @@ use Rattle.bsi_files.proofs.Progress.{get_lt}
 
 -- ---- which faults are met when
 
-module _ {R : Type 0} (rem : R → KnownBytes) (stops : Bool) (limit : ℕ) (sources : List (Source R)) where
+module _ {R : Type 0} (rem : R → KnownBytes) (stops : Bool) (limit : ℕ) (sources : List (SourceOf R Declared)) where
   pub load_early : (fault : FilesFault) → raised_while_loading fault ≡ true → (fault ≡ run.IndexFull → AreOverLimit rem limit sources) → IsLoadFault rem stops limit sources fault
   load_early run.IndexFull early over = over refl
   load_early run.NoMemory early over = tt
@@ -97,7 +98,7 @@ late_fault_of stops declared texts fault late good = absurd (cc (late))
 -- ---- from what was end_fault of an end to its source
 
 module _ {R : Type 0} (rem : R → KnownBytes) where
-  end_fault_at : (progress : List FeederProgress) (k : ℕ) (feeders : List FeederState) (sources : List (Source R)) (ends : List FeedEnd) (feds : List Fed) (n : ℕ) (e : SourceFault)
+  end_fault_at : (progress : List FeederProgress) (k : ℕ) (feeders : List FeederState) (sources : List (SourceOf R Declared)) (ends : List FeedEnd) (feds : List Fed) (n : ℕ) (e : SourceFault)
       → AreEndsOf rem (tasks feeders sources) ends → AreClosingsSettled progress k ends feds → MatchOption (slice_get feds n) ⊥ (λ fed. fed.fault ≡ Some e)
       → FailsAt rem sources n e
   end_fault_at progress k feeders sources ends [] n e are loaded is = absurd is
@@ -115,7 +116,7 @@ module _ {R : Type 0} (rem : R → KnownBytes) where
       record { source = rest.source; many = rest.many; at = rest.at; failed = rest.failed }
 
   -- the sources before the first one that answered a fault were read out, where no feeder was stopped
-  read_before : (progress : List FeederProgress) (k : ℕ) (feeders : List FeederState) (sources : List (Source R)) (ends : List FeedEnd) (feds : List Fed) (n : ℕ)
+  read_before : (progress : List FeederProgress) (k : ℕ) (feeders : List FeederState) (sources : List (SourceOf R Declared)) (ends : List FeedEnd) (feds : List Fed) (n : ℕ)
       → length sources ≡ length feeders → AreEndsOf rem (tasks feeders sources) ends → AreClosingsSettled progress k ends feds
       → AllWithin (λ fed. fed.fault ≡ None) feds 0 n → NoneStopped feds → All (WasReadOut rem) (take n sources)
   read_before progress k feeders sources ends feds zero many are settled none going = All-nil (WasReadOut rem)
@@ -130,7 +131,7 @@ module _ {R : Type 0} (rem : R → KnownBytes) where
       (read_before progress (suc k) feeders sources ends feds n (omega arith) are.1 settled.1 (λ i d low lt. none (suc i) d (omega arith) (omega arith))
       (All-tail (λ (x : Fed). x.stopped ≡ false) fed feds going))
 
-  ends_many : (progress : List FeederProgress) (k : ℕ) (feeders : List FeederState) (sources : List (Source R)) (ends : List FeedEnd) (feds : List Fed)
+  ends_many : (progress : List FeederProgress) (k : ℕ) (feeders : List FeederState) (sources : List (SourceOf R Declared)) (ends : List FeedEnd) (feds : List Fed)
       → AreEndsOf rem (tasks feeders sources) ends → AreClosingsSettled progress k ends feds → length feds ≤ length sources
   ends_many progress k feeders sources [] [] are settled = omega arith
   ends_many progress k feeders sources [] (x ∷ feds) are settled = absurd settled
@@ -146,11 +147,11 @@ module _ {R : Type 0} (rem : R → KnownBytes) where
   at_within P (fed ∷ feds) zero is = omega arith
   at_within P (fed ∷ feds) (suc n) is = (let lt = at_within P feds n is in omega arith)
 
-  pub few_ends : (progress : List FeederProgress) (feeders : List FeederState) (sources : List (Source R)) (ends : List FeedEnd) (feds : List Fed)
+  pub few_ends : (progress : List FeederProgress) (feeders : List FeederState) (sources : List (SourceOf R Declared)) (ends : List FeedEnd) (feds : List Fed)
       → AreEndsOf rem (tasks feeders sources) ends → AreClosingsSettled progress 0 ends feds → length sources ≤ max_feeders → length feds ≤ max_feeders
   few_ends progress feeders sources ends feds are settled few = (let le = ends_many progress 0 feeders sources ends feds are settled in omega arith)
 
-  pub end_fault_load : (stops : Bool) (limit : ℕ) (progress : List FeederProgress) (feeders : List FeederState) (sources : List (Source R)) (ends : List FeedEnd) (feds : List Fed)
+  pub end_fault_load : (stops : Bool) (limit : ℕ) (progress : List FeederProgress) (feeders : List FeederState) (sources : List (SourceOf R Declared)) (ends : List FeedEnd) (feds : List Fed)
       → length sources ≡ length feeders → AreEndsOf rem (tasks feeders sources) ends → AreClosingsSettled progress 0 ends feds
       → (fault : FilesFault) → IsEndFault stops feds fault → IsLoadFault rem stops limit sources fault
   end_fault_load stops limit progress feeders sources ends feds many are settled (run.Source n e) end_fault = (
@@ -166,14 +167,14 @@ module _ {R : Type 0} (rem : R → KnownBytes) where
   -- ---- from the source to the bytes
 
   -- a source, its reader and the bytes
-  record IsOfText (schema : Declared) (texts : List (List ℕ)) (n : ℕ) (source : Source R) : Type 0 where
+  record IsOfText (schema : Declared) (texts : List (List ℕ)) (n : ℕ) (source : SourceOf R Declared) : Type 0 where
     reader : R
     text : List ℕ
     begins : Begins rem schema reader source
     known : rem reader ≡ Some text
     at : slice_get texts n ≡ Some text
 
-  of_text : (schema : Declared) (readers : List R) (sources : List (Source R)) (texts : List (List ℕ)) (n : ℕ) (source : Source R)
+  of_text : (schema : Declared) (readers : List R) (sources : List (SourceOf R Declared)) (texts : List (List ℕ)) (n : ℕ) (source : SourceOf R Declared)
       → AllZip (Begins rem schema) readers sources → map rem readers ≡ map (λ text. Some text) texts → slice_get sources n ≡ Some source
       → IsOfText schema texts n source
   of_text schema [] [] texts n source begun is at = absurd (cc (at))
@@ -187,13 +188,13 @@ module _ {R : Type 0} (rem : R → KnownBytes) where
       let rest = of_text schema readers sources texts n source begun.1 (cc (is)) at in
       record { reader = rest.reader; text = rest.text; begins = rest.begins; known = rest.known; at = rest.at }
 
-  stops_after : (schema : Declared) (reader : R) (source : Source R) (many : ℕ) (fault : SourceFault) → Begins rem schema reader source → HasFailed rem source many fault
+  stops_after : (schema : Declared) (reader : R) (source : SourceOf R Declared) (many : ℕ) (fault : SourceFault) → Begins rem schema reader source → HasFailed rem source many fault
       → StopsAfter rem source many fault
   stops_after schema reader source many fault begins failed =
       subst (λ (end : SourceEnd). MatchOption end (StopsAfter rem source many fault) (λ e. e ≡ Err fault)) begins.end_is failed
 
   -- the header was read
-  pub begun_header : (source : Source R) (text : List ℕ) → IsAfterHeader rem source.layout source.input (strip_bom text)
+  pub begun_header : (source : SourceOf R Declared) (text : List ℕ) → IsAfterHeader rem (plain_layout source.layout) source.input (strip_bom text)
       → HasReadFirst text (reader_state source.input) (source_of rem source.input) (source.layout.header ∷ [])
   unfolding Reached
   begun_header source text stands = by (next_record default_config st.StartRecord [] [] (strip_bom text)) refl stands
@@ -204,11 +205,11 @@ module _ {R : Type 0} (rem : R → KnownBytes) where
       by None e h = absurd h
       by (Some read) e h = record { rest = read.2; left = h.2; first = (read, e, h.0, (sym h.1, refl)) }
 
-  too_long : (schema : Declared) (reader : R) (s : Source R) (text : List ℕ) (many : ℕ) → Begins rem schema reader s → rem reader ≡ Some text
+  too_long : (schema : Declared) (reader : R) (s : SourceOf R Declared) (text : List ℕ) (many : ℕ) → Begins rem schema reader s → rem reader ≡ Some text
       → StopsAfter rem s many source.TooLong → IsTooLongFile text
   too_long schema reader s text many begins known stops =
-      let stands : IsAfterHeader rem s.layout s.input (strip_bom text) =
-      subst (λ o. IfSome o (λ bytes. IsAfterHeader rem s.layout s.input (strip_bom bytes))) known begins.behind in
+      let stands : IsAfterHeader rem (plain_layout s.layout) s.input (strip_bom text) =
+      subst (λ o. IfSome o (λ bytes. IsAfterHeader rem (plain_layout s.layout) s.input (strip_bom bytes))) known begins.behind in
       let first = stops.read_so_far.records in
       let last = stops.stopped.read_so_far.records in
       let at = stops.stopped.at in
@@ -216,6 +217,7 @@ module _ {R : Type 0} (rem : R → KnownBytes) where
       let all = first_join rem text stops.at at (s.layout.header ∷ first) last begun stops.stopped.read_so_far.read in
       let none : s.counts.read_so_far ≡ 0 = ap (λ (t : Counts). t.read_so_far) begins.counts_are in
       let long = stops.stopped.too_long refl in
+      let most : stops.end.read_so_far ≡ max_records = long.0 in
       record {
         header = s.layout.header;
         records = first ++ last;
@@ -223,18 +225,18 @@ module _ {R : Type 0} (rem : R → KnownBytes) where
         rest = all.rest;
         first = all.first;
         too_long = (
-          omega (arith, length-append {A = List Field} first last, none, stops.read_so_far.read_so_far, stops.stopped.read_so_far.read_so_far, long.0),
+          omega (arith, length-append {A = List Field} first last, none, stops.read_so_far.read_so_far, stops.stopped.read_so_far.read_so_far, most),
           subst (λ o. IfSome o (λ rest. IsSome (next_record default_config (reader_state at) [] [] rest))) all.left long.1,
         );
       }
 
   -- what was good before rows were loaded
-  pub headers_known : (schema : Declared) (readers : List R) (sources : List (Source R)) (texts : List (List ℕ)) → AllZip (Begins rem schema) readers sources
+  pub headers_known : (schema : Declared) (readers : List R) (sources : List (SourceOf R Declared)) (texts : List (List ℕ)) → AllZip (Begins rem schema) readers sources
       → map rem readers ≡ map (λ text. Some text) texts → All (HasHeader schema) texts
   headers_known schema readers sources texts begun is =
       all_known (HasHeader schema) texts (subst (λ os. All (λ other. IfSome other (HasHeader schema)) os) is (headers_of rem schema readers sources begun))
 
-  good : (declared : List ℕ) (schema : Declared) (limit : ℕ) (readers : List R) (sources : List (Source R)) (texts : List (List ℕ)) → IsSchemaText declared schema limit
+  good : (declared : List ℕ) (schema : Declared) (limit : ℕ) (readers : List R) (sources : List (SourceOf R Declared)) (texts : List (List ℕ)) → IsSchemaText declared schema limit
       → AllZip (Begins rem schema) readers sources → map rem readers ≡ map (λ text. Some text) texts → RowTextsAreValid declared texts
   good declared schema limit readers sources texts schema_is begun is = record {
     schema = schema;
@@ -244,12 +246,12 @@ module _ {R : Type 0} (rem : R → KnownBytes) where
   }
 
   -- some first records behind the header
-  first_rows : (schema : Declared) (reader : R) (s : Source R) (text : List ℕ) (rows : List Entries) → Begins rem schema reader s → rem reader ≡ Some text
+  first_rows : (schema : Declared) (reader : R) (s : SourceOf R Declared) (text : List ℕ) (rows : List Entries) → Begins rem schema reader s → rem reader ≡ Some text
       → GaveRows rem s rows → HasFirstRows schema text rows
   first_rows schema reader s text rows begins known given =
       let gives = given begins.end_is in
-      let stands : IsAfterHeader rem s.layout s.input (strip_bom text) =
-      subst (λ o. IfSome o (λ bytes. IsAfterHeader rem s.layout s.input (strip_bom bytes))) known begins.behind in
+      let stands : IsAfterHeader rem (plain_layout s.layout) s.input (strip_bom text) =
+      subst (λ o. IfSome o (λ bytes. IsAfterHeader rem (plain_layout s.layout) s.input (strip_bom bytes))) known begins.behind in
       let all = first_join rem text s.input gives.at (s.layout.header ∷ []) gives.read_so_far.records (begun_header s text stands) gives.read_so_far.read in
       let none : s.counts.read_so_far ≡ 0 = ap (λ (t : Counts). t.read_so_far) begins.counts_are in
       let few : gives.end.read_so_far ≤ max_records = gives.few (omega (arith, none)) in
@@ -261,10 +263,10 @@ module _ {R : Type 0} (rem : R → KnownBytes) where
         first = all.first;
         few = omega (arith, few, gives.read_so_far.read_so_far, none);
         header_is = begins.header_is;
-        rows_are = sym gives.read_so_far.good ∙ ap (λ d. good_rows d s.layout.header gives.read_so_far.records) begins.schema_is;
+        rows_are = sym gives.read_so_far.good ∙ ap (λ d. good_rows (plain_format d) s.layout.header gives.read_so_far.records) begins.schema_is;
       }
 
-  all_first : (schema : Declared) (readers : List R) (sources : List (Source R)) (texts : List (List ℕ)) (lists : List (List Entries))
+  all_first : (schema : Declared) (readers : List R) (sources : List (SourceOf R Declared)) (texts : List (List ℕ)) (lists : List (List Entries))
       → AllZip (Begins rem schema) readers sources → map rem readers ≡ map (λ text. Some text) texts → AllZip (GaveRows rem) sources lists
       → AllZip (HasFirstRows schema) texts lists
   all_first schema [] [] [] [] begun is given = tt
@@ -278,7 +280,7 @@ module _ {R : Type 0} (rem : R → KnownBytes) where
       (first_rows schema reader s text rows begun.0 (cc (is)) given.0, all_first schema readers sources texts lists begun.1 (cc (is)) given.1)
 
   -- the files of sources that were read out
-  row_files : IsWholeLaw rem → (schema : Declared) (readers : List R) (sources : List (Source R)) (texts : List (List ℕ)) (n : ℕ)
+  row_files : IsWholeLaw rem → (schema : Declared) (readers : List R) (sources : List (SourceOf R Declared)) (texts : List (List ℕ)) (n : ℕ)
       → AllZip (Begins rem schema) readers sources → map rem readers ≡ map (λ text. Some text) texts → All (WasReadOut rem) (take n sources)
       → AreRowFiles schema (take n texts)
   row_files law schema readers sources texts zero begun is out = ([], tt)
@@ -293,13 +295,13 @@ module _ {R : Type 0} (rem : R → KnownBytes) where
       let file : RowFile = record { rows = here.0; bad = here.1 } in
       (file ∷ rest.0, (row_file rem law schema reader s text here.0 here.1 begun.0 (cc (is)) here.2, rest.1))
 
-  pub texts_many : (schema : Declared) (readers : List R) (sources : List (Source R)) (texts : List (List ℕ)) → AllZip (Begins rem schema) readers sources
+  pub texts_many : (schema : Declared) (readers : List R) (sources : List (SourceOf R Declared)) (texts : List (List ℕ)) → AllZip (Begins rem schema) readers sources
       → map rem readers ≡ map (λ text. Some text) texts → length texts ≡ length sources
   texts_many schema readers sources texts begun is =
       sym (map_long (λ text. Some text) texts) ∙ (sym (ap (λ (os : List KnownBytes). length os) is)
       ∙ (map_long rem readers ∙ matched_long (Begins rem schema) readers sources begun))
 
-  module _ (law : IsWholeLaw rem) (stops : Bool) (declared : List ℕ) (schema : Declared) (limit : ℕ) (readers : List R) (sources : List (Source R))
+  module _ (law : IsWholeLaw rem) (stops : Bool) (declared : List ℕ) (schema : Declared) (limit : ℕ) (readers : List R) (sources : List (SourceOf R Declared))
       (texts : List (List ℕ)) (schema_is : IsSchemaText declared schema limit) (begun : AllZip (Begins rem schema) readers sources)
       (is : map rem readers ≡ map (λ text. Some text) texts) where
     all_good : RowTextsAreValid declared texts

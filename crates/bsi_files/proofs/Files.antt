@@ -12,9 +12,10 @@ use Rattle.bsi_syntax.specs.Bytes.{KnownBytes}
 use Rattle.bsi_syntax.specs.Numbers.{Field}
 use Rattle.bsi_schema.specs.Columns.{Declared}
 use Rattle.bsi_rows.specs.Rows.{Entries, SourcedRow}
-use Rattle.bsi_input.specs.RowFiles.{bad_count, good_rows}
+use Rattle.bsi_input.specs.Formats.{bad_count, good_rows}
 use Rattle.bsi_input.specs.SchemaTexts.{IsSchemaText}
-use Rattle.bsi_input.specs.Sources.{Counts, HasReadRows, IsAfterHeader, IsOver, IsWholeFile, Layout, Source}
+use Rattle.bsi_input.specs.RowFiles.{plain_format}
+use Rattle.bsi_input.specs.Sources.{plain_layout, Counts, HasReadRows, IsAfterHeader, IsOver, IsWholeFile, Layout, SourceOf}
 use Rattle.bsi_files.specs.Begun.{Begins}
 use Rattle.bsi_files.specs.Feeding.{IsReadOut}
 use Rattle.bsi_answers.specs.RowFiles.{fed_counts, file_at, file_counts, file_rows, FedCounts, IsRowFile, RowFile}
@@ -45,7 +46,7 @@ abbrev fed_of : ℕ → ℕ → FedCounts
 fed_of accepted bad = record { accepted = accepted; bad = bad }
 
 module _ {R : Type 0} (rem : R → KnownBytes) where
-  counts_from : (stops : Bool) (rows : List SourcedRow) (n : ℕ) (sources : List (Source R)) (feds : List Fed) → AreFedFrom rem stops rows n sources feds
+  counts_from : (stops : Bool) (rows : List SourcedRow) (n : ℕ) (sources : List (SourceOf R Declared)) (feds : List Fed) → AreFedFrom rem stops rows n sources feds
       → map file_counts (files_from rows n feds) ≡ map fed_counts feds
   unfolding files_from
   counts_from stops rows n [] [] fed = refl
@@ -54,7 +55,7 @@ module _ {R : Type 0} (rem : R → KnownBytes) where
   counts_from stops rows n (source ∷ sources) (x ∷ feds) fed =
       ap₂ (λ c cs. c ∷ cs) (ap (λ k. fed_of k x.bad) fed.0.many) (counts_from stops rows (suc n) sources feds fed.1)
 
-  pub as_many : (stops : Bool) (rows : List SourcedRow) (n : ℕ) (sources : List (Source R)) (feds : List Fed) → AreFedFrom rem stops rows n sources feds
+  pub as_many : (stops : Bool) (rows : List SourcedRow) (n : ℕ) (sources : List (SourceOf R Declared)) (feds : List Fed) → AreFedFrom rem stops rows n sources feds
       → length sources ≡ length feds
   as_many stops rows n [] [] fed = refl
   as_many stops rows n [] (x ∷ feds) fed = absurd fed
@@ -67,13 +68,13 @@ module _ {R : Type 0} (rem : R → KnownBytes) where
       → IsAfterHeader rem layout a text → HasReadRows rem layout a b start end rows → IsOver rem b → IsWholeFile layout text start end rows
 
   -- the file of a source that was read out
-  pub row_file : IsWholeLaw → (schema : Declared) (reader : R) (source : Source R) (text : List ℕ) (rows : List Entries) (bad : ℕ)
+  pub row_file : IsWholeLaw → (schema : Declared) (reader : R) (source : SourceOf R Declared) (text : List ℕ) (rows : List Entries) (bad : ℕ)
       → Begins rem schema reader source → rem reader ≡ Some text → IsReadOut rem source rows bad → IsRowFile schema text (record { rows = rows; bad = bad })
   row_file law schema reader source text rows bad begins is out =
-      let stands : IsAfterHeader rem source.layout source.input (strip_bom text) =
-      subst (λ o. IfSome o (λ bytes. IsAfterHeader rem source.layout source.input (strip_bom bytes))) is begins.behind in
-      let whole = law source.layout source.input out.at (strip_bom text) source.counts out.end rows stands out.read_so_far out.over in
-      let schema_is : source.layout.schema ≡ schema = begins.schema_is in
+      let stands : IsAfterHeader rem (plain_layout source.layout) source.input (strip_bom text) =
+      subst (λ o. IfSome o (λ bytes. IsAfterHeader rem (plain_layout source.layout) source.input (strip_bom bytes))) is begins.behind in
+      let whole = law (plain_layout source.layout) source.input out.at (strip_bom text) source.counts out.end rows stands out.read_so_far out.over in
+      let schema_is : source.layout.format ≡ schema = begins.schema_is in
       let none : source.counts.read_so_far ≡ 0 = ap (λ (t : Counts). t.read_so_far) begins.counts_are in
       let no_bad : source.counts.bad ≡ 0 = ap (λ (t : Counts). t.bad) begins.counts_are in
       record {
@@ -82,17 +83,17 @@ module _ {R : Type 0} (rem : R → KnownBytes) where
         all = whole.all;
         few = omega (arith, whole.read_so_far, none, out.few);
         header_is = begins.header_is;
-        rows_are = whole.good ∙ ap (λ s. good_rows s source.layout.header whole.records) schema_is;
-        bad_is = omega (arith, out.bad_is, no_bad, whole.bad, ap (λ s. bad_count s source.layout.header whole.records) schema_is);
+        rows_are = whole.good ∙ ap (λ s. good_rows (plain_format s) source.layout.header whole.records) schema_is;
+        bad_is = omega (arith, out.bad_is, no_bad, whole.bad, ap (λ s. bad_count (plain_format s) source.layout.header whole.records) schema_is);
       }
 
-  one_file : IsWholeLaw → (schema : Declared) (reader : R) (source : Source R) (text : List ℕ) (rows : List SourcedRow) (n : ℕ) (fed : Fed)
+  one_file : IsWholeLaw → (schema : Declared) (reader : R) (source : SourceOf R Declared) (text : List ℕ) (rows : List SourcedRow) (n : ℕ) (fed : Fed)
       → Begins rem schema reader source → rem reader ≡ Some text → IsFedFrom rem false rows n source fed
       → IsRowFile schema text (record { rows = rows_from n rows; bad = fed.bad })
   one_file law schema reader source text rows n fed begins is has =
       row_file law schema reader source text (rows_from n rows) fed.bad begins is (has.out refl begins.end_is)
 
-  all_files : IsWholeLaw → (schema : Declared) (readers : List R) (sources : List (Source R)) (texts : List (List ℕ)) (rows : List SourcedRow) (n : ℕ) (feds : List Fed)
+  all_files : IsWholeLaw → (schema : Declared) (readers : List R) (sources : List (SourceOf R Declared)) (texts : List (List ℕ)) (rows : List SourcedRow) (n : ℕ) (feds : List Fed)
       → AllZip (Begins rem schema) readers sources → map rem readers ≡ map (λ text. Some text) texts → AreFedFrom rem false rows n sources feds
       → AllZip (IsRowFile schema) texts (files_from rows n feds)
   unfolding files_from
@@ -109,7 +110,7 @@ module _ {R : Type 0} (rem : R → KnownBytes) where
       (one_file law schema reader source text rows n x begin.0 first fed.0, all_files law schema readers sources texts rows (suc n) feds begin.1 rest fed.1)
 
   -- the rows of sources that were read out are those of the files
-  pub loaded_of : IsWholeLaw → (stops : Bool) → stops ≡ false → (schema : Declared) (limit : ℕ) (readers : List R) (sources : List (Source R))
+  pub loaded_of : IsWholeLaw → (stops : Bool) → stops ≡ false → (schema : Declared) (limit : ℕ) (readers : List R) (sources : List (SourceOf R Declared))
       (texts : List (List ℕ)) (rows : List SourcedRow) (feds : List Fed) → AllZip (Begins rem schema) readers sources
       → map rem readers ≡ map (λ text. Some text) texts → IsAllFed rem stops limit rows sources feds
       → HasLoaded schema limit texts rows (map fed_counts feds)
@@ -126,7 +127,7 @@ module _ {R : Type 0} (rem : R → KnownBytes) where
         counts_are = sym (counts_from false rows 0 sources feds fed.each);
       }
 
-  pub few_fed : (stops : Bool) (limit : ℕ) (rows : List SourcedRow) (sources : List (Source R)) (feds : List Fed) → IsAllFed rem stops limit rows sources feds
+  pub few_fed : (stops : Bool) (limit : ℕ) (rows : List SourcedRow) (sources : List (SourceOf R Declared)) (feds : List Fed) → IsAllFed rem stops limit rows sources feds
       → length sources ≤ max_feeders → length feds ≤ max_feeders
   few_fed stops limit rows sources feds fed few = (let many = as_many stops rows 0 sources feds fed.each in omega arith)
 

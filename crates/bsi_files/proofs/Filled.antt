@@ -4,7 +4,9 @@ use Rattle.std.specs.Prelude.{◌≢◌, Result, Ok, Err, MatchOption}
 use Rattle.std.proofs.lemmas.List.{append-nil, length-map, map-append}
 use Rattle.bsi_rows.specs.RowBlocks.{entries_of, sourced_from, RowBlock}
 use Rattle.bsi_rows.specs.Rows.{Entries, SourcedRow}
-use Rattle.bsi_input.specs.Sources.{max_records, Counts, Fills, GivesFirst, HasGivenRows, HasLeft, HasReadAll, HasReadRows, HasStopped, Source, SourceEnd}
+use Rattle.bsi_input.specs.Formats.{max_records}
+use Rattle.bsi_schema.specs.Columns.{Declared}
+use Rattle.bsi_input.specs.Sources.{plain_layout, plain_source, Counts, Fills, GivesFirst, HasGivenRows, HasLeft, HasReadAll, HasReadRows, HasStopped, SourceEnd, SourceOf}
 use Rattle.bsi_input.specs.declared.rows.SourceFault.{SourceFault}
 use Rattle.bsi_input.specs.declared.rows.SourceFault.TheVariants.{NoMemory}
 use Rattle.bsi_files.specs.Feeding.{FailsNow, GivesNext, GivesNone, ReadsOn}
@@ -16,12 +18,12 @@ entries_fed : (feeder : ℕ) (rows : List Entries) → entries_of (sourced_from 
 entries_fed feeder [] = refl
 entries_fed feeder (row ∷ rows) = ap (λ xs. row ∷ xs) (entries_fed feeder rows)
 
-module _ {R : Type 0} (rem : R → KnownBytes) (old new : Source R) where
+module _ {R : Type 0} (rem : R → KnownBytes) (old new : SourceOf R Declared) where
   -- one row
   pub one_next : (row : Entries) → ((fault : SourceFault) → old.end ≡ Some (Err fault) → (◌≡◌ {A = Result (Option Entries) SourceFault} (Ok (Some row)) (Err fault)) × (new ≡ old))
       → (old.end ≡ Some (Ok tt) → (◌≡◌ {A = Result (Option Entries) SourceFault} (Ok (Some row)) (Ok None)) × (new ≡ old))
-      → (old.end ≡ None → HasReadRows rem old.layout old.input new.input old.counts new.counts (row ∷ []))
-      → (old.end ≡ None → new.end ≡ None) → new.layout ≡ old.layout → GivesFirst rem old new (Some row) → new.counts.read_so_far ≤ max_records
+      → (old.end ≡ None → HasReadRows rem (plain_layout old.layout) old.input new.input old.counts new.counts (row ∷ []))
+      → (old.end ≡ None → new.end ≡ None) → new.layout ≡ old.layout → GivesFirst rem (plain_source old) (plain_source new) (Some row) → new.counts.read_so_far ≤ max_records
       → GivesNext rem old new (row ∷ [])
   one_next row failed ended given goes_on same first few = by old.end refl
     where
@@ -33,7 +35,7 @@ module _ {R : Type 0} (rem : R → KnownBytes) (old new : Source R) where
           at = new.input;
           middle = new.counts;
           read_so_far = given is;
-          ending = subst (Behind rem old.layout new.input new.input new.counts new.counts) (sym (goes_on is)) (refl, refl);
+          ending = subst (Behind rem (plain_layout old.layout) new.input new.input new.counts new.counts) (sym (goes_on is)) (refl, refl);
         };
         first = λ all others still. (let one = first all others still in (one.0, one.2, λ fine. record { left = one.1; still = one.3; count = one.4 }));
         few = few;
@@ -44,24 +46,24 @@ module _ {R : Type 0} (rem : R → KnownBytes) (old new : Source R) where
   -- or a fault in its place
   pub one_fails : (fault : SourceFault) → ((f : SourceFault) → old.end ≡ Some (Err f) → (◌≡◌ {A = Result (Option Entries) SourceFault} (Err fault) (Err f)) × (new ≡ old))
       → (old.end ≡ Some (Ok tt) → (◌≡◌ {A = Result (Option Entries) SourceFault} (Err fault) (Ok None)) × (new ≡ old))
-      → (old.end ≡ None → HasStopped rem old.layout old.input old.counts new.counts fault × (new.end ≡ Some (Err fault))) → FailsNow rem old fault × ReadsOn rem old new
+      → (old.end ≡ None → HasStopped rem (plain_layout old.layout) old.input old.counts new.counts fault × (new.end ≡ Some (Err fault))) → FailsNow rem old fault × ReadsOn rem old new
   one_fails fault failed ended stopped = by old.end refl
     where
       fails : SourceEnd → Type 0
-      fails end = MatchOption end ((t : Counts) × HasStopped rem old.layout old.input old.counts t fault) (λ e. e ≡ Err fault)
+      fails end = MatchOption end ((t : Counts) × HasStopped rem (plain_layout old.layout) old.input old.counts t fault) (λ e. e ≡ Err fault)
 
       by : (end : SourceEnd) → old.end ≡ end → FailsNow rem old fault × ReadsOn rem old new
       by None is =
           let stops = (stopped is).0 in
           (subst fails (sym is) (new.counts, stops), reads_open rem old new is [] stops.at stops.read_so_far)
       by (Some (Ok done)) is = absurd (cc (ended is).0)
-      by (Some (Err e)) is = (subst fails (sym is) (cc ((failed e is).0)), reads_ended rem old new (Err e) is (ap (λ (s : Source R). s.counts) (failed e is).1))
+      by (Some (Err e)) is = (subst fails (sym is) (cc ((failed e is).0)), reads_ended rem old new (Err e) is (ap (λ (s : SourceOf R Declared). s.counts) (failed e is).1))
 
   -- the rows of a block that had none
   module _ (feeder : ℕ) (start full : RowBlock) (empty : start.rows ≡ []) (r : Result (Unit {0}) SourceFault)
       (failed : (fault : SourceFault) → old.end ≡ Some (Err fault) → (r ≡ Err fault) × (new ≡ old))
       (ended : old.end ≡ Some (Ok tt) → (r ≡ Ok tt) × (new ≡ old) × (full ≡ start))
-      (filled : old.end ≡ None → Fills rem old new feeder start full) where
+      (filled : old.end ≡ None → Fills rem (plain_source old) (plain_source new) feeder start full) where
     all_fed : (going : old.end ≡ None) → full.rows ≡ sourced_from feeder (filled going).puts.rows
     all_fed going =
         let fills = filled going in
@@ -109,13 +111,13 @@ module _ {R : Type 0} (rem : R → KnownBytes) (old new : Source R) where
 
     -- so that it has passed these too
     pub passed_fill : JoinsTaken rem → IfErr r (λ fault. (new.end ≡ Some (Err fault)) × (full ≡ start)) → new.layout ≡ old.layout → new.counts.read_so_far ≤ max_records
-        → (source : Source R) (rows : List Entries) → HasPassed rem source old rows → HasPassed rem source new (rows ++ entries_of full.rows)
+        → (source : SourceOf R Declared) (rows : List Entries) → HasPassed rem source old rows → HasPassed rem source new (rows ++ entries_of full.rows)
     passed_fill join stopped same few source rows has = by old.end refl
       where
         still : full ≡ start → new ≡ old → HasPassed rem source new (rows ++ entries_of full.rows)
         still unchanged now =
             let none : entries_of full.rows ≡ [] = ap (λ (b : RowBlock). entries_of b.rows) unchanged ∙ ap entries_of empty in
-            subst (λ (s : Source R). HasPassed rem source s (rows ++ entries_of full.rows)) (sym now)
+            subst (λ (s : SourceOf R Declared). HasPassed rem source s (rows ++ entries_of full.rows)) (sym now)
             (subst (HasPassed rem source old) (sym (ap (λ xs. rows ++ xs) none ∙ append-nil rows)) has)
 
         by : (end : SourceEnd) → old.end ≡ end → HasPassed rem source new (rows ++ entries_of full.rows)
@@ -135,17 +137,17 @@ module _ {R : Type 0} (rem : R → KnownBytes) (old new : Source R) where
             let stops = subst (λ r. IfErr r (λ fault. (new.end ≡ Some (Err fault)) × (full ≡ start))) is stopped in
             let gave = (filled going).puts.given in
             let none = no_rows going (ap (λ (block : RowBlock). length block.rows) stops.1 ∙ ap length empty) in
-            let ending = subst (Behind rem old.layout gave.at new.input gave.middle new.counts) stops.0 gave.ending in
-            let read_so_far = join old.layout old.input gave.at ending.at old.counts gave.middle new.counts [] [] (subst (HasReadRows rem old.layout old.input gave.at old.counts gave.middle) none gave.read_so_far) ending.read_so_far in
-            subst (λ end. MatchOption end ((t : Counts) × HasStopped rem old.layout old.input old.counts t fault) (λ e. e ≡ Err fault)) (sym going)
+            let ending = subst (Behind rem (plain_layout old.layout) gave.at new.input gave.middle new.counts) stops.0 gave.ending in
+            let read_so_far = join (plain_layout old.layout) old.input gave.at ending.at old.counts gave.middle new.counts [] [] (subst (HasReadRows rem (plain_layout old.layout) old.input gave.at old.counts gave.middle) none gave.read_so_far) ending.read_so_far in
+            subst (λ end. MatchOption end ((t : Counts) × HasStopped rem (plain_layout old.layout) old.input old.counts t fault) (λ e. e ≡ Err fault)) (sym going)
             (new.counts, record { at = ending.at; read_so_far = read_so_far; later = ending.later; too_long = ending.too_long })
         by (Some (Ok done)) going = absurd (cc (is, (ended going).0))
         by (Some (Err e)) going =
-            subst (λ end. MatchOption end ((t : Counts) × HasStopped rem old.layout old.input old.counts t fault) (λ e. e ≡ Err fault)) (sym going) (cc (is, (failed e going).0))
+            subst (λ end. MatchOption end ((t : Counts) × HasStopped rem (plain_layout old.layout) old.input old.counts t fault) (λ e. e ≡ Err fault)) (sym going) (cc (is, (failed e going).0))
 
     module _ (later : OnOk r ((fault : SourceFault) → new.end ≡ Some (Err fault) → length start.rows < length full.rows)) (done : r ≡ Ok tt) where
       -- a call that puts no row there finds none
-      pub fill_over : JoinsTaken rem → new.counts.read_so_far ≤ max_records → length full.rows ≡ 0 → GivesFirst rem old new None × GivesNone rem old new
+      pub fill_over : JoinsTaken rem → new.counts.read_so_far ≤ max_records → length full.rows ≡ 0 → GivesFirst rem (plain_source old) (plain_source new) None × GivesNone rem old new
       fill_over join few none = by old.end refl
         where
           going_on : old.end ≡ None → (end : SourceEnd) → new.end ≡ end → end ≡ Some (Ok tt)
@@ -158,19 +160,19 @@ module _ {R : Type 0} (rem : R → KnownBytes) (old new : Source R) where
           over : old.end ≡ None → new.end ≡ Some (Ok tt)
           over going = going_on going new.end refl
 
-          by : (end : SourceEnd) → old.end ≡ end → GivesFirst rem old new None × GivesNone rem old new
+          by : (end : SourceEnd) → old.end ≡ end → GivesFirst rem (plain_source old) (plain_source new) None × GivesNone rem old new
           by None going =
               let gave = (filled going).puts.given in
-              let ending = subst (Behind rem old.layout gave.at new.input gave.middle new.counts) (over going) gave.ending in
-              let read_so_far = join old.layout old.input gave.at ending.at old.counts gave.middle new.counts [] []
-              (subst (HasReadRows rem old.layout old.input gave.at old.counts gave.middle) (no_rows going none) gave.read_so_far) ending.read_so_far in (
+              let ending = subst (Behind rem (plain_layout old.layout) gave.at new.input gave.middle new.counts) (over going) gave.ending in
+              let read_so_far = join (plain_layout old.layout) old.input gave.at ending.at old.counts gave.middle new.counts [] []
+              (subst (HasReadRows rem (plain_layout old.layout) old.input gave.at old.counts gave.middle) (no_rows going none) gave.read_so_far) ending.read_so_far in (
                 λ all others still.
                     let first = (filled going).first all others still in
                     let rest = first.2 (λ fault is. absurd (cc (is, over going))) in
-                    let nothing = subst (λ end. MatchOption end (HasLeft rem new.layout new.input first.0 rest.left) (λ e. (first.0 ≡ []) × (rest.left ≡ 0))) (over going) rest.still in
+                    let nothing = subst (λ end. MatchOption end (HasLeft rem (plain_layout new.layout) new.input first.0 rest.left) (λ e. (first.0 ≡ []) × (rest.left ≡ 0))) (over going) rest.still in
                     (first.1 ∙ ap₂ (λ xs ys. xs ++ ys) (no_rows going none) nothing.0, omega (arith, rest.count, nothing.1)),
                 record {
-                  ended = subst (λ end. MatchOption end (HasReadAll rem old.layout old.input old.counts new.counts) (λ e. (e ≡ Ok tt) × (new ≡ old))) (sym going)
+                  ended = subst (λ end. MatchOption end (HasReadAll rem (plain_layout old.layout) old.input old.counts new.counts) (λ e. (e ≡ Ok tt) × (new ≡ old))) (sym going)
                       (record { at = ending.at; read_so_far = read_so_far; over = ending.over });
                   few = few;
                 },
@@ -178,10 +180,10 @@ module _ {R : Type 0} (rem : R → KnownBytes) (old new : Source R) where
           by (Some (Ok tt)) going =
               let same = (ended going).1 in (
                 λ all others still.
-                    let nothing = subst (λ end. MatchOption end (HasLeft rem old.layout old.input all others) (λ e. (all ≡ []) × (others ≡ 0))) going still in
-                    (nothing.0, omega (arith, nothing.1, ap (λ (s : Source R). s.counts.bad) same)),
+                    let nothing = subst (λ end. MatchOption end (HasLeft rem (plain_layout old.layout) old.input all others) (λ e. (all ≡ []) × (others ≡ 0))) going still in
+                    (nothing.0, omega (arith, nothing.1, ap (λ (s : SourceOf R Declared). s.counts.bad) same)),
                 record {
-                  ended = subst (λ end. MatchOption end (HasReadAll rem old.layout old.input old.counts new.counts) (λ e. (e ≡ Ok tt) × (new ≡ old))) (sym going) (refl, same);
+                  ended = subst (λ end. MatchOption end (HasReadAll rem (plain_layout old.layout) old.input old.counts new.counts) (λ e. (e ≡ Ok tt) × (new ≡ old))) (sym going) (refl, same);
                   few = few;
                 },
               )
@@ -199,7 +201,7 @@ module _ {R : Type 0} (rem : R → KnownBytes) (old new : Source R) where
 
 -- ---- a batch
 
-module _ {R : Type 0} (rem : R → KnownBytes) (old new : Source R) (rows : List Entries) (has : HasPassed rem old new rows) where
+module _ {R : Type 0} (rem : R → KnownBytes) (old new : SourceOf R Declared) (rows : List Entries) (has : HasPassed rem old new rows) where
   -- some rows that a source has given are the next ones
   pub passed_next : new.counts.read_so_far ≤ max_records → 0 < length rows → GivesNext rem old new rows
   passed_next few some = by old.end refl
@@ -213,7 +215,7 @@ module _ {R : Type 0} (rem : R → KnownBytes) (old new : Source R) (rows : List
         few = few;
       }
       by (Some e) is =
-          let none = subst (λ end. MatchOption end (HasGivenRows rem old.layout old.input new.input old.counts new.counts rows new.end) (λ e. (rows ≡ []) × (new ≡ old))) is has.gone.given in
+          let none = subst (λ end. MatchOption end (HasGivenRows rem (plain_layout old.layout) old.input new.input old.counts new.counts rows new.end) (λ e. (rows ≡ []) × (new ≡ old))) is has.gone.given in
           absurd (omega (arith, some, ap length none.0))
 
   -- a source that goes on had not ended before
@@ -221,10 +223,10 @@ module _ {R : Type 0} (rem : R → KnownBytes) (old new : Source R) (rows : List
   passed_open going = (is_open rem old new rows has.gone going).0
 
 -- a source that had not ended may stop where memory is refused
-pub refused_now : {R : Type 0} (rem : R → KnownBytes) (source : Source R) → HasReadRows rem source.layout source.input source.input source.counts source.counts []
+pub refused_now : {R : Type 0} (rem : R → KnownBytes) (source : SourceOf R Declared) → HasReadRows rem (plain_layout source.layout) source.input source.input source.counts source.counts []
     → source.end ≡ None → FailsNow rem source NoMemory
 refused_now rem source none going =
-    subst (λ end. MatchOption end ((t : Counts) × HasStopped rem source.layout source.input source.counts t NoMemory) (λ e. e ≡ Err NoMemory)) (sym going)
+    subst (λ end. MatchOption end ((t : Counts) × HasStopped rem (plain_layout source.layout) source.input source.counts t NoMemory) (λ e. e ≡ Err NoMemory)) (sym going)
     (source.counts, record { at = source.input; read_so_far = none; later = λ is. absurd (cc is); too_long = λ is. absurd (cc is) })
 
 -- what holds anyway holds where there is an error

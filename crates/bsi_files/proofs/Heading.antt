@@ -10,7 +10,7 @@ use Rattle.bsi_syntax.specs.Bytes.{KnownBytes}
 use Rattle.bsi_syntax.specs.Numbers.{Field}
 use Rattle.bsi_schema.specs.Columns.{Declared}
 use Rattle.bsi_input.specs.RowFiles.{is_header}
-use Rattle.bsi_input.specs.Sources.{IsAfterHeader, Source}
+use Rattle.bsi_input.specs.Sources.{plain_layout, IsAfterHeader, SourceOf}
 use Rattle.bsi_input.specs.declared.rows.SourceFault.TheVariants as source
 use Rattle.bsi_files.specs.Begun.{Begins}
 use Rattle.bsi_files.specs.Headers.{HasHeader, EarlierFilesHaveHeaders, IsFirstWithoutHeader, IsHeaderFault, IsHeadersFault, LacksHeader}
@@ -30,7 +30,7 @@ map_long f (x ∷ xs) = ap (λ n. suc n) (map_long f xs)
 
 module _ {R : Type 0} (rem : R → KnownBytes) (schema : Declared) where
   -- a source that stands after a header
-  header_of : (reader : R) (source : Source R) → Begins rem schema reader source → IfSome (rem reader) (HasHeader schema)
+  header_of : (reader : R) (source : SourceOf R Declared) → Begins rem schema reader source → IfSome (rem reader) (HasHeader schema)
   header_of reader source begins = by (rem reader) begins.behind
     where
       at : (o : Option Read) → MatchOption o ⊥ (λ read. (source.layout.header ≡ read.0) × (reader_state source.input ≡ read.1) × (source_of rem source.input ≡ Some read.2))
@@ -38,11 +38,11 @@ module _ {R : Type 0} (rem : R → KnownBytes) (schema : Declared) where
       at None stands = stands
       at (Some read) stands = subst (λ (h : List Field). is_header schema h ≡ true) stands.0 begins.header_is
 
-      by : (o : KnownBytes) → IfSome o (λ bytes. IsAfterHeader rem source.layout source.input (strip_bom bytes)) → IfSome o (HasHeader schema)
+      by : (o : KnownBytes) → IfSome o (λ bytes. IsAfterHeader rem (plain_layout source.layout) source.input (strip_bom bytes)) → IfSome o (HasHeader schema)
       by None behind = tt
       by (Some bytes) behind = at (next_record default_config st.StartRecord [] [] (strip_bom bytes)) behind
 
-  pub headers_of : (readers : List R) (sources : List (Source R)) → AllZip (Begins rem schema) readers sources
+  pub headers_of : (readers : List R) (sources : List (SourceOf R Declared)) → AllZip (Begins rem schema) readers sources
       → All (λ other. IfSome other (HasHeader schema)) (map rem readers)
   headers_of [] sources begun = All-nil (λ other. IfSome other (HasHeader schema))
   headers_of (reader ∷ readers) [] begun = absurd begun
@@ -50,7 +50,7 @@ module _ {R : Type 0} (rem : R → KnownBytes) (schema : Declared) where
       All-cons (λ other. IfSome other (HasHeader schema)) (rem reader) (map rem readers) (header_of reader source begun.0) (headers_of readers sources begun.1)
 
   -- the file whose header is read next
-  first_without : (all left rest : List R) (reader : R) (sources : List (Source R)) (number : ℕ) → HasMatched (Begins rem schema) all left sources
+  first_without : (all left rest : List R) (reader : R) (sources : List (SourceOf R Declared)) (number : ℕ) → HasMatched (Begins rem schema) all left sources
       → left ≡ reader ∷ rest → number ≡ length sources → IfSome (rem reader) (LacksHeader schema) → IsFirstWithoutHeader schema (map rem all) number
   first_without all left rest reader sources number has is at lacks = record {
     before = map rem has.done;
@@ -63,7 +63,7 @@ module _ {R : Type 0} (rem : R → KnownBytes) (schema : Declared) where
   }
 
   -- each file before it has a header
-  behind : (all left rest : List R) (reader : R) (sources : List (Source R)) (number : ℕ) → HasMatched (Begins rem schema) all left sources
+  behind : (all left rest : List R) (reader : R) (sources : List (SourceOf R Declared)) (number : ℕ) → HasMatched (Begins rem schema) all left sources
       → left ≡ reader ∷ rest → number ≡ length sources → EarlierFilesHaveHeaders schema (map rem all) number
   behind all left rest reader sources number has is at =
       let files : map rem all ≡ map rem has.done ++ map rem left = ap (λ rs. map rem rs) has.parts ∙ map_append rem has.done left in
@@ -77,7 +77,7 @@ module _ {R : Type 0} (rem : R → KnownBytes) (schema : Declared) where
             (headers_of has.done sources has.matched);
       }
 
-  numbered : (all left rest : List R) (reader : R) (sources : List (Source R)) (place number : ℕ) → HasMatched (Begins rem schema) all left sources
+  numbered : (all left rest : List R) (reader : R) (sources : List (SourceOf R Declared)) (place number : ℕ) → HasMatched (Begins rem schema) all left sources
       → left ≡ reader ∷ rest → place ≡ length sources → (place < max_feeders → number ≡ place) → length all ≤ max_feeders → number ≡ length sources
   numbered all left rest reader sources place number has is at named few =
       let done : length has.done ≡ length sources = matched_long (Begins rem schema) has.done sources has.matched in
@@ -85,7 +85,7 @@ module _ {R : Type 0} (rem : R → KnownBytes) (schema : Declared) where
       let one : length left ≡ suc (length rest) = ap (λ (rs : List R). length rs) is in
       named (omega arith) ∙ at
 
-  pub headers_fault : (all left rest : List R) (reader : R) (sources : List (Source R)) (place number : ℕ) (fault : FilesFault) → HasMatched (Begins rem schema) all left sources
+  pub headers_fault : (all left rest : List R) (reader : R) (sources : List (SourceOf R Declared)) (place number : ℕ) (fault : FilesFault) → HasMatched (Begins rem schema) all left sources
       → left ≡ reader ∷ rest → place ≡ length sources → (place < max_feeders → number ≡ place) → length all ≤ max_feeders → IsHeaderFault schema (rem reader) number fault
       → IsHeadersFault schema (map rem all) fault
   headers_fault all left rest reader sources place number (files.Source f source.BadHeader) has is at named few met =

@@ -2,7 +2,8 @@
 use Rattle.std.proofs.Common.{◌≡◌, List, [], ◌∷◌, ◌++◌, map, refl, ap, sym, ◌∙◌, subst}
 use Rattle.std.proofs.lemmas.List.{append-nil}
 use Rattle.bsi_system.specs.Rings.{FeederState}
-use Rattle.bsi_input.specs.Sources.{Source}
+use Rattle.bsi_schema.specs.Columns.{Declared}
+use Rattle.bsi_input.specs.Sources.{SourceOf}
 use Rattle.bsi_files.specs.Ends.{tasks, AreEndsOf, IsFeedEnd, Task}
 use Rattle.std.specs.List.{AllZip}
 use Rattle.bsi_files.specs.declared.feeding.FeedEnd.{FeedEnd}
@@ -51,12 +52,12 @@ ends_of rem (thread ∷ threads) [] f are = absurd are
 ends_of rem (thread ∷ threads) (end ∷ ends) f are = (are.0, ends_of rem threads ends f are.1)
 
 module _ {R X : Type 0} (f : X → Task R) where
-  pub started_none : (threads : List X) (feeders left : List FeederState) (sources given : List (Source R)) → threads ≡ [] → left ≡ feeders → given ≡ sources
+  pub started_none : (threads : List X) (feeders left : List FeederState) (sources given : List (SourceOf R Declared)) → threads ≡ [] → left ≡ feeders → given ≡ sources
       → map f threads ++ tasks left given ≡ tasks feeders sources
   started_none threads feeders left sources given none one two =
       ap (λ (ts : List X). map f ts ++ tasks left given) none ∙ (ap (λ fs. tasks fs given) one ∙ ap (λ ss. tasks feeders ss) two)
 
-  pub started_more : (threads more : List X) (thread : X) (left rest : List FeederState) (given others : List (Source R)) (feeder : FeederState) (source : Source R)
+  pub started_more : (threads more : List X) (thread : X) (left rest : List FeederState) (given others : List (SourceOf R Declared)) (feeder : FeederState) (source : SourceOf R Declared)
       (whole : List (Task R)) → map f threads ++ tasks left given ≡ whole → left ≡ feeder ∷ rest → given ≡ source ∷ others → more ≡ threads ++ thread ∷ []
       → (f thread).0 ≡ feeder → (f thread).1 ≡ source → map f more ++ tasks rest others ≡ whole
   started_more threads more thread left rest given others feeder source whole was l g pushed one two =
@@ -68,10 +69,10 @@ module _ {R X : Type 0} (f : X → Task R) where
       ∙ (ap (λ t. map f threads ++ t ∷ tasks rest others) task
       ∙ (ap (λ fs. map f threads ++ fs) (sym (ap (λ fs. tasks fs given) l ∙ ap (λ ss. tasks (feeder ∷ rest) ss) g)) ∙ was))))
     where
-      by : (a : FeederState) (b : Source R) → a ≡ feeder → b ≡ source → (let t : Task R = (a, b) in let u : Task R = (feeder, source) in t ≡ u)
+      by : (a : FeederState) (b : SourceOf R Declared) → a ≡ feeder → b ≡ source → (let t : Task R = (a, b) in let u : Task R = (feeder, source) in t ≡ u)
       by a b p q = cc
 
-  pub started_all : (threads : List X) (left : List FeederState) (given : List (Source R)) (whole : List (Task R)) → map f threads ++ tasks left given ≡ whole
+  pub started_all : (threads : List X) (left : List FeederState) (given : List (SourceOf R Declared)) (whole : List (Task R)) → map f threads ++ tasks left given ≡ whole
       → left ≡ [] → map f threads ≡ whole
   started_all threads left given whole was none =
       sym (append-nil (map f threads)) ∙ (ap (λ fs. map f threads ++ tasks fs given) (sym none) ∙ was)

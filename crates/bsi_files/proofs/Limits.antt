@@ -9,7 +9,8 @@ use Rattle.bsi_rows.specs.Runs.{rows_from}
 use Rattle.bsi_system.specs.Rings.{FeederState, Sent}
 use Rattle.bsi_system.specs.Running.{progress_at, AlwaysHolds, FeederProgress, LoaderState, SystemName}
 use Rattle.bsi_rows.specs.Rows.{Entries, SourcedRow}
-use Rattle.bsi_input.specs.Sources.{Source}
+use Rattle.bsi_schema.specs.Columns.{Declared}
+use Rattle.bsi_input.specs.Sources.{SourceOf}
 use Rattle.bsi_files.specs.Ends.{tasks, AreEndsOf, AreFeeders, IsFeedEnd}
 use Rattle.bsi_files.specs.Feeding.{HasFed}
 use Rattle.bsi_answers.specs.Mixes.{file_by_file, HaveSameFeederRows}
@@ -106,13 +107,13 @@ less_of xs ys begins other = by begins.0 begins.1
 -- ---- what the closings carried
 
 module _ {R : Type 0} (rem : R → KnownBytes) (progress : List FeederProgress) where
-  record AreGiven (n : ℕ) (sources : List (Source R)) (feds : List Fed) : Type 0 where
+  record AreGiven (n : ℕ) (sources : List (SourceOf R Declared)) (feds : List Fed) : Type 0 where
     rows : Lists
     given : AllZip (GaveRows rem) sources rows
     settled : (k : ℕ) → k < length rows → (progress_at progress (n + k)).carried ≡ Some (at rows k)
     many : length rows ≡ length feds
 
-  one_given : (n : ℕ) (feeder : FeederState) (source : Source R) (end : FeedEnd) (fed : Fed) → feeder.sent ≡ [] → IsFeedEnd rem feeder source end
+  one_given : (n : ℕ) (feeder : FeederState) (source : SourceOf R Declared) (end : FeedEnd) (fed : Fed) → feeder.sent ≡ [] → IsFeedEnd rem feeder source end
       → IsClosingSettled progress n end fed → fed.closed ≡ true
       → (rows : List Entries) × GaveRows rem source rows × ((progress_at progress n).carried ≡ Some rows)
   one_given n feeder source end fed fresh is settled closed = by end.closing refl is.fed.sent settled.settled
@@ -127,7 +128,7 @@ module _ {R : Type 0} (rem : R → KnownBytes) (progress : List FeederProgress) 
           let wrong : false ≡ true = sym (ap (λ o. is_some o) e) ∙ (sym settled.fed_is.closed ∙ closed) in absurd (cc (wrong))
       by (Some closing) e sent t = (has.rows, has.given, t ∙ ap (λ xs. Some xs) (sent ∙ ap (λ xs. xs ++ has.rows) fresh))
 
-  all_given : (system : SystemName) (n : ℕ) (feeders : List FeederState) (sources : List (Source R)) (ends : List FeedEnd) (feds : List Fed)
+  all_given : (system : SystemName) (n : ℕ) (feeders : List FeederState) (sources : List (SourceOf R Declared)) (ends : List FeedEnd) (feds : List Fed)
       → length sources ≡ length feeders → AreFeeders system n feeders → AreEndsOf rem (tasks feeders sources) ends → AreClosingsSettled progress n ends feds
       → all_closed feds ≡ true → AreGiven n sources feds
   unfolding at
@@ -164,7 +165,7 @@ module _ {R : Type 0} (rem : R → KnownBytes) (progress : List FeederProgress) 
 -- ---- the limit is passed
 
 module _ {R : Type 0} (rem : R → KnownBytes) where
-  pub over_limit : (before : List FeederProgress) (limit : ℕ) (s : LoaderState) (system : SystemName) (feeders : List FeederState) (sources : List (Source R)) (ends : List FeedEnd)
+  pub over_limit : (before : List FeederProgress) (limit : ℕ) (s : LoaderState) (system : SystemName) (feeders : List FeederState) (sources : List (SourceOf R Declared)) (ends : List FeedEnd)
       (feds : List Fed) → IsFullWithRowsLeft (length feds) s → s.system ≡ system → system.limit ≡ limit → length system.channels ≡ length feeders
       → length sources ≡ length feeders → AreFeeders system 0 feeders → AreEndsOf rem (tasks feeders sources) ends → AreClosingsSettled before 0 ends feds
       → SettledUnchanged before s.progress → all_closed feds ≡ true → AreOverLimit rem limit sources

@@ -9,7 +9,8 @@ use Rattle.bsi_rows.specs.Runs.{rows_from}
 use Rattle.bsi_system.specs.Rings.{new_feeder_state, new_feeders, ChannelName, FeederState, Sent}
 use Rattle.bsi_system.specs.Running.{progress_at, settled_as, with_popped, AlwaysHolds, ChangesOnlySeen, FeederProgress, IsClosingOf, IsFeederOf, IsLoaderReply, LoaderState, LoadsOne, MayLoad, SystemName}
 use Rattle.bsi_rows.specs.Rows.{Entries, SourcedRow}
-use Rattle.bsi_input.specs.Sources.{Source}
+use Rattle.bsi_schema.specs.Columns.{Declared}
+use Rattle.bsi_input.specs.Sources.{SourceOf}
 use Rattle.bsi_files.specs.Ends.{tasks, AreClosings, AreEndsOf, AreFeeders, IsFeedEnd}
 use Rattle.bsi_files.specs.Feds.{AreFedFrom, IsAllFed, IsFedFrom}
 use Rattle.bsi_files.specs.Progress.{all_popped, AreClosingsSettled, AreLoaded, EndedWell, IsClosingSettled, IsDrained, IsFedOf, IsFullAt, IsLoaded, OthersUnchanged, PopsOnlyOf, SettledUnchanged}
@@ -267,7 +268,7 @@ feeders_long n (channel ∷ channels) [] same = absurd (omega arith)
 feeders_long n (channel ∷ channels) (capacity ∷ capacities) same = ap suc (feeders_long (suc n) channels capacities (omega arith))
 
 module _ {R : Type 0} (rem : R → KnownBytes) where
-  pub closings_of : (system : SystemName) (n : ℕ) (feeders : List FeederState) (sources : List (Source R)) (ends : List FeedEnd) → AreFeeders system n feeders
+  pub closings_of : (system : SystemName) (n : ℕ) (feeders : List FeederState) (sources : List (SourceOf R Declared)) (ends : List FeedEnd) → AreFeeders system n feeders
       → AreEndsOf rem (tasks feeders sources) ends → AreClosings system n ends
   closings_of system n feeders sources [] own are = tt
   closings_of system n [] sources (end ∷ ends) own are = absurd are
@@ -283,7 +284,7 @@ module _ {R : Type 0} (rem : R → KnownBytes) where
         ap (λ k. slice_get system.channels k) number ∙ (own.0.1 ∙ ap (λ (l : ChannelName). Some l) (sym channel)),
       )
 
-  fed_one : (stops : Bool) (rows : List SourcedRow) (progress : List FeederProgress) (n : ℕ) (feeder : FeederState) (source : Source R) (end : FeedEnd) (fed : Fed)
+  fed_one : (stops : Bool) (rows : List SourcedRow) (progress : List FeederProgress) (n : ℕ) (feeder : FeederState) (source : SourceOf R Declared) (end : FeedEnd) (fed : Fed)
       → rows_from n rows ≡ (progress_at progress n).popped → feeder.sent ≡ [] → IsFeedEnd rem feeder source end → IsLoaded progress n end fed → EndedWell stops fed
       → IsFedFrom rem stops rows n source fed
   fed_one stops rows progress n feeder source end fed from fresh is loaded fine = by end.closing refl is.fed.sent loaded.popped
@@ -307,7 +308,7 @@ module _ {R : Type 0} (rem : R → KnownBytes) where
                 subst (λ xs. IsReadOut rem source xs fed.bad) same (subst (λ b. IsReadOut rem source has.rows b) (sym loaded.fed_is.bad) out);
           }
 
-  pub fed_all : (stops : Bool) (rows : List SourcedRow) (progress : List FeederProgress) (system : SystemName) (n : ℕ) (feeders : List FeederState) (sources : List (Source R))
+  pub fed_all : (stops : Bool) (rows : List SourcedRow) (progress : List FeederProgress) (system : SystemName) (n : ℕ) (feeders : List FeederState) (sources : List (SourceOf R Declared))
       (ends : List FeedEnd) (feds : List Fed)
       → ((f : ℕ) → rows_from f rows ≡ (progress_at progress f).popped) → length sources ≡ length feeders → AreFeeders system n feeders
       → AreEndsOf rem (tasks feeders sources) ends → AreLoaded progress n ends feds → All (EndedWell stops) feds → AreFedFrom rem stops rows n sources feds
@@ -324,7 +325,7 @@ module _ {R : Type 0} (rem : R → KnownBytes) where
   )
 
   -- all rows that were popped
-  pub all_fed : (stops : Bool) (limit : ℕ) (loaded : LoaderState) (system : SystemName) (feeders : List FeederState) (sources : List (Source R)) (ends : List FeedEnd) (feds : List Fed)
+  pub all_fed : (stops : Bool) (limit : ℕ) (loaded : LoaderState) (system : SystemName) (feeders : List FeederState) (sources : List (SourceOf R Declared)) (ends : List FeedEnd) (feds : List Fed)
       → AlwaysHolds loaded → loaded.system ≡ system → length system.channels ≡ length feeders → length sources ≡ length feeders
       → AreFeeders system 0 feeders → AreEndsOf rem (tasks feeders sources) ends → AreLoaded loaded.progress 0 ends feds → All (EndedWell stops) feds
       → length (loaded.published ++ loaded.staged) ≤ loaded.system.limit → system.limit ≡ limit → IsAllFed rem stops limit (loaded.published ++ loaded.staged) sources feds

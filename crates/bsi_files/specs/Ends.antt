@@ -2,7 +2,8 @@
 use Rattle.std.specs.Prelude.{◌≡◌, ◌≤◌, ⊤, ℕ, suc, List, [], ◌∷◌, length, IfSome}
 use Rattle.bsi_system.specs.Rings.{FeederState}
 use Rattle.bsi_system.specs.Running.{IsClosingOf, IsFeederOf, SystemName}
-use Rattle.bsi_input.specs.Sources.{Source}
+use Rattle.bsi_schema.specs.Columns.{Declared}
+use Rattle.bsi_input.specs.Sources.{SourceOf}
 use Rattle.bsi_files.specs.Feeding.{HasFailed, HasFed}
 use Rattle.bsi_files.specs.declared.feeding.FeedEnd.{FeedEnd}
 use Rattle.std.specs.List.{AllZip}
@@ -10,7 +11,7 @@ use Rattle.bsi_rows.specs.Table.{max_feeders}
 use Rattle.bsi_syntax.specs.Bytes.{KnownBytes}
 
 -- How a feeder ended that read this source.
-pub record IsFeedEnd {R : Type 0} (rem : R → KnownBytes) (feeder : FeederState) (source : Source R) (end : FeedEnd) : Type 0 where
+pub record IsFeedEnd {R : Type 0} (rem : R → KnownBytes) (feeder : FeederState) (source : SourceOf R Declared) (end : FeedEnd) : Type 0 where
   -- If there is a closing, its number is that of the feeder.
   pub number : IfSome end.closing (λ closing. closing.number ≡ feeder.number)
   -- If there is a closing, its channel is that of the feeder.
@@ -22,10 +23,10 @@ pub record IsFeedEnd {R : Type 0} (rem : R → KnownBytes) (feeder : FeederState
 
 -- A feeder, and the source that it reads.
 abbrev pub Task : Type 0 → Type 0
-Task R = FeederState × Source R
+Task R = FeederState × SourceOf R Declared
 
 -- Each feeder with the source of the same number.
-abbrev pub tasks : {R : Type 0} → List FeederState → List (Source R) → List (Task R)
+abbrev pub tasks : {R : Type 0} → List FeederState → List (SourceOf R Declared) → List (Task R)
 tasks [] sources = []
 tasks (feeder ∷ feeders) [] = []
 tasks (feeder ∷ feeders) (source ∷ sources) = (feeder, source) ∷ tasks feeders sources
@@ -41,7 +42,7 @@ AreFeeders system n (feeder ∷ feeders) =
     ((feeder.number ≡ n) × IsFeederOf feeder system × (feeder.sent ≡ [])) × AreFeeders system (suc n) feeders
 
 -- What is ready for a run: the feeders of a system, and their sources.
-pub record AreReady {R : Type 0} (system : SystemName) (limit : ℕ) (feeders : List FeederState) (sources : List (Source R)) : Type 0 where
+pub record AreReady {R : Type 0} (system : SystemName) (limit : ℕ) (feeders : List FeederState) (sources : List (SourceOf R Declared)) : Type 0 where
   -- The feeders are those of the system, numbered from 0, and have sent nothing.
   pub own : AreFeeders system 0 feeders
   -- The system has a channel for each feeder.

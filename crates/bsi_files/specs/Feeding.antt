@@ -4,7 +4,9 @@ use Rattle.csv.specs.declared.reader.Reader.{Reader}
 use mathlib.Core.List.{IsPrefix}
 use Rattle.bsi_system.specs.Rings.{with_look, with_sent_rows, FeederState}
 use Rattle.bsi_rows.specs.Rows.{Entries}
-use Rattle.bsi_input.specs.Sources.{max_records, Counts, GivesFirst, GivesFirstRows, HasGivenRows, HasReadAll, HasReadRows, HasStopped, IsOver, Source, StillHas}
+use Rattle.bsi_input.specs.Formats.{max_records}
+use Rattle.bsi_schema.specs.Columns.{Declared}
+use Rattle.bsi_input.specs.Sources.{plain_layout, plain_source, Counts, GivesFirst, GivesFirstRows, HasGivenRows, HasReadAll, HasReadRows, HasStopped, IsOver, SourceOf, StillHas}
 use Rattle.bsi_input.specs.declared.rows.SourceFault.{SourceFault}
 use Rattle.bsi_files.specs.declared.feeding.FeedEnd.{FeedEnd}
 use Rattle.bsi_files.specs.declared.feeding.FeedOutcome.{FeedOutcome}
@@ -12,23 +14,23 @@ use Rattle.bsi_files.specs.declared.feeding.FeedOutcome.TheVariants as outcome
 use Rattle.bsi_syntax.specs.Bytes.{KnownBytes}
 
 -- The rows are the first good ones that a source still had.
-abbrev pub BeginsWith : {R : Type 0} → (R → KnownBytes) → Source R → List Entries → Type 0
-BeginsWith rem source rows = (all : List Entries) → (others : ℕ) → StillHas rem source all others → IsPrefix rows all
+abbrev pub BeginsWith : {R : Type 0} → (R → KnownBytes) → SourceOf R Declared → List Entries → Type 0
+BeginsWith rem source rows = (all : List Entries) → (others : ℕ) → StillHas rem (plain_source source) all others → IsPrefix rows all
 
 -- The rows are all good ones that a source still had. With its other records, `bad` records are bad.
-abbrev pub GaveAllRows : {R : Type 0} → (R → KnownBytes) → Source R → List Entries → ℕ → Type 0
+abbrev pub GaveAllRows : {R : Type 0} → (R → KnownBytes) → SourceOf R Declared → List Entries → ℕ → Type 0
 GaveAllRows rem source rows bad =
-    (all : List Entries) → (others : ℕ) → StillHas rem source all others
+    (all : List Entries) → (others : ℕ) → StillHas rem (plain_source source) all others
     → (rows ≡ all) × (bad ≡ source.counts.bad + others)
 
 -- A source was read to its end.
-pub record IsReadOut {R : Type 0} (rem : R → KnownBytes) (source : Source R) (rows : List Entries) (bad : ℕ) : Type 0 where
+pub record IsReadOut {R : Type 0} (rem : R → KnownBytes) (source : SourceOf R Declared) (rows : List Entries) (bad : ℕ) : Type 0 where
   -- The reader after the last record.
   pub at : Reader R
   -- The counts after the last record.
   pub end : Counts
   -- The records that were read are counted, and the good ones have exactly these rows.
-  pub read_so_far : HasReadRows rem source.layout source.input at source.counts end rows
+  pub read_so_far : HasReadRows rem (plain_layout source.layout) source.input at source.counts end rows
   -- The reader has no record left, as far as its bytes are known.
   pub over : IsOver rem at
   -- At most 1,000,000 records were read in all.
@@ -37,33 +39,33 @@ pub record IsReadOut {R : Type 0} (rem : R → KnownBytes) (source : Source R) (
   pub bad_is : bad ≡ end.bad
 
 -- A source gave these rows.
-pub record GivesRows {R : Type 0} (rem : R → KnownBytes) (source : Source R) (rows : List Entries) : Type 0 where
+pub record GivesRows {R : Type 0} (rem : R → KnownBytes) (source : SourceOf R Declared) (rows : List Entries) : Type 0 where
   -- The reader after the records that were read.
   pub at : Reader R
   -- The counts after the records that were read.
   pub end : Counts
   -- The records that were read are counted, and the good ones have exactly these rows.
-  pub read_so_far : HasReadRows rem source.layout source.input at source.counts end rows
+  pub read_so_far : HasReadRows rem (plain_layout source.layout) source.input at source.counts end rows
   -- If the source had read at most 1,000,000 records before, it has read at most 1,000,000 in all.
   pub few : source.counts.read_so_far ≤ max_records → end.read_so_far ≤ max_records
 
 -- Records of a source were read.
-pub record IsReadFrom {R : Type 0} (rem : R → KnownBytes) (source : Source R) (rows : List Entries) (bad : ℕ) : Type 0 where
+pub record IsReadFrom {R : Type 0} (rem : R → KnownBytes) (source : SourceOf R Declared) (rows : List Entries) (bad : ℕ) : Type 0 where
   -- The reader after the records that were read.
   pub at : Reader R
   -- The counts after the records that were read.
   pub end : Counts
   -- The records that were read are counted, and the good ones have exactly these rows.
-  pub read_so_far : HasReadRows rem source.layout source.input at source.counts end rows
+  pub read_so_far : HasReadRows rem (plain_layout source.layout) source.input at source.counts end rows
   -- `bad` is the number of bad records in all, with those that were counted before.
   pub bad_is : bad ≡ end.bad
 
 -- Records of a source were read, of which `bad` are bad. The good ones begin with these rows.
-abbrev pub CountsBad : {R : Type 0} → (R → KnownBytes) → Source R → List Entries → ℕ → Type 0
+abbrev pub CountsBad : {R : Type 0} → (R → KnownBytes) → SourceOf R Declared → List Entries → ℕ → Type 0
 CountsBad rem source rows bad = (unsent : List Entries) × IsReadFrom rem source (rows ++ unsent) bad
 
 -- How a feeder ended that read a source.
-pub record HasFed {R : Type 0} (rem : R → KnownBytes) (source : Source R) (before : List Entries) (end : FeedEnd)
+pub record HasFed {R : Type 0} (rem : R → KnownBytes) (source : SourceOf R Declared) (before : List Entries) (end : FeedEnd)
     : Type 0 where
   -- The rows that the feeder sent, after those of `before`.
   pub rows : List Entries
@@ -83,7 +85,7 @@ pub record HasFed {R : Type 0} (rem : R → KnownBytes) (source : Source R) (bef
   pub out : end.stopped ≡ false → end.fault ≡ None → source.end ≡ None → IsReadOut rem source rows end.bad
 
 -- A source that had not ended stopped at the fault, after `many` rows.
-pub record StopsAfter {R : Type 0} (rem : R → KnownBytes) (source : Source R) (many : ℕ) (fault : SourceFault)
+pub record StopsAfter {R : Type 0} (rem : R → KnownBytes) (source : SourceOf R Declared) (many : ℕ) (fault : SourceFault)
     : Type 0 where
   -- The rows that the source gave.
   pub rows : List Entries
@@ -96,54 +98,54 @@ pub record StopsAfter {R : Type 0} (rem : R → KnownBytes) (source : Source R) 
   -- The counts at the fault.
   pub end : Counts
   -- The first records that were read are counted, and the good ones have exactly these rows.
-  pub read_so_far : HasReadRows rem source.layout source.input at source.counts middle rows
+  pub read_so_far : HasReadRows rem (plain_layout source.layout) source.input at source.counts middle rows
   -- After these rows, the reader read only bad records before it stopped by the fault.
-  pub stopped : HasStopped rem source.layout at middle end fault
+  pub stopped : HasStopped rem (plain_layout source.layout) at middle end fault
 
 -- A source had ended by the fault, or stopped at it after `many` rows.
-abbrev pub HasFailed : {R : Type 0} → (R → KnownBytes) → Source R → ℕ → SourceFault → Type 0
+abbrev pub HasFailed : {R : Type 0} → (R → KnownBytes) → SourceOf R Declared → ℕ → SourceFault → Type 0
 HasFailed rem source many fault = MatchOption source.end (StopsAfter rem source many fault) (λ end. end ≡ Err fault)
 
 -- A source gave these rows, its next ones.
-pub record GivesNext {R : Type 0} (rem : R → KnownBytes) (old new : Source R) (rows : List Entries) : Type 0 where
+pub record GivesNext {R : Type 0} (rem : R → KnownBytes) (old new : SourceOf R Declared) (rows : List Entries) : Type 0 where
   -- The source had not ended.
   pub before : old.end ≡ None
   -- The schema and the header of the source are unchanged.
   pub layout : new.layout ≡ old.layout
   -- The reader gave these rows of good records. It goes on after them, or has ended.
-  pub given : HasGivenRows rem old.layout old.input new.input old.counts new.counts rows new.end
+  pub given : HasGivenRows rem (plain_layout old.layout) old.input new.input old.counts new.counts rows new.end
   -- The rows are the first good ones left. The source has the others now, unless it stopped by a fault.
-  pub first : GivesFirstRows rem old new rows
+  pub first : GivesFirstRows rem (plain_source old) (plain_source new) rows
   -- At most 1,000,000 records were read in all.
   pub few : new.counts.read_so_far ≤ max_records
 
 -- A source had ended by the fault, or stopped at it without a further row.
-abbrev pub FailsNow : {R : Type 0} → (R → KnownBytes) → Source R → SourceFault → Type 0
+abbrev pub FailsNow : {R : Type 0} → (R → KnownBytes) → SourceOf R Declared → SourceFault → Type 0
 FailsNow rem source fault =
-    MatchOption source.end ((end : Counts) × HasStopped rem source.layout source.input source.counts end fault)
+    MatchOption source.end ((end : Counts) × HasStopped rem (plain_layout source.layout) source.input source.counts end fault)
     (λ end. end ≡ Err fault)
 
 -- Next records of a source were read and counted. One that had ended counts no more.
-abbrev pub ReadsOn : {R : Type 0} → (R → KnownBytes) → Source R → Source R → Type 0
+abbrev pub ReadsOn : {R : Type 0} → (R → KnownBytes) → SourceOf R Declared → SourceOf R Declared → Type 0
 ReadsOn {R} rem old new =
     MatchOption old.end
-    ((rows : List Entries) × (at : Reader R) × HasReadRows rem old.layout old.input at old.counts new.counts rows)
+    ((rows : List Entries) × (at : Reader R) × HasReadRows rem (plain_layout old.layout) old.input at old.counts new.counts rows)
     (λ end. new.counts ≡ old.counts)
 
 -- A source gave no further row: all records left are bad, or it had ended after the last.
-pub record GivesNone {R : Type 0} (rem : R → KnownBytes) (old new : Source R) : Type 0 where
-  pub ended : MatchOption old.end (HasReadAll rem old.layout old.input old.counts new.counts)
+pub record GivesNone {R : Type 0} (rem : R → KnownBytes) (old new : SourceOf R Declared) : Type 0 where
+  pub ended : MatchOption old.end (HasReadAll rem (plain_layout old.layout) old.input old.counts new.counts)
       (λ end. (end ≡ Ok tt) × (new ≡ old))
   pub few : new.counts.read_so_far ≤ max_records
 
 -- What was gathered in a batch: the next rows of a source. If there is none, none is left, or the source answered a
 -- fault.
-pub record IsGathered {R : Type 0} (rem : R → KnownBytes) (old new : Source R) (rows : List Entries)
+pub record IsGathered {R : Type 0} (rem : R → KnownBytes) (old new : SourceOf R Declared) (rows : List Entries)
     (fault : Option SourceFault) : Type 0 where
   -- The records that were read are counted.
   pub read_so_far : ReadsOn rem old new
   pub some : 0 < length rows → GivesNext rem old new rows
-  pub none : length rows ≡ 0 → MatchOption fault (GivesFirst rem old new None × GivesNone rem old new) (FailsNow rem old)
+  pub none : length rows ≡ 0 → MatchOption fault (GivesFirst rem (plain_source old) (plain_source new) None × GivesNone rem old new) (FailsNow rem old)
 
 -- The most rows of a batch.
 abbrev pub max_batch_rows : ℕ
@@ -151,11 +153,11 @@ max_batch_rows = 1024
 
 -- What one step of feeding does: it sends the next rows of the source, at most a batch; or none, because the source is
 -- over, the feeder is stopped, or there is a fault. The records that were read are counted.
-abbrev pub IsFeedOutcome : {R : Type 0} → (R → KnownBytes) → FeederState → Source R → FeedOutcome → FeederState → Source R → Type 0
+abbrev pub IsFeedOutcome : {R : Type 0} → (R → KnownBytes) → FeederState → SourceOf R Declared → FeedOutcome → FeederState → SourceOf R Declared → Type 0
 IsFeedOutcome rem feeder source (outcome.Sent many) after rest =
     (rows : List Entries) × (length rows ≡ many) × (many ≤ max_batch_rows)
     × (after ≡ with_look (with_sent_rows feeder rows) after.look) × GivesNext rem source rest rows
-IsFeedOutcome rem feeder source outcome.Over after rest = (after ≡ feeder) × GivesFirst rem source rest None
+IsFeedOutcome rem feeder source outcome.Over after rest = (after ≡ feeder) × GivesFirst rem (plain_source source) (plain_source rest) None
     × GivesNone rem source rest
 IsFeedOutcome rem feeder source outcome.Stopped after rest = (after ≡ with_look feeder after.look) × ReadsOn rem source rest
 IsFeedOutcome rem feeder source (outcome.Failed fault) after rest = (after ≡ feeder) × FailsNow rem source fault

@@ -4,7 +4,7 @@ use Rattle.csv.specs.Machine.{next_record}
 use Rattle.csv.specs.Reading.{default_config, strip_bom}
 use Rattle.csv.specs.declared.parser.State.TheVariants as st
 use Rattle.bsi_schema.specs.Columns.{Declared}
-use Rattle.bsi_input.specs.RowFiles.{is_header}
+use Rattle.bsi_input.specs.RowFiles.{is_header, plain_format}
 use Rattle.bsi_input.specs.Sources.{HasNoHeader}
 use Rattle.bsi_input.specs.declared.rows.SourceFault.TheVariants as source
 use Rattle.bsi_answers.specs.declared.faults.FilesFault.{FilesFault}
@@ -19,7 +19,7 @@ HasHeader schema bytes =
 
 -- The first record is none, or there is no record.
 abbrev pub LacksHeader : Declared → List ℕ → Type 0
-LacksHeader schema bytes = HasNoHeader schema (strip_bom bytes)
+LacksHeader schema bytes = HasNoHeader (plain_format schema) (strip_bom bytes)
 
 -- The file of this number is the first without a header, as far as the bytes of the files are known.
 pub record IsFirstWithoutHeader (schema : Declared) (files : List KnownBytes) (number : ℕ) : Type 0 where

@@ -6,7 +6,8 @@ use Rattle.bsi_syntax.specs.Bytes.{Bytes}
 use Rattle.bsi_syntax.specs.Numbers.{Field}
 use Rattle.bsi_rows.specs.Rows.{Entries, SourcedRow}
 use Rattle.bsi_rows.specs.Runs.{rows_from}
-use Rattle.bsi_input.specs.RowFiles.{bad_count, good_rows, is_header}
+use Rattle.bsi_input.specs.Formats.{bad_count, good_rows}
+use Rattle.bsi_input.specs.RowFiles.{is_header, plain_format}
 use Rattle.bsi_input.specs.SchemaTexts.{IsSchemaText}
 use Rattle.bsi_input.specs.Texts.{AreFirstRecords}
 use Rattle.bsi_answers.specs.RowFiles.{FedCounts}
@@ -29,9 +30,9 @@ pub record HasPrefix (schema : Declared) (bytes : Bytes) (rows : List Entries) (
   -- The header is one of the schema.
   pub header_is : is_header schema header ≡ true
   -- The good rows of the records are the given rows, followed by those that were not sent.
-  pub rows_are : good_rows schema header records ≡ rows ++ unsent
+  pub rows_are : good_rows (plain_format schema) header records ≡ rows ++ unsent
   -- `bad` is the number of bad records among these records.
-  pub bad_is : bad ≡ bad_count schema header records
+  pub bad_is : bad ≡ bad_count (plain_format schema) header records
 
 -- Each feeder from n on has as many rows as it accepted, and the good rows of its file begin with them.
 abbrev pub ArePrefixes : Declared → List SourcedRow → ℕ → List (List ℕ) → List FedCounts → Type 0

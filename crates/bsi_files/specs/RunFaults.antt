@@ -6,9 +6,10 @@ use Rattle.bsi_syntax.specs.Bytes.{Bytes, KnownBytes}
 use Rattle.bsi_syntax.specs.Numbers.{Field}
 use Rattle.bsi_schema.specs.Columns.{Declared}
 use Rattle.bsi_rows.specs.Rows.{Entries}
-use Rattle.bsi_input.specs.RowFiles.{good_rows, is_header}
+use Rattle.bsi_input.specs.Formats.{good_rows, max_records}
+use Rattle.bsi_input.specs.RowFiles.{is_header, plain_format}
 use Rattle.bsi_input.specs.SchemaTexts.{DeclaresNoColumn, DeclaresTooLong, IsBadDeclaration, IsSchemaText}
-use Rattle.bsi_input.specs.Sources.{max_records, Source}
+use Rattle.bsi_input.specs.Sources.{SourceOf}
 use Rattle.bsi_input.specs.Texts.{AreFirstRecords, AreTooMany}
 use Rattle.bsi_input.specs.declared.rows.SourceFault.{SourceFault}
 use Rattle.bsi_input.specs.declared.rows.SourceFault.TheVariants as source
@@ -110,7 +111,7 @@ pub record HasFirstRows (schema : Declared) (bytes : Bytes) (rows : List Entries
   -- The header is one of the schema.
   pub header_is : is_header schema header ≡ true
   -- The rows are exactly those of the good records.
-  pub rows_are : rows ≡ good_rows schema header records
+  pub rows_are : rows ≡ good_rows (plain_format schema) header records
 
 -- The good rows of the files exceed the declared limit.
 pub record ArePastLimit (declared : List ℕ) (texts : List Bytes) : Type 0 where
@@ -154,10 +155,10 @@ IsFaultOver stops schema limit files fault =
 -- ---- by the sources
 
 -- The source of this number fails with the fault.
-pub record FailsAt {R : Type 0} (rem : R → KnownBytes) (sources : List (Source R)) (number : ℕ) (fault : SourceFault)
+pub record FailsAt {R : Type 0} (rem : R → KnownBytes) (sources : List (SourceOf R Declared)) (number : ℕ) (fault : SourceFault)
     : Type 0 where
   -- The source of this number.
-  pub source : Source R
+  pub source : SourceOf R Declared
   -- How many rows the source gave before the fault.
   pub many : ℕ
   -- The list of sources has this source at the number.
@@ -166,17 +167,17 @@ pub record FailsAt {R : Type 0} (rem : R → KnownBytes) (sources : List (Source
   pub failed : HasFailed rem source many fault
 
 -- A source that had not ended gave these rows.
-abbrev pub GaveRows : {R : Type 0} → (R → KnownBytes) → Source R → List Entries → Type 0
+abbrev pub GaveRows : {R : Type 0} → (R → KnownBytes) → SourceOf R Declared → List Entries → Type 0
 GaveRows rem source rows = source.end ≡ None → GivesRows rem source rows
 
 -- The sources gave more rows than the limit.
-pub record AreOverLimit {R : Type 0} (rem : R → KnownBytes) (limit : ℕ) (sources : List (Source R)) : Type 0 where
+pub record AreOverLimit {R : Type 0} (rem : R → KnownBytes) (limit : ℕ) (sources : List (SourceOf R Declared)) : Type 0 where
   pub rows : List (List Entries)
   pub given : AllZip (GaveRows rem) sources rows
   pub past : limit < sum_by length rows
 
 -- A source that had not ended was read to its end.
-abbrev pub WasReadOut : {R : Type 0} → (R → KnownBytes) → Source R → Type 0
+abbrev pub WasReadOut : {R : Type 0} → (R → KnownBytes) → SourceOf R Declared → Type 0
 WasReadOut rem source = source.end ≡ None → (rows : List Entries) × (bad : ℕ) × IsReadOut rem source rows bad
 
 -- The fault is that of source `number`, and no source of a lower number has one.
@@ -224,7 +225,7 @@ is_of_loading run.NoMemory = true
 is_of_loading fault = false
 
 -- A fault while rows are loaded.
-abbrev pub IsLoadFault : {R : Type 0} → (R → KnownBytes) → Bool → ℕ → List (Source R) → FilesFault → Type 0
+abbrev pub IsLoadFault : {R : Type 0} → (R → KnownBytes) → Bool → ℕ → List (SourceOf R Declared) → FilesFault → Type 0
 IsLoadFault rem stops limit sources (run.Source number fault) =
     FailsAt rem sources number fault × (stops ≡ false → All (WasReadOut rem) (take number sources))
 IsLoadFault rem stops limit sources (run.NotClosed number) = number < length sources

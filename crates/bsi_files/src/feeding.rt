@@ -11,7 +11,7 @@ ghost use Rattle.bsi_files.specs.Feeding.{HasFailed, HasFed, IsFeedOutcome, IsGa
 use crate::{Gate, Pause};
 use bsi_input::{RowSource, SourceFault};
 use bsi_system::{BatchRefused, Closing, Feeder, NoMemory, SubmitRefused};
-use bsi_table::{Block, Index, MAX_BLOCK_ROWS, Row};
+use bsi_table::{Block, Index, MAX_BLOCK_ROWS, Row, Schema};
 use std::io::Read;
 use std::sync::Wait;
 
@@ -68,7 +68,7 @@ struct EmptyBatch {
 pub fn feed<R: Wait, I: Read + Drop, G: Gate>(
     rt: &R,
     mut feeder: Feeder,
-    mut source: RowSource<I>,
+    mut source: RowSource<I, Schema>,
     gate: &G,
 ) -> FeedEnd
     ensures number { IfSome result.closing (λ closing. closing.number ≡ feeder.number) }
@@ -104,7 +104,7 @@ pub fn feed<R: Wait, I: Read + Drop, G: Gate>(
 fn feed_next<R: Wait, I: Read + Drop, G: Gate>(
     rt: &R,
     feeder: &mut Feeder,
-    source: &mut RowSource<I>,
+    source: &mut RowSource<I, Schema>,
     gate: &G,
     point: u64,
 ) -> FeedOutcome
@@ -120,8 +120,8 @@ fn feed_next<R: Wait, I: Read + Drop, G: Gate>(
 
 /// Makes a batch for the next rows of the source, and its block. It returns none if the ring has fewer slots than a
 /// block, if the rows are of another schema than the feeder's, of which each is to be tested, or if memory is refused.
-fn batch_for<I: Read + Drop>(feeder: &Feeder, source: &RowSource<I>) -> Option<EmptyBatch>
-    ensures block { IfSome result (λ made. made.block ≡ no_block_rows source.now.layout.schema 1) }
+fn batch_for<I: Read + Drop>(feeder: &Feeder, source: &RowSource<I, Schema>) -> Option<EmptyBatch>
+    ensures block { IfSome result (λ made. made.block ≡ no_block_rows source.now.layout.format 1) }
     ensures batch { IfSome result (λ made. (made.batch.rows ≡ []) × (made.batch.feeders ≡ 1)) }
     ensures alike { IfSome result (λ made. HaveSameLimits made.block.schema made.batch.schema) }
     ensures fits { IfSome result (λ made. max_block_rows ≤ feeder.now.capacity) }
@@ -143,13 +143,13 @@ fn batch_for<I: Read + Drop>(feeder: &Feeder, source: &RowSource<I>) -> Option<E
 fn feed_batch<R: Wait, I: Read + Drop, G: Gate>(
     rt: &R,
     feeder: &mut Feeder,
-    source: &mut RowSource<I>,
+    source: &mut RowSource<I, Schema>,
     mut block: Block,
     mut batch: Index,
     gate: &G,
     point: u64,
 ) -> FeedOutcome
-    requires block { block ≡ no_block_rows source.old.layout.schema 1 }
+    requires block { block ≡ no_block_rows source.old.layout.format 1 }
     requires batch { (batch.rows ≡ []) × (batch.feeders ≡ 1) }
     requires alike { HaveSameLimits block.schema batch.schema }
     requires fits { max_block_rows ≤ feeder.old.capacity }
@@ -173,12 +173,12 @@ fn feed_batch<R: Wait, I: Read + Drop, G: Gate>(
 /// Fills a block with the next rows of the source and appends it to the batch, so many times or until no row is left or
 /// the source answers a fault, which it returns.
 fn fill_batch<I: Read + Drop>(
-    source: &mut RowSource<I>,
+    source: &mut RowSource<I, Schema>,
     block: &mut Block,
     batch: &mut Index,
     blocks: u64,
 ) -> Result<Option<SourceFault>, NoMemory>
-    requires block { block.old ≡ no_block_rows source.old.layout.schema 1 }
+    requires block { block.old ≡ no_block_rows source.old.layout.format 1 }
     requires batch { (batch.old.rows ≡ []) × (batch.old.feeders ≡ 1) }
     requires alike { HaveSameLimits block.old.schema batch.old.schema }
     requires some { 0 < blocks }
@@ -206,7 +206,7 @@ fn fill_batch<I: Read + Drop>(
 fn feed_one<R: Wait, I: Read + Drop, G: Gate>(
     rt: &R,
     feeder: &mut Feeder,
-    source: &mut RowSource<I>,
+    source: &mut RowSource<I, Schema>,
     gate: &G,
     point: u64,
 ) -> FeedOutcome
@@ -291,7 +291,7 @@ fn pass_all<R: Wait, G: Gate>(rt: &R, gate: &G, who: u32, point: u64, rows: u64)
 fn finish<R: Wait, I: Read + Drop, G: Gate>(
     rt: &R,
     feeder: Feeder,
-    source: RowSource<I>,
+    source: RowSource<I, Schema>,
     gate: &G,
     accepted: u64,
     stopped: bool,

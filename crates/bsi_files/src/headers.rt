@@ -20,7 +20,7 @@ pub(crate) fn begin_all<I: Read + Drop>(
     alloc: Global,
     schema: &Schema,
     readers: Vec<I>,
-) -> Result<Vec<RowSource<I>>, FilesFault>
+) -> Result<Vec<RowSource<I, Schema>>, FilesFault>
     requires few { length readers.items ≤ max_feeders }
     ensures first { IfErr result (λ fault. raised_at_headers fault ≡ true) }
     ensures fault { IfErr result (IsHeadersFault schema.now (map I.remaining readers.items)) }
@@ -44,7 +44,7 @@ fn begin<I: Read + Drop>(
     schema: &Schema,
     reader: I,
     number: u32,
-) -> Result<RowSource<I>, FilesFault>
+) -> Result<RowSource<I, Schema>, FilesFault>
     ensures first { IfErr result (λ fault. raised_at_headers fault ≡ true) }
     ensures fault { IfErr result (IsHeaderFault schema.now (I.remaining reader) number) }
     ensures begun { IfOk result (Begins I.remaining schema.now reader) }

@@ -154,7 +154,7 @@ fn load_with_system<
     schema: Schema,
     capacities: Vec<u32>,
     limit: u64,
-    sources: Vec<RowSource<I>>,
+    sources: Vec<RowSource<I, Schema>>,
     gate: &G,
 ) -> Result<Loaded, FilesFault>
     requires history { history ≡ record { book = B.book; list = [] } }
@@ -229,7 +229,7 @@ fn feed_files<
     rt: &R,
     loader: Loader<B>,
     feeders: Vec<Feeder>,
-    sources: Vec<RowSource<I>>,
+    sources: Vec<RowSource<I, Schema>>,
     gate: &G,
 ) -> Result<Loaded, FilesFault>
     requires ready { AreReady loader.system B.about.limit feeders.items sources.items }
@@ -277,7 +277,7 @@ fn load_with_threads<
     flags: &'s RunFlags<'s, G>,
     mut owned: OwnedLoader<'s, B, R>,
     feeders: Vec<Feeder>,
-    sources: Vec<RowSource<I>>,
+    sources: Vec<RowSource<I, Schema>>,
 ) -> Result<Loaded, FilesFault>
     requires { AreReady owned.loader.system B.about.limit feeders.items sources.items }
     ensures fault { IfErr result (IsLoadFault I.remaining G.STOPS B.about.limit sources.items) }
@@ -309,7 +309,7 @@ fn load_all<
     flags: &'s RunFlags<'s, G>,
     loader: &mut Loader<B>,
     feeders: Vec<Feeder>,
-    sources: Vec<RowSource<I>>,
+    sources: Vec<RowSource<I, Schema>>,
 ) -> Result<Vec<Fed>, FilesFault>
     requires { AreReady loader.old.system B.about.limit feeders.items sources.items }
     ensures fault { IfErr result (IsLoadFault I.remaining G.STOPS B.about.limit sources.items) }

@@ -11,7 +11,8 @@ use Rattle.bsi_syntax.specs.Numbers.{Field}
 use Rattle.bsi_syntax.specs.Setups.{table_after, undeclared_table, IsChange}
 use Rattle.bsi_syntax.specs.declared.setups.DeclaredTable.{DeclaredTable}
 use Rattle.bsi_input.specs.SchemaTexts.{table_declared, Declares, DeclaresTooLong, IsBadDeclaration, IsSchemaFault}
-use Rattle.bsi_input.specs.Sources.{max_records, HasNext, HasReadRecords, IsOver}
+use Rattle.bsi_input.specs.Formats.{max_records}
+use Rattle.bsi_input.specs.Sources.{HasNext, HasReadRecords, IsOver}
 use Rattle.bsi_input.specs.Texts.{ForText}
 use Rattle.bsi_input.specs.declared.rows.SourceFault.{SourceFault}
 use Rattle.bsi_input.specs.declared.rows.SourceFault.TheVariants as source

@@ -12,7 +12,7 @@ use Rattle.csv.specs.declared.reader.Reader.{Reader}
 use Rattle.bsi_rows.specs.Rows.{Entries}
 use Rattle.bsi_syntax.specs.Bytes.{KnownBytes}
 use Rattle.bsi_syntax.specs.Numbers.{Field}
-use Rattle.bsi_input.specs.RowFiles.{good_row}
+use Rattle.bsi_input.specs.Formats.{good_row}
 use Rattle.bsi_input.specs.Sources.{Counts, HasReadRecords, HasReadRows, IsAfterHeader, IsOver, IsWholeFile, Layout}
 use Rattle.bsi_input.proofs.Taking.{bad_one}
 
@@ -44,7 +44,7 @@ module _ {R : Type 0} (rem : R → KnownBytes) (layout : Layout) (a b c : Reader
       record {
         records = one.records ++ two.records;
         read = read_both rem a b c one.records two.records one.read two.read;
-        good = filter_map-append (good_row layout.schema layout.header) one.records two.records ∙ ap₂ (λ p q. p ++ q) one.good two.good;
+        good = filter_map-append (good_row layout.format layout.header) one.records two.records ∙ ap₂ (λ p q. p ++ q) one.good two.good;
         read_so_far = omega (arith, one.read_so_far, two.read_so_far, length-append {A = List Field} one.records two.records);
         bad = omega (arith, one.bad, two.bad, bads);
       }

@@ -3,16 +3,17 @@ use Rattle.std.proofs.Common.{◌≡◌, ℕ, ◌+◌, ◌<◌, ◌≤◌, Bool,
 use Rattle.std.specs.List.{list_all}
 use Rattle.std.specs.Str.{bytes_eq}
 use Rattle.std.proofs.lemmas.Bool.Decides.{Decides-eqb}
-use Rattle.std.proofs.lemmas.List.{at_drop_more, get_or-map, get_or_append_left, length-append, length-map, take_all}
+use Rattle.std.proofs.lemmas.List.{at_drop_more, get_or-map, get_or_append_left, length-append, take_all}
 use Rattle.std.proofs.lemmas.Option.{none-some, same_Some}
 use Rattle.std.proofs.Math.Seq.{get_or-append_seam}
 use Rattle.std.proofs.lemmas.List.Folds.{list_all_more, list_all_at}
 use Rattle.std.proofs.lemmas.List.Sums.{prefix_len-drop_all}
-use Rattle.bsi_schema.specs.Columns.{column_at, entry_at, fits, is_accepted_by, no_column, Declared, NamedColumn}
+use Rattle.bsi_schema.specs.Columns.{column_at, entry_at, fits, is_accepted_by, Declared, NamedColumn}
 use Rattle.bsi_rows.specs.Rows.{Entries}
 use Rattle.bsi_schema.proofs.Fitting.{fits-each, misfit-at}
 use Rattle.bsi_syntax.specs.Numbers.{Field, value_in, values_in}
-use Rattle.bsi_input.specs.RowFiles.{field_index, fitting, in_order}
+use Rattle.bsi_input.specs.Formats.{fields_at, fitting}
+use Rattle.bsi_input.specs.RowFiles.{field_index}
 use Rattle.bsi_syntax.proofs.Values.{behind, values_done, values_next, values_stop}
 
 -- ---- a test of each element, one after another
@@ -64,7 +65,7 @@ not_one n m same other = by (nat_eq m 1) refl
 abbrev pub taken_by : NamedColumn → Option ℤ → Option (Option ℤ)
 taken_by column value = if is_accepted_by column value then Some value else None
 
-taken_value : (column : NamedColumn) (found : Option (Option ℤ)) (entry : Option ℤ) → option_and_then (taken_by column) found ≡ Some entry
+pub taken_value : (column : NamedColumn) (found : Option (Option ℤ)) (entry : Option ℤ) → option_and_then (taken_by column) found ≡ Some entry
     → (found ≡ Some entry) × (is_accepted_by column entry ≡ true)
 taken_value column None entry is = absurd (none-some entry is)
 taken_value column (Some value) entry is = by (is_accepted_by column value) refl is
@@ -73,7 +74,7 @@ taken_value column (Some value) entry is = by (is_accepted_by column value) refl
     by true read_so_far same = (same, ap (is_accepted_by column) (sym (same_Some value entry same)) ∙ read_so_far)
     by false read_so_far same = absurd (none-some entry same)
 
-taken_not : (column : NamedColumn) (value : Option ℤ) → taken_by column value ≡ None → is_accepted_by column value ≡ false
+pub taken_not : (column : NamedColumn) (value : Option ℤ) → taken_by column value ≡ None → is_accepted_by column value ≡ false
 taken_not column value is = by (is_accepted_by column value) is
   where
     by : (b : Bool) → (if b then Some value else None) ≡ None → b ≡ false
@@ -87,7 +88,7 @@ at_seam entries more entry i long =
     ∙ ap (λ n. entry_at (entries ++ entry ∷ []) n) (sym long) ∙ get_or-append_seam entries entry [] None
 
 -- a row with an entry that its column does not take does not fit
-misfit : (schema : Declared) (entries : Entries) (entry : Option ℤ) (i : ℕ) (later : Option Entries) → length entries ≡ i → i < length schema.columns
+pub misfit : (schema : Declared) (entries : Entries) (entry : Option ℤ) (i : ℕ) (later : Option Entries) → length entries ≡ i → i < length schema.columns
     → is_accepted_by (column_at schema.columns i) entry ≡ false → None ≡ fitting schema (behind (entries ++ entry ∷ []) later)
 misfit schema entries entry i None long within refused = refl
 misfit schema entries entry i (Some more) long within refused =
@@ -98,29 +99,22 @@ misfit schema entries entry i (Some more) long within refused =
 -- ---- the fields in the order of the columns, read as entries
 
 -- the field of column i
-pub ordered_field : (schema : Declared) (header fields : List Field) (i : ℕ) → i < length schema.columns
-    → get_or fields (field_index header (column_at schema.columns i).name) [] ≡ get_or (in_order schema header fields) i []
-ordered_field schema header fields i within = sym (get_or-map (λ column. get_or fields (field_index header column.name) []) schema.columns i no_column [] within)
+pub ordered_field : (indexes : List ℕ) (fields : List Field) (i : ℕ) → i < length indexes → get_or fields (get_or indexes i 0) [] ≡ get_or (fields_at indexes fields) i []
+ordered_field indexes fields i within = sym (get_or-map (λ index. get_or fields index []) indexes i 0 [] within)
 
 -- so many of the fields were read as entries that their columns take
-pub record IsRead (schema : Declared) (header fields : List Field) (i : ℕ) (entries : Entries) : Type 0 where
-  pub so_far : values_in schema.signed (in_order schema header fields) ≡ behind entries (values_in schema.signed (drop i (in_order schema header fields)))
+pub record IsRead (schema : Declared) (in_row : List Field) (i : ℕ) (entries : Entries) : Type 0 where
+  pub so_far : values_in schema.signed in_row ≡ behind entries (values_in schema.signed (drop i in_row))
   pub long : length entries ≡ i
   pub read_so_far : (k : ℕ) → k < i → is_accepted_by (column_at schema.columns k) (entry_at entries k) ≡ true
 
-module _ (schema : Declared) (header fields : List Field) (i : ℕ) (entries : Entries) (read : IsRead schema header fields i entries) where
-  abbrev in_row : List Field
-  in_row = in_order schema header fields
-
+module _ (schema : Declared) (in_row : List Field) (i : ℕ) (entries : Entries) (long_row : length in_row ≡ length schema.columns) (read : IsRead schema in_row i entries) where
   abbrev found : Option (Option ℤ)
   found = value_in schema.signed (get_or in_row i [])
 
-  long_row : length in_row ≡ length schema.columns
-  long_row = length-map schema.columns (λ column. get_or fields (field_index header column.name) [])
-
   -- one more
   pub entry_read : (entry : Option ℤ) → i < length schema.columns → option_and_then (taken_by (column_at schema.columns i)) found ≡ Some entry
-      → IsRead schema header fields (i + 1) (entries ++ entry ∷ [])
+      → IsRead schema in_row (i + 1) (entries ++ entry ∷ [])
   entry_read entry within this =
       let is = taken_value (column_at schema.columns i) found entry this in
       record {

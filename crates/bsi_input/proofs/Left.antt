@@ -12,7 +12,7 @@ use Rattle.csv.specs.declared.reader.Reader.{Reader}
 use Rattle.bsi_rows.specs.Rows.{Entries}
 use Rattle.bsi_syntax.specs.Bytes.{KnownBytes}
 use Rattle.bsi_syntax.specs.Numbers.{Field}
-use Rattle.bsi_input.specs.RowFiles.{bad_count, good_row, good_rows, given}
+use Rattle.bsi_input.specs.Formats.{bad_count, good_row, good_rows, given}
 use Rattle.bsi_input.specs.Sources.{counts_of, end_after, AreLeft, Counts, GivesFirst, GivesFirstRows, HasEndedBy, HasGivenNext, HasGivenRows, HasLeft, HasReadRecords, HasReadRows, HasRest, IsAfterHeader, IsOver, IsWholeFile, IsWithoutFault, Layout, Source, SourceEnd}
 use Rattle.bsi_input.specs.declared.rows.SourceFault.{SourceFault}
 use Rattle.bsi_input.proofs.AllRecords.{all_records, one_reading, records_behind}
@@ -82,19 +82,19 @@ module _ {R : Type 0} (rem : R → KnownBytes) where
     pub has_left : (input : Reader R) → IsSome (source_of rem input) → (rows : List Entries) × (bad : ℕ) × HasLeft rem layout input rows bad
     has_left input there =
         let left = some_left input (source_of rem input) refl there in
-        (good_rows layout.schema layout.header left.0, bad_count layout.schema layout.header left.0, record { records = left.0; left = left.1; good = refl; others = refl })
+        (good_rows layout.format layout.header left.0, bad_count layout.format layout.header left.0, record { records = left.0; left = left.1; good = refl; others = refl })
 
     pub one_list : (input : Reader R) (xs ys : List Entries) (m n : ℕ) → HasLeft rem layout input xs m → HasLeft rem layout input ys n → (xs ≡ ys) × (m ≡ n)
     one_list input xs ys m n one two =
         let same = one_left input (source_of rem input) one.records two.records one.left two.left in
-        (sym one.good ∙ ap (good_rows layout.schema layout.header) same ∙ two.good, sym one.others ∙ ap (bad_count layout.schema layout.header) same ∙ two.others)
+        (sym one.good ∙ ap (good_rows layout.format layout.header) same ∙ two.good, sym one.others ∙ ap (bad_count layout.format layout.header) same ∙ two.others)
 
     -- what was read, and what is left after it
     record Parts (a b : Reader R) (xs rows : List Entries) (n : ℕ) (start end : Counts) : Type 0 where
       pub rest : List (List Field)
       pub left : AreLeft rem b rest
-      pub all : xs ++ good_rows layout.schema layout.header rest ≡ rows
-      pub bads : end.bad + bad_count layout.schema layout.header rest ≡ start.bad + n
+      pub all : xs ++ good_rows layout.format layout.header rest ≡ rows
+      pub bads : end.bad + bad_count layout.format layout.header rest ≡ start.bad + n
 
     parts : (a b : Reader R) (start end : Counts) (xs rows : List Entries) (n : ℕ) → HasReadRows rem layout a b start end xs → HasLeft rem layout a rows n
         → Parts a b xs rows n start end
@@ -107,30 +107,30 @@ module _ {R : Type 0} (rem : R → KnownBytes) where
         record {
           rest = more.0;
           left = more.1;
-          all = ap (λ ys. ys ++ good_rows layout.schema layout.header more.0) (sym read_so_far.good)
-              ∙ sym (filter_map-append (good_row layout.schema layout.header) read_so_far.records more.0)
-              ∙ ap (good_rows layout.schema layout.header) same ∙ has.good;
-          bads = omega (arith, read_so_far.bad, bads, ap (bad_count layout.schema layout.header) same, has.others);
+          all = ap (λ ys. ys ++ good_rows layout.format layout.header more.0) (sym read_so_far.good)
+              ∙ sym (filter_map-append (good_row layout.format layout.header) read_so_far.records more.0)
+              ∙ ap (good_rows layout.format layout.header) same ∙ has.good;
+          bads = omega (arith, read_so_far.bad, bads, ap (bad_count layout.format layout.header) same, has.others);
         }
 
     pub first_rows : (a b : Reader R) (start end : Counts) (xs rows : List Entries) (n : ℕ) → HasReadRows rem layout a b start end xs → HasLeft rem layout a rows n
         → IsPrefix xs rows
     first_rows a b start end xs rows n read_so_far has =
-        let both = parts a b start end xs rows n read_so_far has in (good_rows layout.schema layout.header both.rest, both.all)
+        let both = parts a b start end xs rows n read_so_far has in (good_rows layout.format layout.header both.rest, both.all)
 
     pub without_last : (a b : Reader R) (start end : Counts) (xs : List Entries) (last : Entries) (rows : List Entries) (n : ℕ)
         → HasReadRows rem layout a b start end (xs ++ last ∷ []) → HasLeft rem layout a rows n → IsPrefix xs rows
     without_last a b start end xs last rows n read_so_far has =
         let both = parts a b start end (xs ++ last ∷ []) rows n read_so_far has in
-        (last ∷ good_rows layout.schema layout.header both.rest, sym (append_assoc xs (last ∷ []) (good_rows layout.schema layout.header both.rest)) ∙ both.all)
+        (last ∷ good_rows layout.format layout.header both.rest, sym (append_assoc xs (last ∷ []) (good_rows layout.format layout.header both.rest)) ∙ both.all)
 
     pub whole_rows : (a b : Reader R) (start end : Counts) (xs rows : List Entries) (n : ℕ) → HasReadRows rem layout a b start end xs → IsOver rem b
         → HasLeft rem layout a rows n → (xs ≡ rows) × (end.bad ≡ start.bad + n)
     whole_rows a b start end xs rows n read_so_far over has =
         let both = parts a b start end xs rows n read_so_far has in
         let none = none_left b (source_of rem b) both.rest over both.left in (
-          sym (append-none xs) ∙ ap (λ rest. xs ++ good_rows layout.schema layout.header rest) (sym none) ∙ both.all,
-          omega (arith, both.bads, ap (bad_count layout.schema layout.header) none),
+          sym (append-none xs) ∙ ap (λ rest. xs ++ good_rows layout.format layout.header rest) (sym none) ∙ both.all,
+          omega (arith, both.bads, ap (bad_count layout.format layout.header) none),
         )
       where
         append-none : (ys : List Entries) → ys ++ [] ≡ ys
@@ -141,11 +141,11 @@ module _ {R : Type 0} (rem : R → KnownBytes) where
         → HasLeft rem layout b ys n → (m : ℕ) × HasLeft rem layout a (xs ++ ys) m × (start.bad + m ≡ end.bad + n)
     rest_of_rows a b start end xs ys n there read_so_far has =
         let bads = sum_by-append (bad_one layout) read_so_far.records has.records in (
-          bad_count layout.schema layout.header (read_so_far.records ++ has.records),
+          bad_count layout.format layout.header (read_so_far.records ++ has.records),
           record {
             records = read_so_far.records ++ has.records;
             left = read_then_left a b read_so_far.records has.records there read_so_far.read has.left;
-            good = filter_map-append (good_row layout.schema layout.header) read_so_far.records has.records ∙ ap₂ (λ p q. p ++ q) read_so_far.good has.good;
+            good = filter_map-append (good_row layout.format layout.header) read_so_far.records has.records ∙ ap₂ (λ p q. p ++ q) read_so_far.good has.good;
             others = refl;
           },
           omega (arith, read_so_far.bad, bads, has.others),
@@ -167,8 +167,8 @@ module _ {R : Type 0} (rem : R → KnownBytes) where
         subst (λ l. HasLeft rem l old.input rows bad) same
         (subst (λ end. MatchOption end (HasLeft rem old.layout old.input rows bad) (λ e. (rows ≡ []) × (bad ≡ 0))) going still) in
         let both = parts old.input new.input old.counts new.counts (row ∷ []) rows bad given has in
-        let rest = good_rows layout.schema layout.header both.rest in
-        let left = bad_count layout.schema layout.header both.rest in
+        let rest = good_rows layout.format layout.header both.rest in
+        let left = bad_count layout.format layout.header both.rest in
         let still_left : HasLeft rem layout new.input rest left = record { records = both.rest; left = both.left; good = refl; others = refl } in (
           rest,
           left,
@@ -200,8 +200,8 @@ module _ {R : Type 0} (rem : R → KnownBytes) where
             → (rest : List Entries) × (all ≡ rows ++ rest) × (IsWithoutFault new → HasRest rem old new rest others)
         by all others has None is ending =
             let both = parts old.input gave.at old.counts gave.middle rows all others gave.read_so_far has in
-            let rest = good_rows layout.schema layout.header both.rest in
-            let left = bad_count layout.schema layout.header both.rest in
+            let rest = good_rows layout.format layout.header both.rest in
+            let left = bad_count layout.format layout.header both.rest in
             let still_left : HasLeft rem layout gave.at rest left = record { records = both.rest; left = both.left; good = refl; others = refl } in (
               rest,
               sym both.all,

@@ -4,7 +4,7 @@ pub mod Determined
 mod Filling
 pub mod FirstRecords
 pub mod Joining
-mod Layouts
+pub mod Layouts
 mod Left
 pub mod Named
 mod Pasts

@@ -14,12 +14,11 @@ use Rattle.csv.specs.Reading.{ReadRecord, Reached, default_config, reader_config
 use Rattle.csv.specs.declared.parser.State.{State}
 use Rattle.csv.specs.declared.parser.State.TheVariants as st
 use Rattle.csv.specs.declared.reader.Reader.{Reader}
-use Rattle.bsi_schema.specs.Columns.{Declared}
 use Rattle.bsi_rows.specs.Rows.{Entries}
 use Rattle.bsi_syntax.specs.Bytes.{KnownBytes}
 use Rattle.bsi_syntax.specs.Numbers.{Field}
-use Rattle.bsi_input.specs.RowFiles.{bad_count, good_row, is_header}
-use Rattle.bsi_input.specs.Sources.{max_records, AreCounts, Counts, HasNext, HasNoHeader, HasReadAll, HasReadRecords, HasReadRows, HasStopped, IsAfterHeader, IsOver, IsPlainReader, Layout}
+use Rattle.bsi_input.specs.Formats.{bad_count, good_row, Format}
+use Rattle.bsi_input.specs.Sources.{layout_by, AreCounts, Counts, HasNext, HasNoHeader, HasReadAll, HasReadRecords, HasReadRows, HasStopped, IsAfterHeader, IsOver, IsPlainReader, Layout, LayoutOf}
 use Rattle.bsi_input.specs.declared.rows.SourceFault.{SourceFault}
 use Rattle.bsi_input.specs.declared.rows.SourceFault.TheVariants.{NoMemory, Read, TooLong}
 
@@ -79,17 +78,17 @@ one_read rem a b fields plain next = read_more rem a a b fields plain [] (nothin
 
 -- the bad ones among records
 abbrev pub bad_one : Layout → List Field → ℕ
-bad_one layout fields = cond (is_none (good_row layout.schema layout.header fields)) 1 0
+bad_one layout fields = cond (is_none (good_row layout.format layout.header fields)) 1 0
 
-count_good : (layout : Layout) (records : List (List Field)) (fields : List Field) → is_none (good_row layout.schema layout.header fields) ≡ false
-    → bad_count layout.schema layout.header (records ++ fields ∷ []) ≡ bad_count layout.schema layout.header records
+count_good : (layout : Layout) (records : List (List Field)) (fields : List Field) → is_none (good_row layout.format layout.header fields) ≡ false
+    → bad_count layout.format layout.header (records ++ fields ∷ []) ≡ bad_count layout.format layout.header records
 count_good layout records fields good =
     let step = sum_by_push (bad_one layout) records fields in
     let none : bad_one layout fields ≡ 0 = ap (λ b. cond b 1 0) good in
     omega (arith, step, none)
 
-count_bad : (layout : Layout) (records : List (List Field)) (fields : List Field) → is_none (good_row layout.schema layout.header fields) ≡ true
-    → bad_count layout.schema layout.header (records ++ fields ∷ []) ≡ bad_count layout.schema layout.header records + 1
+count_bad : (layout : Layout) (records : List (List Field)) (fields : List Field) → is_none (good_row layout.format layout.header fields) ≡ true
+    → bad_count layout.format layout.header (records ++ fields ∷ []) ≡ bad_count layout.format layout.header records + 1
 count_bad layout records fields bad =
     let step = sum_by_push (bad_one layout) records fields in
     let one : bad_one layout fields ≡ 1 = ap (λ b. cond b 1 0) bad in
@@ -99,31 +98,31 @@ count_bad layout records fields bad =
 pub record AreTaken {R : Type 0} (rem : R → KnownBytes) (layout : Layout) (old new : Reader R) (before after : Counts) : Type 0 where
   pub read_so_far : HasReadRows rem layout old new before after []
   pub plain : IsPlainReader new
-  pub counts : AreCounts after
+  pub counts : AreCounts layout.format.most after
 
 module _ {R : Type 0} (rem : R → KnownBytes) (layout : Layout) (old b : Reader R) (before after : Counts)
     (are : AreTaken rem layout old b before after) where
   -- one more good record
   pub taken_good : (c : Reader R) (fields : List Field) (row : Entries) → ReadRecord rem b c true fields
-      → Some row ≡ good_row layout.schema layout.header fields → HasReadRows rem layout old c before (record { read_so_far = after.read_so_far + 1; bad = after.bad }) (row ∷ [])
+      → Some row ≡ good_row layout.format layout.header fields → HasReadRows rem layout old c before (record { read_so_far = after.read_so_far + 1; bad = after.bad }) (row ∷ [])
   taken_good c fields row next good = record {
     records = are.read_so_far.records ++ fields ∷ [];
     read = read_more rem old b c fields are.plain.config are.read_so_far.records are.read_so_far.read next;
-    good = filter_map-append (good_row layout.schema layout.header) are.read_so_far.records (fields ∷ [])
+    good = filter_map-append (good_row layout.format layout.header) are.read_so_far.records (fields ∷ [])
         ∙ ap₂ (λ xs o. xs ++ cons_option o []) are.read_so_far.good (sym good);
     read_so_far = omega (arith, are.read_so_far.read_so_far, length-append {A = List Field} are.read_so_far.records (fields ∷ []));
     bad = are.read_so_far.bad ∙ ap (λ n. before.bad + n) (sym (count_good layout are.read_so_far.records fields (ap is_none (sym good))));
   }
 
   -- one more bad record
-  pub taken_bad : (c : Reader R) (fields : List Field) → ReadRecord rem b c true fields → IsPlainReader c → after.read_so_far < max_records
-      → None ≡ good_row layout.schema layout.header fields
+  pub taken_bad : (c : Reader R) (fields : List Field) → ReadRecord rem b c true fields → IsPlainReader c → after.read_so_far < layout.format.most
+      → None ≡ good_row layout.format layout.header fields
       → AreTaken rem layout old c before (record { read_so_far = after.read_so_far + 1; bad = after.bad + 1 })
   taken_bad c fields next plain few bad = record {
     read_so_far = record {
       records = are.read_so_far.records ++ fields ∷ [];
       read = read_more rem old b c fields are.plain.config are.read_so_far.records are.read_so_far.read next;
-      good = filter_map-append (good_row layout.schema layout.header) are.read_so_far.records (fields ∷ [])
+      good = filter_map-append (good_row layout.format layout.header) are.read_so_far.records (fields ∷ [])
           ∙ ap₂ (λ xs o. xs ++ cons_option o []) are.read_so_far.good (sym bad);
       read_so_far = omega (arith, are.read_so_far.read_so_far, length-append {A = List Field} are.read_so_far.records (fields ∷ []));
       bad = omega (arith, are.read_so_far.bad, count_bad layout are.read_so_far.records fields (ap is_none (sym bad)));
@@ -148,7 +147,7 @@ module _ {R : Type 0} (rem : R → KnownBytes) (layout : Layout) (old b : Reader
   memory_fails (Err fault) is = record { at = b; read_so_far = are.read_so_far; later = λ bad. cc (is, bad); too_long = λ long. cc (is, long) }
 
   -- there are too many
-  pub is_too_long : (c : Reader R) (fields : List Field) → ReadRecord rem b c true fields → max_records ≤ after.read_so_far → HasStopped rem layout old before after TooLong
+  pub is_too_long : (c : Reader R) (fields : List Field) → ReadRecord rem b c true fields → layout.format.most ≤ after.read_so_far → HasStopped rem layout old before after TooLong
   is_too_long c fields next many = record {
     at = b;
     read_so_far = are.read_so_far;
@@ -184,34 +183,34 @@ module _ {R : Type 0} (rem : R → KnownBytes) (a b : Reader R) (fields : List F
           (is ∙ read.2, read.3, read.4)
 
   -- it is a header, of which a layout was made
-  pub layout_behind : (schema : Declared) (made : Option Layout) (r : Result Layout SourceFault)
-      → made ≡ (if is_header schema fields then Some (record { schema = schema; header = fields }) else None) → made ≡ result_ok r → ReadRecord rem a b true fields
-      → IfOk r (λ layout. IfSome (source_of rem a) (IsAfterHeader rem layout b))
-  layout_behind schema made (Err fault) is ok next = tt
-  layout_behind schema made (Ok layout) is ok next = stands_after layout (by (is_header schema fields) is) next
+  pub layout_behind : {F : Type 0} (form : F → Format) (format : F) (made : Option (LayoutOf F)) (r : Result (LayoutOf F) SourceFault)
+      → made ≡ (if (form format).is_header fields then Some (record { format = format; header = fields }) else None) → made ≡ result_ok r → ReadRecord rem a b true fields
+      → IfOk r (λ layout. IfSome (source_of rem a) (IsAfterHeader rem (layout_by form layout) b))
+  layout_behind form format made (Err fault) is ok next = tt
+  layout_behind {F} form format made (Ok layout) is ok next = stands_after (layout_by form layout) (by ((form format).is_header fields) is) next
     where
-      by : (good : Bool) → made ≡ (if good then Some (record { schema = schema; header = fields }) else None) → layout.header ≡ fields
+      by : (good : Bool) → made ≡ (if good then Some (record { format = format; header = fields }) else None) → layout.header ≡ fields
       by true e =
-          let same : layout ≡ record { schema = schema; header = fields } = cc (ok, e) in
-          ap (λ (l : Layout). l.header) same
+          let same : layout ≡ record { format = format; header = fields } = cc (ok, e) in
+          ap (λ (l : LayoutOf F). l.header) same
       by false e = absurd (cc (ok, e))
 
   -- it is no header
-  pub no_header : (schema : Declared) → is_header schema fields ≡ false → ReadRecord rem a b true fields → IfSome (source_of rem a) (HasNoHeader schema)
-  no_header schema is next = by (source_of rem a) refl
+  pub no_header : (format : Format) → format.is_header fields ≡ false → ReadRecord rem a b true fields → IfSome (source_of rem a) (HasNoHeader format)
+  no_header format is next = by (source_of rem a) refl
     where
-      by : (o : KnownBytes) → source_of rem a ≡ o → IfSome o (HasNoHeader schema)
+      by : (o : KnownBytes) → source_of rem a ≡ o → IfSome o (HasNoHeader format)
       by None e = tt
       by (Some text) e =
           let read = first_read text e next in
-          subst (λ o. IfSome o (λ r. is_header schema r.0 ≡ false)) (sym read.1) (ap (is_header schema) (sym read.2) ∙ is)
+          subst (λ o. IfSome o (λ r. format.is_header r.0 ≡ false)) (sym read.1) (ap format.is_header (sym read.2) ∙ is)
 
   -- there is none
-  pub no_record : (schema : Declared) → ReadRecord rem a b false fields → IfSome (source_of rem a) (HasNoHeader schema)
-  no_record schema next = by (source_of rem a) refl
+  pub no_record : (format : Format) → ReadRecord rem a b false fields → IfSome (source_of rem a) (HasNoHeader format)
+  no_record format next = by (source_of rem a) refl
     where
-      by : (o : KnownBytes) → source_of rem a ≡ o → IfSome o (HasNoHeader schema)
+      by : (o : KnownBytes) → source_of rem a ≡ o → IfSome o (HasNoHeader format)
       by None e = tt
       by (Some text) e =
           let none = subst (λ s. next_record default_config s [] [] text ≡ None) start (rows-end rem a b fields default_config text plain e next) in
-          subst (λ o. IfSome o (λ r. is_header schema r.0 ≡ false)) (sym none) tt
+          subst (λ o. IfSome o (λ r. format.is_header r.0 ≡ false)) (sym none) tt

@@ -1,4 +1,5 @@
 pub mod FaultTexts
+pub mod Formats
 pub mod Pasts
 pub mod RecordSources
 pub mod RowFiles

@@ -21,10 +21,15 @@ pub record AddsNothing (schema : Declared) (fields : List Field) (line : Bytes) 
 
 -- A record that asks for an event adds the event and its reply to the past. The line is that of the reply.
 pub record AddsEvent (schema : Declared) (fields : List Field) (line : Bytes) (before after : List Done) : Type 0 where
+  -- The event that the record asks for.
   pub event : Event
+  -- The reply to the event.
   pub reply : Reply
+  -- The fields of the record ask for the event.
   pub asked : IsEvent schema fields event
+  -- The line is that of the reply.
   pub line_is : line ≡ reply_line reply
+  -- The past has the event and its reply first.
   pub more : after ≡ (event, reply) ∷ before
 
 abbrev pub IsAddedBy : Declared → List Field → List ℕ → List Done → List Done → Type 0
@@ -41,23 +46,34 @@ AreAddedBy schema records lines before after = ⊥
 -- A script's records and lines, split at `begin`.
 pub record HasBegun (records : List (List Field)) (lines : List Bytes) (setup : Setup)
     (later : List (List Field)) (later_lines : List (List ℕ)) : Type 0 where
-  -- The records before `begin`, their lines, and the record `begin`.
+  -- The records before `begin`.
   pub declaring : List (List Field)
+  -- Their lines.
   pub answers : List (List ℕ)
+  -- The record `begin`.
   pub begin : List Field
+  -- The records are these, `begin`, and the later ones.
   pub records_are : records ≡ declaring ++ begin ∷ later
+  -- The lines are theirs, `ok`, and the later ones.
   pub lines_are : lines ≡ answers ++ done_line ∷ later_lines
   -- The records before `begin` declare the setup.
   pub declared : AreTurns (Declaring nothing_declared) declaring answers (Declaring setup)
+  -- The record `begin` is that word alone.
   pub is_begin : is_begin begin ≡ true
+  -- The setup has a column, and feeders.
   pub can_begin : can_begin setup ≡ true
 
 -- The past of a script run that has begun, and what the machine shows after it.
 pub record HasLawfulPast (records : List (List Field)) (lines : List Bytes) (shown : Shown) : Type 0 where
+  -- What the records before `begin` declare.
   pub setup : Setup
+  -- The records after `begin`.
   pub later : List (List Field)
+  -- The lines of the records after `begin`.
   pub later_lines : List (List ℕ)
+  -- The records and the lines are split at `begin`.
   pub begun : HasBegun records lines setup later later_lines
+  -- The events after `begin` with their replies, the newest first.
   pub past : List Done
   -- The records after `begin` added the events of the past.
   pub added : AreAddedBy setup.table.schema later later_lines [] past

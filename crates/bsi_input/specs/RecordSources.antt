@@ -3,7 +3,8 @@ use Rattle.std.specs.Prelude.{◌≡◌, ◌≢◌, ℕ, ◌+◌, List, [], ◌�
 use Rattle.csv.specs.declared.reader.Reader.{Reader}
 use Rattle.bsi_syntax.specs.Bytes.{KnownBytes}
 use Rattle.bsi_syntax.specs.Numbers.{Field}
-use Rattle.bsi_input.specs.Sources.{end_after, max_records, HasNext, HasReadRecords, IsOver, SourceEnd}
+use Rattle.bsi_input.specs.Formats.{max_records}
+use Rattle.bsi_input.specs.Sources.{end_after, HasNext, HasReadRecords, IsOver, SourceEnd}
 use Rattle.bsi_input.specs.declared.rows.SourceFault.{SourceFault}
 use Rattle.bsi_input.specs.declared.rows.SourceFault.TheVariants.{BadHeader, TooLong}
 
@@ -21,9 +22,9 @@ ReadsRecord rem old new before after fields false = IsOver rem old × (after ≡
 
 -- Why a reader stops: a fault, though not of a header. `TooLong` means that 1,000,000 records were read and one more
 -- follows.
-abbrev pub Stops : {R : Type 0} → (R → KnownBytes) → Reader R → ℕ → ℕ → SourceFault → Type 0
-Stops rem old before after fault =
-    (fault ≢ BadHeader) × (fault ≡ TooLong → (before ≡ max_records) × HasNext rem old) × (after ≡ before)
+abbrev pub Stops : {R : Type 0} → ℕ → (R → KnownBytes) → Reader R → ℕ → ℕ → SourceFault → Type 0
+Stops most rem old before after fault =
+    (fault ≢ BadHeader) × (fault ≡ TooLong → (before ≡ most) × HasNext rem old) × (after ≡ before)
 
 abbrev pub ReadsNextRecord : {R : Type 0} → (R → KnownBytes) → RecordSource R → RecordSource R → List Field → Bool → Type 0
 ReadsNextRecord rem old new fields more =
@@ -31,4 +32,4 @@ ReadsNextRecord rem old new fields more =
 
 -- A source after a call that raised a fault.
 abbrev pub StopsAt : {R : Type 0} → (R → KnownBytes) → RecordSource R → RecordSource R → SourceFault → Type 0
-StopsAt rem old new fault = Stops rem old.input old.read_so_far new.read_so_far fault × (new.end ≡ Some (Err fault))
+StopsAt rem old new fault = Stops max_records rem old.input old.read_so_far new.read_so_far fault × (new.end ≡ Some (Err fault))

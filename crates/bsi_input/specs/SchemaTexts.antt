@@ -6,7 +6,7 @@ use Rattle.bsi_syntax.specs.Bytes.{Bytes}
 use Rattle.bsi_syntax.specs.Numbers.{Field}
 use Rattle.bsi_syntax.specs.Setups.{table_after, undeclared_table}
 use Rattle.bsi_syntax.specs.declared.setups.DeclaredTable.{DeclaredTable}
-use Rattle.bsi_input.specs.Sources.{max_records}
+use Rattle.bsi_input.specs.Formats.{max_records}
 use Rattle.bsi_input.specs.Texts.{AreAllRecords, AreFirstRecords, AreTooMany}
 use Rattle.bsi_input.specs.declared.rows.SourceFault.TheVariants as source
 use Rattle.bsi_input.specs.declared.schema_text.SchemaFault.{SchemaFault}
@@ -20,9 +20,13 @@ table_declared before (fields ∷ records) =
 
 -- The records of the bytes, at most 1,000,000, declare a table.
 pub record Declares (bytes : Bytes) (declared : DeclaredTable) : Type 0 where
+  -- The records of the bytes.
   pub records : List (List Field)
+  -- The bytes have these records, and no others.
   pub all : AreAllRecords bytes records
+  -- There are at most 1,000,000 records.
   pub few : length records ≤ max_records
+  -- The records declare the table.
   pub declared_is : table_declared undeclared_table records ≡ Some declared
 
 -- The bytes declare a schema, of one column or more, and a limit.
@@ -34,24 +38,36 @@ pub record IsSchemaText (bytes : Bytes) (schema : Declared) (limit : ℕ) : Type
 
 -- The record of a number, from 1, is bad after the records before it.
 pub record IsBadDeclaration (bytes : Bytes) (number : ℕ) : Type 0 where
+  -- The records before the bad one.
   pub records : List (List Field)
+  -- The bad record.
   pub fields : List Field
+  -- The state of the parser after the bad record.
   pub state : State
+  -- The bytes after the bad record.
   pub rest : List ℕ
   -- The text begins with `records`, and `fields` are the next record.
   pub first : AreFirstRecords bytes (records ++ fields ∷ []) state rest
+  -- The number is that of the bad record, from 1.
   pub number_is : number ≡ length records + 1
+  -- The bad record is one of the first 1,000,000.
   pub few : number ≤ max_records
   -- The records before it declare a table, and it declares nothing more.
   pub bad : MatchOption (table_declared undeclared_table records) ⊥ (λ now. table_after now fields ≡ None)
 
 -- The first 1,000,000 records declare a table, and one more record follows.
 pub record DeclaresTooLong (bytes : Bytes) : Type 0 where
+  -- The first records of the bytes.
   pub records : List (List Field)
+  -- The state of the parser after these records.
   pub state : State
+  -- The bytes after these records.
   pub rest : List ℕ
+  -- The bytes begin with these records.
   pub first : AreFirstRecords bytes records state rest
+  -- There are 1,000,000 records, and one more follows.
   pub too_long : AreTooMany records state rest
+  -- None of the records is bad.
   pub declared : IsSome (table_declared undeclared_table records)
 
 -- The records declare no column.

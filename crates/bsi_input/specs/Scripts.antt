@@ -31,11 +31,15 @@ pub record IsBad (shown : Shown) (fields : List Field) (line : Bytes) (next : Ph
 
 -- A record that asks for an event is answered by the line of its reply.
 pub record IsDone (shown : Shown) (fields : List Field) (line : Bytes) (next : Phase) : Type 0 where
+  -- The event that the record asks for.
   pub event : Event
+  -- The reply to the event.
   pub reply : Reply
+  -- The fields of the record ask for the event.
   pub asked : IsEvent shown.index.schema fields event
   -- The reply is lawful for what the machine shows.
   pub lawful : IsLawful shown event reply
+  -- The line is that of the reply.
   pub line_is : line ≡ reply_line reply
   -- The machine shows the effect of the event.
   pub after : next ≡ Running (shown_after shown ((event, reply) ∷ []))

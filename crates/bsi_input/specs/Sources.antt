@@ -12,18 +12,27 @@ use Rattle.bsi_rows.specs.RowBlocks.{sourced_from, max_block_rows, RowBlock}
 use Rattle.bsi_rows.specs.Rows.{Entries}
 use Rattle.bsi_syntax.specs.Bytes.{Bytes, KnownBytes}
 use Rattle.bsi_syntax.specs.Numbers.{Field}
-use Rattle.bsi_input.specs.RowFiles.{bad_count, good_rows, is_header}
+use Rattle.bsi_input.specs.Formats.{bad_count, good_rows, Format}
+use Rattle.bsi_input.specs.RowFiles.{plain_format}
 use Rattle.bsi_input.specs.declared.rows.SourceFault.{SourceFault}
 use Rattle.bsi_input.specs.declared.rows.SourceFault.TheVariants.{BadHeader, TooLong}
 
--- The most records of a text.
-abbrev pub max_records : ℕ
-max_records = 1000000
-
--- The columns of a row file, and its header.
+-- How a row file is read, and its header.
 pub record Layout : Type 0 where
-  pub schema : Declared
+  pub format : Format
   pub header : List Field
+
+-- A layout whose format is a value of any type, and the layout that it is where `form` is what such a value stands for.
+pub record LayoutOf (F : Type 0) : Type 0 where
+  pub format : F
+  pub header : List Field
+
+abbrev pub layout_by : {F : Type 0} → (F → Format) → LayoutOf F → Layout
+layout_by form layout = record { format = form layout.format; header = layout.header }
+
+-- The layout of a file of whole numbers.
+abbrev pub plain_layout : LayoutOf Declared → Layout
+plain_layout = layout_by plain_format
 
 -- The number of records after the header that were read so far, and of the bad ones among them.
 pub record Counts : Type 0 where
@@ -44,16 +53,44 @@ end_after false = Some (Ok tt)
 
 -- A row source: the layout of its file, its reader, its counts of records after the header, and how it ended.
 pub record Source (R : Type 0) : Type 0 where
+  -- How the file is read, and its header.
   pub layout : Layout
+  -- The reader of its records.
   pub input : Reader R
+  -- The counts of records so far.
   pub counts : Counts
+  -- How the source ended, or none.
   pub end : SourceEnd
+
+-- A row source whose format is a value of any type, and the source that it is where `form` is what such a value stands
+-- for.
+pub record SourceOf (R F : Type 0) : Type 0 where
+  -- How the file is read, and its header.
+  pub layout : LayoutOf F
+  -- The reader of its records.
+  pub input : Reader R
+  -- The counts of records so far.
+  pub counts : Counts
+  -- How the source ended, or none.
+  pub end : SourceEnd
+
+abbrev pub source_by : {R F : Type 0} → (F → Format) → SourceOf R F → Source R
+source_by form source = record
+    { layout = layout_by form source.layout; input = source.input; counts = source.counts; end = source.end }
+
+-- The source of a file of whole numbers.
+abbrev pub plain_source : {R : Type 0} → SourceOf R Declared → Source R
+plain_source = source_by plain_format
 
 -- A reader with the plain settings: it trims nothing, and records may have any number of fields.
 pub record IsPlainReader {R : Type 0} (input : Reader R) : Type 0 where
+  -- No field is trimmed.
   pub trims : reader_trim input ≡ trim.None
+  -- Nothing was read yet, or the headers were read, if the reader has any.
   pub ready : Ready input
+  -- Commas separate fields, and double quotes enclose them.
   pub config : reader_config input ≡ default_config
+  -- Records may have any number of fields.
   pub flexible : IsTrue (is_flexible input)
 
 -- Why a plain reader gives no record: its own reader failed, or memory was refused.
@@ -83,12 +120,16 @@ HasNext rem input =
 -- A reader has read records, of which the good ones have the given rows.
 pub record HasReadRows {R : Type 0} (rem : R → KnownBytes) (layout : Layout) (old new : Reader R)
     (before after : Counts) (rows : List Entries) : Type 0 where
+  -- The records that were read.
   pub records : List (List Field)
+  -- The reader has read these records, and goes on after them.
   pub read : HasReadRecords rem old new records
-  pub good : good_rows layout.schema layout.header records ≡ rows
-  -- All of them, and the bad ones, were counted.
+  -- The good records have exactly the given rows.
+  pub good : good_rows layout.format layout.header records ≡ rows
+  -- All records were counted.
   pub read_so_far : after.read_so_far ≡ before.read_so_far + length records
-  pub bad : after.bad ≡ before.bad + bad_count layout.schema layout.header records
+  -- The bad records were counted.
+  pub bad : after.bad ≡ before.bad + bad_count layout.format layout.header records
 
 -- A reader has read all records that it had left, and all were bad.
 pub record HasReadAll {R : Type 0} (rem : R → KnownBytes) (layout : Layout) (old : Reader R) (before after : Counts)
@@ -100,12 +141,14 @@ pub record HasReadAll {R : Type 0} (rem : R → KnownBytes) (layout : Layout) (o
 -- A reader stopped by a fault after bad records.
 pub record HasStopped {R : Type 0} (rem : R → KnownBytes) (layout : Layout) (old : Reader R)
     (before after : Counts) (fault : SourceFault) : Type 0 where
+  -- The reader after the last record.
   pub at : Reader R
+  -- All records that were read are counted, and were bad.
   pub read_so_far : HasReadRows rem layout old at before after []
   -- The fault is not of the header.
   pub later : fault ≢ BadHeader
-  -- `TooLong` means that 1,000,000 records were read, and one more follows.
-  pub too_long : fault ≡ TooLong → (after.read_so_far ≡ max_records) × HasNext rem at
+  -- `TooLong` means that the most records of the format were read, and one more follows.
+  pub too_long : fault ≡ TooLong → (after.read_so_far ≡ layout.format.most) × HasNext rem at
 
 -- After a call for the next row: it read up to the next good record, or all records that were left.
 abbrev pub HasGivenNext : {R : Type 0} → (R → KnownBytes) → Layout → Reader R → Reader R → Counts → Counts
@@ -114,9 +157,9 @@ HasGivenNext rem layout old new before after next =
     MatchOption next (HasReadAll rem layout old before after)
     (λ row. HasReadRows rem layout old new before after (row ∷ []))
 
--- The counts that a source can have.
-pub record AreCounts (counts : Counts) : Type 0 where
-  pub few : counts.read_so_far ≤ max_records
+-- The counts that a source of at most so many records can have.
+pub record AreCounts (most : ℕ) (counts : Counts) : Type 0 where
+  pub few : counts.read_so_far ≤ most
   pub bad : counts.bad ≤ counts.read_so_far
 
 -- ---- what is left of a text
@@ -129,10 +172,14 @@ AreLeft rem input records =
 -- The rows of the good records that a reader has left, and the number of the bad ones.
 pub record HasLeft {R : Type 0} (rem : R → KnownBytes) (layout : Layout) (input : Reader R)
     (rows : List Entries) (bad : ℕ) : Type 0 where
+  -- The records that are left.
   pub records : List (List Field)
+  -- The reader has these records left, and no others.
   pub left : AreLeft rem input records
-  pub good : good_rows layout.schema layout.header records ≡ rows
-  pub others : bad_count layout.schema layout.header records ≡ bad
+  -- The good records have exactly the given rows.
+  pub good : good_rows layout.format layout.header records ≡ rows
+  -- So many of the records are bad.
+  pub others : bad_count layout.format layout.header records ≡ bad
 
 -- The good rows that a source has left, and the number of bad records. An ended source has none.
 abbrev pub StillHas : {R : Type 0} → (R → KnownBytes) → Source R → List Entries → ℕ → Type 0
@@ -168,8 +215,11 @@ end_after_call (Err fault) = Some (Err fault)
 -- A reader gave rows of good records. It goes on after them, or has ended.
 pub record HasGivenRows {R : Type 0} (rem : R → KnownBytes) (layout : Layout) (old new : Reader R)
     (before after : Counts) (rows : List Entries) (end : SourceEnd) : Type 0 where
+  -- The reader after the records of the rows.
   pub at : Reader R
+  -- The counts after the records of the rows.
   pub middle : Counts
+  -- The records that were read are counted, and the good ones have exactly these rows.
   pub read_so_far : HasReadRows rem layout old at before middle rows
   -- If it goes on, nothing more was read. If it ended, how.
   pub ending : MatchOption end ((at ≡ new) × (middle ≡ after)) (HasEndedBy rem layout at middle after)
@@ -177,10 +227,13 @@ pub record HasGivenRows {R : Type 0} (rem : R → KnownBytes) (layout : Layout) 
 -- A reader filled a block with rows.
 pub record PutsRows {R : Type 0} (rem : R → KnownBytes) (layout : Layout) (old new : Reader R)
     (before after : Counts) (feeder : ℕ) (start full : RowBlock) (end : SourceEnd) : Type 0 where
+  -- The rows that were put into the block.
   pub rows : List Entries
+  -- The block has these rows behind those that it had.
   pub added : full ≡ with_fed_rows start feeder rows
   -- Each row fits the schema.
-  pub fitting : All (λ row. IsTrue (fits layout.schema.columns row)) rows
+  pub fitting : All (λ row. IsTrue (fits layout.format.schema.columns row)) rows
+  -- The reader gave these rows, and goes on after them, or has ended.
   pub given : HasGivenRows rem layout old new before after rows end
   -- The reader goes on exactly if the block is full.
   pub goes_on : (end ≡ None) ↔ (length full.rows ≡ max_block_rows)
@@ -217,16 +270,20 @@ IsAfterHeader rem layout input text =
     (λ (header, state, rest). (layout.header ≡ header) × (reader_state input ≡ state)
     × (source_of rem input ≡ Some rest))
 
--- The first record of a text is no header of the schema, or the text has no record.
-abbrev pub HasNoHeader : Declared → List ℕ → Type 0
-HasNoHeader schema text =
-    IfSome (next_record default_config st.StartRecord [] [] text) (λ (header, _, _). is_header schema header ≡ false)
+-- The first record of a text is no header of the format, or the text has no record.
+abbrev pub HasNoHeader : Format → List ℕ → Type 0
+HasNoHeader format text =
+    IfSome (next_record default_config st.StartRecord [] [] text) (λ (header, _, _). format.is_header header ≡ false)
 
 -- A whole row file was read: the header, and records whose good rows are `rows`.
 pub record IsWholeFile (layout : Layout) (text : Bytes) (before after : Counts) (rows : List Entries) : Type 0 where
+  -- The records after the header.
   pub records : List (List Field)
+  -- The text has the header and these records, and no others.
   pub all : AreRecords default_config st.StartRecord text (layout.header ∷ records)
-  pub good : rows ≡ good_rows layout.schema layout.header records
-  -- All records after the header, and the bad ones, were counted.
+  -- The rows are those of the good records.
+  pub good : rows ≡ good_rows layout.format layout.header records
+  -- All records after the header were counted.
   pub read_so_far : after.read_so_far ≡ before.read_so_far + length records
-  pub bad : after.bad ≡ before.bad + bad_count layout.schema layout.header records
+  -- The bad records were counted.
+  pub bad : after.bad ≡ before.bad + bad_count layout.format layout.header records

@@ -9,7 +9,7 @@ use Rattle.csv.specs.declared.parser.State.TheVariants as st
 use Rattle.bsi_syntax.specs.Bytes.{Bytes, KnownBytes}
 use Rattle.bsi_syntax.specs.Numbers.{Field}
 use Rattle.bsi_input.specs.Scripts.{IsScriptRun}
-use Rattle.bsi_input.specs.Sources.{max_records}
+use Rattle.bsi_input.specs.Formats.{max_records}
 use Rattle.bsi_input.specs.Waiting.{HoldsAfterFlush}
 
 -- All records of a text, after any byte order mark.
@@ -36,27 +36,43 @@ WritesPrefix before after records =
 
 -- The text has at most 1,000,000 records, and the lines of all were written.
 pub record IsAnswered (bytes : Bytes) (before after : KnownBytes) : Type 0 where
+  -- The records of the text.
   pub records : List (List Field)
+  -- The bytes have these records, and no others.
   pub all : AreAllRecords bytes records
+  -- There are at most 1,000,000 records.
   pub few : length records ≤ max_records
+  -- The lines of the records were written.
   pub written : WritesLines before after records
 
 -- The text has more than 1,000,000 records, and the lines of the first 1,000,000 were written.
 pub record IsTooLong (bytes : Bytes) (before after : KnownBytes) : Type 0 where
+  -- The first 1,000,000 records of the text.
   pub records : List (List Field)
+  -- The state of the parser after these records.
   pub state : State
+  -- The bytes after these records.
   pub rest : List ℕ
+  -- The bytes begin with these records.
   pub first : AreFirstRecords bytes records state rest
+  -- There are 1,000,000 of these records.
   pub many : length records ≡ max_records
+  -- One more record follows.
   pub more : IsSome (next_record default_config state [] [] rest)
+  -- The lines of these records were written.
   pub written : WritesLines before after records
 
 -- Whole lines were written: those of the first records of the text.
 pub record WroteWholeLines (bytes : Bytes) (before after : KnownBytes) : Type 0 where
+  -- The first records of the text.
   pub records : List (List Field)
+  -- The state of the parser after these records.
   pub state : State
+  -- The bytes after these records.
   pub rest : List ℕ
+  -- The bytes begin with these records.
   pub first : AreFirstRecords bytes records state rest
+  -- The lines of these records were written.
   pub written : WritesLines before after records
 
 -- A prefix of the lines of all records of the text was written.

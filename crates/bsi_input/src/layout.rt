@@ -1,83 +1,88 @@
 //! The header of a row file, and the rows that its records give.
-//!
-//! The header is tested as it is defined, once a file: each column has one field, and each field is a column. The loops
-//! go over indexes: the clauses of a record's iterator tell of one step, and would take a longer proof than the loop.
 
-ghost use Rattle.std.specs.Prelude.{◌≡◌, ◌<◌, ◌≤◌, [], if◌then◌else◌, length, map, count_by, vec_capacity, Some, None, true, false, IfOk, IsOk, IsTrue, OnOk};
-ghost use Rattle.std.specs.List.{list_all};
-ghost use Rattle.std.specs.Str.{bytes_eq};
+ghost use Rattle.std.specs.Prelude.{◌≡◌, ◌<◌, ◌≤◌, if◌then◌else◌, length, vec_capacity, Some, None, true, false, IfOk, IsOk, IsTrue, OnOk};
 ghost use Rattle.csv.specs.Records.{fields_of};
 ghost use Rattle.bsi_schema.specs.Columns.{fits};
 ghost use Rattle.bsi_rows.specs.RowBlocks.{max_block_rows, no_block_rows, with_block_row, HaveSameLimits};
-ghost use Rattle.bsi_syntax.specs.Numbers.{values_in};
-ghost use Rattle.bsi_input.specs.RowFiles.{field_index, fitting, given, good_row, in_order, is_header, is_known, is_named_once};
+ghost use Rattle.bsi_input.specs.Formats.{fitting, given, good_row, in_order};
 
 use crate::NoMemory;
+use crate::format::RowFormat;
 use bsi_rows::{Block, Row, Schema};
-use bsi_syntax::{field, read_entry};
 use csv::ByteRecord;
 use std::alloc::Global;
 use std::marker::Model;
 use std::mem;
 use std::sync::Arc;
 
-/// The columns of a row file, with, for each column, the index of its field in a record.
+/// How a row file is read: its format, its header and, for each column, the index of its field in a record.
 #[derive(Drop)]
-pub struct Layout {
+pub struct Layout<F: RowFormat + Drop> {
+    format: F,
+    // The schema of the format, for blocks of rows.
     schema: Arc<Schema, Global>,
     header: ByteRecord,
     indexes: Vec<usize>,
 }
 
-// Clauses see the schema and the header.
-impl Model for Layout {
-    ghost use Rattle.std.specs.Prelude.{◌≡◌, map};
+// Clauses see the format and the header.
+impl<F: RowFormat + Drop> Model for Layout<F> {
+    ghost use Rattle.std.specs.Prelude.{◌≡◌, length};
     ghost use Rattle.csv.specs.Records.{fields_of};
-    ghost use Rattle.bsi_input.specs.RowFiles.{field_index};
-    ghost use Rattle.bsi_input.specs.Sources.{Layout};
+    ghost use Rattle.bsi_input.specs.Sources.{LayoutOf};
 
-    ghost Value = { Layout };
+    ghost Value = { LayoutOf F };
 
-    ghost view = { λ l. record { schema = l.schema.value; header = fields_of l.header } };
+    ghost view = { λ l. record { format = l.format; header = fields_of l.header } };
 
-    ghost invariant = { λ l. l.indexes.items
-        ≡ map (λ column. field_index (fields_of l.header) column.name) l.schema.value.columns };
+    ghost invariant = { λ l. (l.schema.value ≡ (F.format l.format).schema)
+        × (l.indexes.items ≡ (F.format l.format).indexes (fields_of l.header))
+        × (length l.indexes.items ≡ length (F.format l.format).schema.columns) };
 }
 
-impl Layout {
-    /// Makes the layout of a header, or none if the header does not name each column once, and nothing else.
+impl<F: RowFormat + Drop> Layout<F> {
+    /// Makes the layout of a header, or none if the format does not take it.
     pub(crate) fn new(
         alloc: Global,
-        schema: &Schema,
+        format: &F,
         header: ByteRecord,
-    ) -> Result<Option<Layout>, NoMemory>
+    ) -> Result<Option<Layout<F>>, NoMemory>
         ensures { IfOk result (λ made. made
-            ≡ (if is_header schema.now (fields_of header) then Some
-            (record { schema = schema.now; header = fields_of header }) else None)) }
+            ≡ (if (F.format format.now).is_header (fields_of header) then Some
+            (record { format = format.now; header = fields_of header }) else None)) }
     {
-        if !is_good_header(schema, &header) {
+        if !format.takes_header(&header) {
             return Ok(None);
         }
-        Ok(Some(Layout::of_header(alloc, schema, header)?))
+        Ok(Some(Layout::of_header(alloc, format, header)?))
     }
 
-    /// Makes the layout of a record that may be no header.
-    pub fn of_header(alloc: Global, schema: &Schema, header: ByteRecord) -> Result<Layout, NoMemory>
+    /// Makes the layout of a record that may be no header. It copies the format, and its schema.
+    pub fn of_header(alloc: Global, format: &F, header: ByteRecord) -> Result<Layout<F>, NoMemory>
         ensures { IfOk result (λ made. made
-            ≡ record { schema = schema.now; header = fields_of header }) }
+            ≡ record { format = format.now; header = fields_of header }) }
     {
-        let indexes = field_indexes(alloc, schema, &header)?;
-        let schema = Arc::new(alloc, schema.copy()?)?;
+        let indexes = format.find_fields(alloc, &header)?;
+        let format = format.copy_format()?;
+        let schema = Arc::new(alloc, format.row_schema().copy()?)?;
         Ok(Layout {
+            format,
             schema,
             header,
             indexes,
         })
     }
 
+    /// Returns the format.
+    pub fn format(&self) -> &F
+        ensures { result.now ≡ self.now.format }
+    {
+        &self.format
+    }
+
     /// Returns the schema.
     pub fn schema(&self) -> &Schema
-        ensures { result.now ≡ self.now.schema }
+        ensures { result.now ≡ (F.format self.now.format).schema }
     {
         &self.schema
     }
@@ -89,17 +94,27 @@ impl Layout {
         &self.header
     }
 
+    /// Returns the most records that are read after the header.
+    pub(crate) fn most_records(&self) -> u64
+        ensures { result ≡ (F.format self.now.format).most }
+    {
+        self.format.most_records()
+    }
+
     /// Makes a block of no rows for the rows of such files, each from one of so many feeders.
     pub(crate) fn block(&self, alloc: Global, feeders: u32) -> Result<Block, NoMemory>
-        ensures { IfOk result (λ block. block ≡ no_block_rows self.now.schema feeders) }
+        ensures { IfOk result
+            (λ block. block ≡ no_block_rows (F.format self.now.format).schema feeders) }
     {
         Block::new(alloc, &self.schema, feeders)
     }
 
     /// Empties a list and makes room in it for the entries of a row. It allocates no memory if there is room.
     pub(crate) fn make_room(&self, entries: &mut Vec<Option<i64>>) -> Result<(), NoMemory>
-        ensures wide { OnOk result (length self.now.schema.columns ≤ vec_capacity entries.new) }
-        ensures succeeds { length self.now.schema.columns ≤ vec_capacity entries.old → IsOk result }
+        ensures wide { OnOk result
+            (length (F.format self.now.format).schema.columns ≤ vec_capacity entries.new) }
+        ensures succeeds { length (F.format self.now.format).schema.columns
+            ≤ vec_capacity entries.old → IsOk result }
     {
         entries.clear();
         entries.reserve(self.indexes.len())
@@ -116,9 +131,9 @@ impl Layout {
         row: &mut Row,
     ) -> Result<bool, NoMemory>
         ensures row { IfOk result (λ good. given good row.new
-            ≡ good_row self.now.schema self.now.header (fields_of fields.now)) }
+            ≡ good_row (F.format self.now.format) self.now.header (fields_of fields.now)) }
         ensures fits { IfOk result (λ good. good ≡ true →
-            IsTrue (fits self.now.schema.columns row.new)) }
+            IsTrue (fits (F.format self.now.format).schema.columns row.new)) }
     {
         self.make_room(entries)?;
         if fields.len() != self.header.len() || !self.read_entries(fields, entries) {
@@ -137,17 +152,18 @@ impl Layout {
         feeder: u32,
         block: &mut Block,
     ) -> bool
-        requires alike { HaveSameLimits block.old.schema self.now.schema }
+        requires alike { HaveSameLimits block.old.schema (F.format self.now.format).schema }
         requires room { length block.old.rows < max_block_rows }
         requires feeder { feeder < block.old.feeders }
-        requires wide { length self.now.schema.columns ≤ vec_capacity entries.old }
+        requires wide { length (F.format self.now.format).schema.columns ≤ vec_capacity entries.old }
         ensures row { given result entries.new.items
-            ≡ good_row self.now.schema self.now.header (fields_of fields.now) }
-        ensures fits { result ≡ true → IsTrue (fits self.now.schema.columns entries.new.items) }
+            ≡ good_row (F.format self.now.format) self.now.header (fields_of fields.now) }
+        ensures fits { result ≡ true →
+            IsTrue (fits (F.format self.now.format).schema.columns entries.new.items) }
         ensures added { result ≡ true →
             block.new ≡ with_block_row block.old feeder entries.new.items }
         ensures unchanged { result ≡ false → block.new ≡ block.old }
-        ensures wide { length self.now.schema.columns ≤ vec_capacity entries.new }
+        ensures wide { length (F.format self.now.format).schema.columns ≤ vec_capacity entries.new }
     {
         if fields.len() != self.header.len() || !self.read_entries(fields, entries) {
             return false;
@@ -158,23 +174,15 @@ impl Layout {
 
     /// Reads the fields of a record in the order of the columns as the entries of a row, and returns whether this fits.
     fn read_entries(&self, fields: &ByteRecord, entries: &mut Vec<Option<i64>>) -> bool
-        requires wide { length self.now.schema.columns ≤ vec_capacity entries.old }
-        ensures row { given result entries.new.items
-            ≡ fitting self.now.schema (values_in self.now.schema.signed
-            (in_order self.now.schema self.now.header (fields_of fields.now))) }
-        ensures fits { result ≡ true → IsTrue (fits self.now.schema.columns entries.new.items) }
-        ensures wide { length self.now.schema.columns ≤ vec_capacity entries.new }
+        requires wide { length (F.format self.now.format).schema.columns ≤ vec_capacity entries.old }
+        ensures row { given result entries.new.items ≡ fitting (F.format self.now.format).schema
+            ((F.format self.now.format).entries
+            (in_order (F.format self.now.format) self.now.header (fields_of fields.now))) }
+        ensures fits { result ≡ true →
+            IsTrue (fits (F.format self.now.format).schema.columns entries.new.items) }
+        ensures wide { length (F.format self.now.format).schema.columns ≤ vec_capacity entries.new }
     {
-        let signed = self.schema.signed();
-        entries.clear();
-        'columns: for (index, limits) in self.indexes.iter().zip(self.schema.limits()) {
-            let text = field(fields, *index);
-            let Some(entry) = read_entry(signed, *limits, text) else {
-                return false;
-            };
-            entries.push_reserved(entry);
-        }
-        true
+        self.format.read_entries(&self.indexes, fields, entries)
     }
 }
 
@@ -190,76 +198,4 @@ fn set_row(alloc: Global, entries: &[Option<i64>], row: &mut Row) -> Result<(), 
     }
     *row = Row::new(values);
     Ok(())
-}
-
-/// Returns whether a header names each column exactly once, and nothing else.
-pub fn is_good_header(schema: &Schema, header: &ByteRecord) -> bool
-    ensures { result ≡ is_header schema.now (fields_of header.now) }
-{
-    names_each_column_once(schema, header) && names_columns_only(schema, header)
-}
-
-/// Returns whether each column is named exactly once.
-fn names_each_column_once(schema: &Schema, header: &ByteRecord) -> bool
-    ensures { result ≡ list_all (is_named_once (fields_of header.now)) schema.now.columns }
-{
-    'columns: for c in 0..schema.columns() {
-        if count_fields_named(header, schema.name(c).as_bytes()) != 1 {
-            return false;
-        }
-    }
-    true
-}
-
-/// Returns how many fields equal this name.
-pub fn count_fields_named(header: &ByteRecord, name: &[u8]) -> usize
-    ensures { result ≡ count_by (λ field. bytes_eq field name.now) (fields_of header.now) }
-{
-    let mut count = 0;
-    'fields: for index in 0..header.len() {
-        if field(header, index) == name {
-            count += 1;
-        }
-    }
-    count
-}
-
-/// Returns whether each field is the name of a column.
-fn names_columns_only(schema: &Schema, header: &ByteRecord) -> bool
-    ensures { result ≡ list_all (is_known schema.now) (fields_of header.now) }
-{
-    'fields: for index in 0..header.len() {
-        if schema.find(field(header, index)).is_none() {
-            return false;
-        }
-    }
-    true
-}
-
-/// Returns for each column how many fields come before its name.
-fn field_indexes(
-    alloc: Global,
-    schema: &Schema,
-    header: &ByteRecord,
-) -> Result<Vec<usize>, NoMemory>
-    ensures { IfOk result (λ indexes. indexes.items
-        ≡ map (λ column. field_index (fields_of header.now) column.name) schema.now.columns) }
-{
-    let mut indexes = Vec::with_capacity(alloc, schema.columns() as usize)?;
-    'columns: for c in 0..schema.columns() {
-        indexes.push_reserved(field_index(header, schema.name(c).as_bytes()));
-    }
-    Ok(indexes)
-}
-
-/// Returns how many fields come before the first one that equals this name.
-pub fn field_index(header: &ByteRecord, name: &[u8]) -> usize
-    ensures { result ≡ field_index (fields_of header.now) name.now }
-{
-    'fields: for index in 0..header.len() {
-        if field(header, index) == name {
-            return index;
-        }
-    }
-    header.len()
 }

@@ -2,6 +2,8 @@
 #![tactic(auto)]
 
 mod describing;
+mod format;
+mod header;
 pub mod laws;
 mod layout;
 mod reading;
@@ -13,7 +15,9 @@ mod writing;
 
 pub use bsi_syntax::{DeclaredTable, NoMemory};
 pub use describing::describe_schema;
-pub use layout::{Layout, count_fields_named, field_index, is_good_header};
+pub use format::RowFormat;
+pub use header::{count_fields_named, field_index, is_good_header};
+pub use layout::Layout;
 pub use reading::{MAX_RECORDS, plain_reader, read_next};
 pub use record_aware::{RecordAwareReader, has_buffered_record};
 pub use rows::{RowSource, SourceFault};

@@ -5,14 +5,14 @@ ghost use Rattle.csv.specs.Reading.{ReadRecord, error_kind, reader_state, source
 ghost use Rattle.csv.specs.Records.{fields_of};
 ghost use Rattle.csv.specs.declared.parser.State.TheVariants as st;
 ghost use Rattle.bsi_input.specs.RecordSources.{ReadsRecord, Stops};
-ghost use Rattle.bsi_input.specs.Sources.{end_after, max_records, IsPlainReader, IsReadFault};
+ghost use Rattle.bsi_input.specs.Sources.{end_after, IsPlainReader, IsReadFault};
 
 use crate::rows::SourceFault;
 use csv::{ByteRecord, Reader, ReaderBuilder};
 use std::alloc::Global;
 use std::io::Read;
 
-/// The most records that are read of a text, or after the header of a row file.
+/// The most records that are read of a text, or after the header of a row file of whole numbers.
 pub const MAX_RECORDS: u64 = 1_000_000;
 
 /// Makes the reader of a text. Its first record is a record like the others, and records may have any number of fields.
@@ -42,24 +42,25 @@ pub fn read_next<R: Read + Drop>(
     input.read_byte_record(fields)
 }
 
-/// Reads the next record, if it is one of the first 1,000,000.
+/// Reads the next record, if it is one of the first so many.
 pub(crate) fn read_record<R: Read + Drop>(
     input: &mut Reader<R>,
     fields: &mut ByteRecord,
+    most: u64,
     read_so_far: &mut u64,
 ) -> Result<bool, SourceFault>
     requires plain { IsPlainReader input.old }
-    requires few { read_so_far.old ≤ max_records }
+    requires few { read_so_far.old ≤ most }
     ensures reads { IfOk result
         (ReadsRecord R.remaining input.old input.new read_so_far.old read_so_far.new (fields_of fields.new)) }
-    ensures stopped { IfErr result (Stops R.remaining input.old read_so_far.old read_so_far.new) }
-    ensures few { read_so_far.new ≤ max_records }
+    ensures stopped { IfErr result (Stops most R.remaining input.old read_so_far.old read_so_far.new) }
+    ensures few { read_so_far.new ≤ most }
     ensures plain { OnOk result (IsPlainReader input.new) }
 {
     if !read_next(input, fields)? {
         return Ok(false);
     }
-    if *read_so_far == MAX_RECORDS {
+    if *read_so_far == most {
         return Err(SourceFault::TooLong);
     }
     *read_so_far += 1;

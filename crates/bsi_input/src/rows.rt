@@ -10,13 +10,14 @@ ghost use Rattle.csv.specs.declared.parser.State.TheVariants as st;
 ghost use Rattle.bsi_schema.specs.Columns.{fits};
 ghost use Rattle.bsi_rows.specs.RowBlocks.{max_block_rows, no_block_rows, HaveSameLimits};
 ghost use Rattle.bsi_input.specs.FaultTexts.{source_fault_text};
-ghost use Rattle.bsi_input.specs.RowFiles.{given, is_header};
-ghost use Rattle.bsi_input.specs.Sources.{counts_of, end_after, end_after_call, max_records, AreCounts, Fills, GivesFirst, HasGivenNext, HasNoHeader, HasStopped, IsAfterHeader, IsPlainReader, PutsRows};
+ghost use Rattle.bsi_input.specs.Formats.{given};
+ghost use Rattle.bsi_input.specs.Sources.{counts_of, end_after, end_after_call, layout_by, source_by, AreCounts, Fills, GivesFirst, HasGivenNext, HasNoHeader, HasStopped, IsAfterHeader, IsPlainReader, PutsRows};
 
 use crate::NoMemory;
+use crate::format::RowFormat;
 use crate::layout::Layout;
-use crate::reading::{MAX_RECORDS, end_after_call, plain_reader, read_next, read_record};
-use bsi_rows::{Block, MAX_BLOCK_ROWS, Row, Schema};
+use crate::reading::{end_after_call, plain_reader, read_next, read_record};
+use bsi_rows::{Block, MAX_BLOCK_ROWS, Row};
 use csv::{ByteRecord, Reader};
 use std::alloc::Global;
 use std::io::Read;
@@ -27,13 +28,13 @@ use thiserror::Error;
 #[derive(Clone, Copy, Debug, PartialEq, Eq, Error)]
 #[error("{}", self.text())]
 pub enum SourceFault {
-    /// The first record does not name each column exactly once and nothing else, or there is no record.
+    /// The first record is no header of the format, or there is no record.
     BadHeader,
     /// The reader failed.
     Read,
-    /// Memory was refused for the header, the indexes of the fields, the copy of the schema, a record or a row.
+    /// Memory was refused for the header, the indexes of the fields, the copy of the format, a record or a row.
     NoMemory,
-    /// There are more than 1,000,000 records after the header.
+    /// There are more records after the header than the format has at most.
     TooLong,
 }
 
@@ -79,11 +80,11 @@ impl From<csv::Error> for SourceFault {
 
 /// The rows of the good records of a row file, in their order.
 ///
-/// It keeps a copy of the schema, the header and the current record. It makes each row for the caller.
+/// It keeps a copy of the format, the header and the current record. It makes each row for the caller.
 #[derive(Drop)]
-pub struct RowSource<R: Read + Drop> {
+pub struct RowSource<R: Read + Drop, F: RowFormat + Drop> {
     alloc: Global,
-    layout: Layout,
+    layout: Layout<F>,
     input: Reader<R>,
     fields: ByteRecord,
     // Room for the entries of the current record.
@@ -96,37 +97,39 @@ pub struct RowSource<R: Read + Drop> {
 }
 
 // Clauses see the layout, the reader, the counts, and how the source ended.
-impl<R: Read + Drop> Model for RowSource<R> {
+impl<R: Read + Drop, F: RowFormat + Drop> Model for RowSource<R, F> {
     ghost use Rattle.std.specs.Prelude.{◌≡◌, None};
-    ghost use Rattle.bsi_input.specs.Sources.{counts_of, AreCounts, IsPlainReader, Source};
+    ghost use Rattle.bsi_input.specs.Sources.{counts_of, AreCounts, IsPlainReader, SourceOf};
 
-    ghost Value = { Source R };
+    ghost Value = { SourceOf R F };
 
     ghost view = { λ s. record
         { layout = s.layout; input = s.input; counts = counts_of s.read_so_far s.bad; end = s.end } };
 
-    ghost invariant = { λ s. AreCounts (counts_of s.read_so_far s.bad) × (s.end ≡ None → IsPlainReader s.input) };
+    ghost invariant = { λ s. AreCounts (F.format s.layout.format).most (counts_of s.read_so_far s.bad)
+        × (s.end ≡ None → IsPlainReader s.input) };
 }
 
-impl<R: Read + Drop> RowSource<R> {
-    /// Reads the header. It answers `BadHeader` if the header does not name each column of the schema exactly once and
-    /// nothing else, or if there is no record. It answers `NoMemory` if memory is refused while it reads the header,
-    /// or, with a good header, for the indexes of the fields or the copy of the schema. Testing a header takes no
-    /// memory.
-    pub fn begin(alloc: Global, schema: &Schema, reader: R) -> Result<RowSource<R>, SourceFault>
-        ensures schema { IfOk result (λ source. source.layout.schema ≡ schema.now) }
-        ensures header { IfOk result (λ source. is_header schema.now source.layout.header ≡ true) }
+impl<R: Read + Drop, F: RowFormat + Drop> RowSource<R, F> {
+    /// Reads the header. It answers `BadHeader` if the format does not take it, or if there is no record: a `Schema` takes
+    /// one that names each column exactly once, and nothing else. It answers `NoMemory` if memory is refused while it
+    /// reads the header, or, with a good header, for the indexes of the fields or the copy of the format. Testing a
+    /// header takes no memory.
+    pub fn begin(alloc: Global, format: &F, reader: R) -> Result<RowSource<R, F>, SourceFault>
+        ensures format { IfOk result (λ source. source.layout.format ≡ format.now) }
+        ensures header { IfOk result
+            (λ source. (F.format format.now).is_header source.layout.header ≡ true) }
         ensures fresh { IfOk result (λ source. (source.counts ≡ record { read_so_far = 0; bad = 0 })
             × (source.end ≡ None)) }
-        ensures after_header { IfOk result
-            (λ source. IfSome (R.remaining reader)
-            (λ bytes. IsAfterHeader R.remaining source.layout source.input (strip_bom bytes))) }
-        ensures bad_header { result ≡ Err SourceFault.BadHeader →
-            IfSome (R.remaining reader) (λ bytes. HasNoHeader schema.now (strip_bom bytes)) }
+        ensures after_header { IfOk result (λ source. IfSome (R.remaining reader)
+            (λ bytes. IsAfterHeader R.remaining (layout_by F.format source.layout) source.input
+            (strip_bom bytes))) }
+        ensures bad_header { result ≡ Err SourceFault.BadHeader → IfSome (R.remaining reader)
+            (λ bytes. HasNoHeader (F.format format.now) (strip_bom bytes)) }
         ensures short { result ≢ Err SourceFault.TooLong }
     {
         let mut input = plain_reader(alloc, reader);
-        let layout = read_layout(alloc, schema, &mut input)?;
+        let layout = read_layout(alloc, format, &mut input)?;
         Ok(RowSource {
             alloc,
             layout,
@@ -140,26 +143,27 @@ impl<R: Read + Drop> RowSource<R> {
     }
 
     /// Returns the row of the next good record, or none once no record is left. It passes over bad records and counts
-    /// them. After a fault, each later call answers the same fault. It reads at most 1,000,000 records.
+    /// them. After a fault, each later call answers the same fault. It reads at most as many records as the format has.
     pub fn next_row(&mut self) -> Result<Option<Row>, SourceFault>
         ensures failed { (fault : SourceFault) → self.old.end ≡ Some (Err fault) →
             (result ≡ Err fault) × (self.new ≡ self.old) }
         ensures ended { self.old.end ≡ Some (Ok tt) → (result ≡ Ok None) × (self.new ≡ self.old) }
         ensures given { self.old.end ≡ None →
-            IfOk result (HasGivenNext R.remaining self.old.layout self.old.input self.new.input
-            self.old.counts self.new.counts) }
+            IfOk result (HasGivenNext R.remaining (layout_by F.format self.old.layout)
+            self.old.input self.new.input self.old.counts self.new.counts) }
         ensures goes_on { self.old.end ≡ None →
             IfOk result (λ more. self.new.end ≡ end_after (is_some more)) }
         ensures stopped { self.old.end ≡ None →
-            IfErr result (λ fault. HasStopped R.remaining self.old.layout self.old.input
-            self.old.counts self.new.counts fault × (self.new.end ≡ Some (Err fault))) }
+            IfErr result (λ fault. HasStopped R.remaining (layout_by F.format self.old.layout)
+            self.old.input self.old.counts self.new.counts fault × (self.new.end ≡ Some (Err fault))) }
         ensures same { self.new.layout ≡ self.old.layout }
 
         // The row is the first of those that the source still had; it fits. No more records are read than may be.
-        ensures first { IfOk result (GivesFirst R.remaining self.old self.new) }
+        ensures first { IfOk result (GivesFirst R.remaining (source_by F.format self.old)
+            (source_by F.format self.new)) }
         ensures fits { IfOk result
-            (λ more. IfSome more (λ row. IsTrue (fits self.old.layout.schema.columns row))) }
-        ensures few { self.new.counts.read_so_far ≤ max_records }
+            (λ more. IfSome more (λ row. IsTrue (fits (F.format self.old.layout.format).schema.columns row))) }
+        ensures few { self.new.counts.read_so_far ≤ (F.format self.new.layout.format).most }
     {
         let mut row = Row::new(Vec::new(self.alloc));
         let more = self.next_into(&mut row)?;
@@ -174,21 +178,22 @@ impl<R: Read + Drop> RowSource<R> {
             (result ≡ Err fault) × (self.new ≡ self.old) }
         ensures ended { self.old.end ≡ Some (Ok tt) → (result ≡ Ok false) × (self.new ≡ self.old) }
         ensures given { self.old.end ≡ None →
-            IfOk result (λ more. HasGivenNext R.remaining self.old.layout self.old.input self.new.input
-            self.old.counts self.new.counts (given more row.new)) }
+            IfOk result (λ more. HasGivenNext R.remaining (layout_by F.format self.old.layout)
+            self.old.input self.new.input self.old.counts self.new.counts (given more row.new)) }
         ensures goes_on { self.old.end ≡ None →
             IfOk result (λ more. self.new.end ≡ end_after more) }
         ensures stopped { self.old.end ≡ None →
-            IfErr result (λ fault. HasStopped R.remaining self.old.layout self.old.input
-            self.old.counts self.new.counts fault × (self.new.end ≡ Some (Err fault))) }
+            IfErr result (λ fault. HasStopped R.remaining (layout_by F.format self.old.layout)
+            self.old.input self.old.counts self.new.counts fault × (self.new.end ≡ Some (Err fault))) }
         ensures same { self.new.layout ≡ self.old.layout }
 
         // The row is the first of those that the source still had; it fits. No more records are read than may be.
         ensures first { IfOk result
-            (λ more. GivesFirst R.remaining self.old self.new (given more row.new)) }
+            (λ more. GivesFirst R.remaining (source_by F.format self.old) (source_by F.format self.new)
+            (given more row.new)) }
         ensures fits { IfOk result (λ more. more ≡ true →
-            IsTrue (fits self.old.layout.schema.columns row.new)) }
-        ensures few { self.new.counts.read_so_far ≤ max_records }
+            IsTrue (fits (F.format self.old.layout.format).schema.columns row.new)) }
+        ensures few { self.new.counts.read_so_far ≤ (F.format self.new.layout.format).most }
     {
         if let Some(end) = self.end {
             return end.map(|()| false);
@@ -209,7 +214,8 @@ impl<R: Read + Drop> RowSource<R> {
 
     /// Makes a block of no rows for the rows of this source, each from one of so many feeders.
     pub fn block(&self, feeders: u32) -> Result<Block, NoMemory>
-        ensures { IfOk result (λ block. block ≡ no_block_rows self.now.layout.schema feeders) }
+        ensures { IfOk result
+            (λ block. block ≡ no_block_rows (F.format self.now.layout.format).schema feeders) }
     {
         self.layout.block(self.alloc, feeders)
     }
@@ -218,7 +224,7 @@ impl<R: Read + Drop> RowSource<R> {
     /// record is left. It works as so many calls of `next_row` do, but it allocates memory for the entries of one record
     /// alone. A fault that is met once a row was added is left to the next call.
     pub fn fill(&mut self, feeder: u32, block: &mut Block) -> Result<(), SourceFault>
-        requires alike { HaveSameLimits block.old.schema self.old.layout.schema }
+        requires alike { HaveSameLimits block.old.schema (F.format self.old.layout.format).schema }
         requires room { length block.old.rows < max_block_rows }
         requires feeder { feeder < block.old.feeders }
         ensures failed { (fault : SourceFault) → self.old.end ≡ Some (Err fault) →
@@ -229,13 +235,14 @@ impl<R: Read + Drop> RowSource<R> {
         // The rows that stand in the block now are the next ones that the source still had; they fit. Unless the block
         // is full, the source has ended. No more records are read than may be.
         ensures filled { self.old.end ≡ None →
-            Fills R.remaining self.old self.new feeder block.old block.new }
+            Fills R.remaining (source_by F.format self.old) (source_by F.format self.new) feeder
+            block.old block.new }
         ensures stopped { IfErr result (λ fault. (self.new.end ≡ Some (Err fault))
             × (block.new ≡ block.old)) }
         ensures later { OnOk result ((fault : SourceFault) → self.new.end ≡ Some (Err fault) →
             length block.old.rows < length block.new.rows) }
         ensures same { self.new.layout ≡ self.old.layout }
-        ensures few { self.new.counts.read_so_far ≤ max_records }
+        ensures few { self.new.counts.read_so_far ≤ (F.format self.new.layout.format).most }
     {
         if let Some(end) = self.end {
             return end;
@@ -258,30 +265,29 @@ impl<R: Read + Drop> RowSource<R> {
         Ok(())
     }
 
-    /// Returns how many bad records were passed over so far, at most 1,000,000.
+    /// Returns how many bad records were passed over so far, at most as many as the format has.
     pub fn bad(&self) -> u64
         ensures bad { result ≡ self.now.counts.bad }
-        ensures within { result ≤ max_records }
+        ensures within { result ≤ (F.format self.now.layout.format).most }
     {
         self.bad
     }
 }
 
 /// Reads the first record, and makes the layout of it.
-fn read_layout<R: Read + Drop>(
+fn read_layout<R: Read + Drop, F: RowFormat + Drop>(
     alloc: Global,
-    schema: &Schema,
+    format: &F,
     input: &mut Reader<R>,
-) -> Result<Layout, SourceFault>
+) -> Result<Layout<F>, SourceFault>
     requires plain { IsPlainReader input.old }
     requires start { reader_state input.old ≡ st.StartRecord }
-    ensures schema { IfOk result (λ layout. layout.schema ≡ schema.now) }
-    ensures header { IfOk result (λ layout. is_header schema.now layout.header ≡ true) }
-    ensures after_header { IfOk result
-        (λ layout. IfSome (source_of R.remaining input.old)
-        (IsAfterHeader R.remaining layout input.new)) }
+    ensures format { IfOk result (λ layout. layout.format ≡ format.now) }
+    ensures header { IfOk result (λ layout. (F.format format.now).is_header layout.header ≡ true) }
+    ensures after_header { IfOk result (λ layout. IfSome (source_of R.remaining input.old)
+        (IsAfterHeader R.remaining (layout_by F.format layout) input.new)) }
     ensures bad_header { result ≡ Err SourceFault.BadHeader →
-        IfSome (source_of R.remaining input.old) (HasNoHeader schema.now) }
+        IfSome (source_of R.remaining input.old) (HasNoHeader (F.format format.now)) }
     ensures short { result ≢ Err SourceFault.TooLong }
     ensures plain { OnOk result (IsPlainReader input.new) }
 {
@@ -289,13 +295,13 @@ fn read_layout<R: Read + Drop>(
     if !read_next(input, &mut header)? {
         return Err(SourceFault::BadHeader);
     }
-    Layout::new(alloc, schema, header)?.ok_or(SourceFault::BadHeader)
+    Layout::new(alloc, format, header)?.ok_or(SourceFault::BadHeader)
 }
 
 /// Reads records until one is good and makes `row` its row, and returns whether there was one.
-fn read_good_row<R: Read + Drop>(
+fn read_good_row<R: Read + Drop, F: RowFormat + Drop>(
     alloc: Global,
-    layout: &Layout,
+    layout: &Layout<F>,
     input: &mut Reader<R>,
     fields: &mut ByteRecord,
     entries: &mut Vec<Option<i64>>,
@@ -304,19 +310,23 @@ fn read_good_row<R: Read + Drop>(
     bad: &mut u64,
 ) -> Result<bool, SourceFault>
     requires plain { IsPlainReader input.old }
-    requires counts { AreCounts (counts_of read_so_far.old bad.old) }
+    requires counts { AreCounts (F.format layout.now.format).most
+        (counts_of read_so_far.old bad.old) }
     ensures given { IfOk result
-        (λ more. HasGivenNext R.remaining layout.now input.old input.new (counts_of read_so_far.old bad.old)
-        (counts_of read_so_far.new bad.new) (given more row.new)) }
+        (λ more. HasGivenNext R.remaining (layout_by F.format layout.now) input.old input.new
+        (counts_of read_so_far.old bad.old) (counts_of read_so_far.new bad.new)
+        (given more row.new)) }
     ensures stopped { IfErr result
-        (HasStopped R.remaining layout.now input.old (counts_of read_so_far.old bad.old)
-        (counts_of read_so_far.new bad.new)) }
+        (HasStopped R.remaining (layout_by F.format layout.now) input.old
+        (counts_of read_so_far.old bad.old) (counts_of read_so_far.new bad.new)) }
     ensures fits { IfOk result (λ more. more ≡ true →
-        IsTrue (fits layout.now.schema.columns row.new)) }
+        IsTrue (fits (F.format layout.now.format).schema.columns row.new)) }
     ensures plain { OnOk result (IsPlainReader input.new) }
-    ensures counts { AreCounts (counts_of read_so_far.new bad.new) }
+    ensures counts { AreCounts (F.format layout.now.format).most
+        (counts_of read_so_far.new bad.new) }
 {
-    'records: while *read_so_far < MAX_RECORDS {
+    let most = layout.most_records();
+    'records: while *read_so_far < most {
         if !read_next(input, fields)? {
             return Ok(false);
         }
@@ -335,8 +345,8 @@ fn read_good_row<R: Read + Drop>(
 
 /// Reads records and puts the rows of the good ones into a block until it is full, and returns whether it is. It asks
 /// first for the room of one record's entries, and reads each into it.
-fn put_rows<R: Read + Drop>(
-    layout: &Layout,
+fn put_rows<R: Read + Drop, F: RowFormat + Drop>(
+    layout: &Layout<F>,
     input: &mut Reader<R>,
     fields: &mut ByteRecord,
     entries: &mut Vec<Option<i64>>,
@@ -346,20 +356,24 @@ fn put_rows<R: Read + Drop>(
     bad: &mut u64,
 ) -> Result<bool, SourceFault>
     requires plain { IsPlainReader input.old }
-    requires counts { AreCounts (counts_of read_so_far.old bad.old) }
-    requires alike { HaveSameLimits block.old.schema layout.now.schema }
+    requires counts { AreCounts (F.format layout.now.format).most
+        (counts_of read_so_far.old bad.old) }
+    requires alike { HaveSameLimits block.old.schema (F.format layout.now.format).schema }
     requires room { length block.old.rows < max_block_rows }
     requires feeder { feeder < block.old.feeders }
-    ensures puts { PutsRows R.remaining layout.now input.old input.new (counts_of read_so_far.old bad.old)
-        (counts_of read_so_far.new bad.new) feeder block.old block.new (end_after_call result) }
+    ensures puts { PutsRows R.remaining (layout_by F.format layout.now) input.old input.new
+        (counts_of read_so_far.old bad.old) (counts_of read_so_far.new bad.new) feeder block.old
+        block.new (end_after_call result) }
     ensures plain { OnOk result (IsPlainReader input.new) }
-    ensures counts { AreCounts (counts_of read_so_far.new bad.new) }
+    ensures counts { AreCounts (F.format layout.now.format).most
+        (counts_of read_so_far.new bad.new) }
 {
+    let most = layout.most_records();
     layout.make_room(entries)?;
     'records: while block.len() < MAX_BLOCK_ROWS {
         // A record counts once its fields have been read.
         let mut count = *read_so_far;
-        if !read_record(input, fields, &mut count)? {
+        if !read_record(input, fields, most, &mut count)? {
             return Ok(false);
         }
         let good = layout.add(fields, entries, feeder, block);

@@ -5,9 +5,9 @@ ghost use Rattle.csv.specs.Reading.{reader_state, source_of, strip_bom};
 ghost use Rattle.csv.specs.Records.{fields_of};
 ghost use Rattle.csv.specs.declared.parser.State.TheVariants as st;
 ghost use Rattle.bsi_input.specs.RecordSources.{ReadsNextRecord, StopsAt};
-ghost use Rattle.bsi_input.specs.Sources.{max_records};
+ghost use Rattle.bsi_input.specs.Formats.{max_records};
 
-use crate::reading::{end_after_call, plain_reader, read_record};
+use crate::reading::{MAX_RECORDS, end_after_call, plain_reader, read_record};
 use crate::record_aware::{RecordAwareReader, has_buffered_record};
 use crate::rows::SourceFault;
 use csv::{ByteRecord, Reader};
@@ -28,7 +28,8 @@ pub struct RecordSource<R: Read + Drop> {
 impl<R: Read + Drop> Model for RecordSource<R> {
     ghost use Rattle.std.specs.Prelude.{◌≡◌, ◌≤◌, None};
     ghost use Rattle.bsi_input.specs.RecordSources.{RecordSource};
-    ghost use Rattle.bsi_input.specs.Sources.{max_records, IsPlainReader};
+    ghost use Rattle.bsi_input.specs.Formats.{max_records};
+    ghost use Rattle.bsi_input.specs.Sources.{IsPlainReader};
 
     ghost Value = { RecordSource R };
 
@@ -68,7 +69,7 @@ impl<R: Read + Drop> RecordSource<R> {
         if let Some(end) = self.end {
             return end.map(|()| false);
         }
-        let more = read_record(&mut self.input, fields, &mut self.read_so_far);
+        let more = read_record(&mut self.input, fields, MAX_RECORDS, &mut self.read_so_far);
         self.end = end_after_call(more);
         more
     }

@@ -19,5 +19,6 @@ pub use Rattle.bsi_table.specs.RowBlocks
 pub use Rattle.bsi_table.specs.Refusals
 pub use Rattle.bsi_table.specs.Rows
 pub use Rattle.bsi_table.specs.Table
+pub use Rattle.bsi_text.specs.Formats
 pub use Rattle.bsi_text.specs.RowFiles
 pub use Rattle.bsi_text.specs.Sources

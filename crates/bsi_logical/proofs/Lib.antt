@@ -1,5 +1,6 @@
 mod Building
 mod Called
 mod Exactly
+mod Fields
 mod Plain
 mod Saying

@@ -3,6 +3,7 @@
 
 mod describing;
 mod dialect;
+mod format;
 mod kind_words;
 mod logical;
 mod logical_text;
@@ -12,6 +13,7 @@ mod vocabulary;
 pub use bsi_kinds::{Comparison, Kind, NoMemory, Op};
 pub use describing::describe_logical;
 pub use dialect::Dialect;
+pub use format::LogicalFormat;
 pub use logical::LogicalSchema;
 pub use logical_text::{LogicalFault, read_logical};
 pub use refusal::{DeclareError, Refusal};

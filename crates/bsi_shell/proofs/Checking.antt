@@ -7,18 +7,16 @@ use Rattle.bsi_check.specs.declared.named.NamedFile.{NamedFile}
 use Rattle.bsi_check.specs.declared.fault.CheckFault.{CheckFault}
 use Rattle.bsi_check.specs.declared.fault.CheckFault.TheVariants.{NoMemory, Write}
 use Rattle.bsi_shell.proofs.Runs.{flush_same}
-use Rattle.bsi_shell.specs.Checks.{check_fault_of, AreOpened, IsOverOpened, LeavesCheck}
-use Rattle.bsi_shell.specs.declared.paths.CheckPaths.{CheckPaths}
+use Rattle.bsi_shell.specs.Checks.{check_fault_of, IsOverOpened, LeavesCheck}
 use Rattle.bsi_syntax.specs.Bytes.{KnownBytes}
 
-module _ {S : Type 0} (rem : S → KnownBytes) (paths : CheckPaths) (schema : NamedFile S) (asks : Option (NamedFile S)) (rows : List (NamedFile S)) (opened : AreOpened paths schema rows asks) where
+module _ {S : Type 0} (rem : S → KnownBytes) (schema : NamedFile S) (asks : Option (NamedFile S)) (rows : List (NamedFile S)) where
   pub over_opened : (Is : NamedFile S → List (NamedFile S) → Option (NamedFile S) → KnownBytes → KnownBytes → Type 0)
-      (before middle after : KnownBytes) → Is schema rows asks before middle → Keeps middle after → IsOverOpened paths Is before after
+      (before middle after : KnownBytes) → Is schema rows asks before middle → Keeps middle after → IsOverOpened Is before after
   over_opened Is before middle after is flushed = record {
     schema = schema;
     asks = asks;
     rows = rows;
-    opened = opened;
     middle = middle;
     is = is;
     flushed = keeps;
@@ -37,6 +35,6 @@ module _ {S : Type 0} (rem : S → KnownBytes) (paths : CheckPaths) (schema : Na
   -- where the check itself ended by a fault
   pub left_checked : (before after : KnownBytes) (fault : CheckFault)
       → (fault ≡ Write → HasBegunReport rem schema rows asks before after) → (fault ≡ NoMemory → after ≡ before)
-      → LeavesCheck rem paths (check_fault_of fault) before after
+      → LeavesCheck rem (check_fault_of fault) before after
   left_checked before after NoMemory prefix quiet = quiet refl
   left_checked before after Write prefix quiet = over_opened (HasBegunReport rem) before after after (prefix refl) (flush_same after after refl)

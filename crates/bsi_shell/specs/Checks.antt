@@ -1,37 +1,24 @@
 -- What a check leaves in the output, and what it reports of a fault.
-use Rattle.std.specs.Borrow.{Bor}
 use Rattle.std.specs.Io.KnownBytes.{Keeps}
-use Rattle.std.specs.List.{Contains}
-use Rattle.std.specs.Prelude.{◌≡◌, ◌⊎◌, Bool, true, false, List, map, Option, Some, option_map, Result, Ok}
+use Rattle.std.specs.Prelude.{◌≡◌, ◌⊎◌, Bool, true, false, List, Option, Result, Ok}
 use Rattle.bsi_answers.specs.declared.faults.FilesFault.TheVariants as run
 use Rattle.bsi_check.specs.Reports.{HasBegunReport, HasReported}
 use Rattle.bsi_check.specs.declared.fault.CheckFault.{CheckFault}
 use Rattle.bsi_check.specs.declared.named.NamedFile.{NamedFile}
 use Rattle.bsi_check.specs.declared.fault.CheckFault.TheVariants as check
 use Rattle.bsi_input.specs.declared.writing.WriteFault.{WriteFault}
-use Rattle.bsi_shell.specs.FaultLines.{fault_line, IsLineWritten, OrNoMemory}
+use Rattle.bsi_shell.specs.FaultLines.{fault_line, IsLineWritten}
 use Rattle.bsi_shell.specs.declared.files.RunFault.{RunFault}
 use Rattle.bsi_shell.specs.declared.files.RunFault.TheVariants.{CannotOpen, Run}
-use Rattle.bsi_shell.specs.declared.paths.CheckPaths.{CheckPaths}
-use Rattle.bsi_syntax.specs.Bytes.{Bytes, KnownBytes}
+use Rattle.bsi_syntax.specs.Bytes.{KnownBytes}
 
 -- The fault of a command whose check ended early.
 abbrev pub check_fault_of : CheckFault → RunFault
 check_fault_of check.NoMemory = Run run.NoMemory
 check_fault_of check.Write = Run run.Write
 
--- A path of a check.
-abbrev pub IsPathOf : CheckPaths → Bor Bytes → Type 0
-IsPathOf paths path = (path ≡ paths.schema) ⊎ ((Some path ≡ paths.asks) ⊎ Contains paths.rows.items path)
-
--- Files were opened under these paths.
-pub record AreOpened {S : Type 0} (paths : CheckPaths) (declared : NamedFile S) (rows : List (NamedFile S)) (asked : Option (NamedFile S)) : Type 0 where
-  pub schema_is : declared.path ≡ paths.schema
-  pub asks_are : option_map (λ file. file.path) asked ≡ paths.asks
-  pub rows_are : map (λ file. file.path) rows ≡ paths.rows.items
-
--- What `Is` says was done over the files of these paths.
-pub record IsOverOpened {S : Type 0} (paths : CheckPaths)
+-- What `Is` says was done over some files.
+pub record IsOverOpened {S : Type 0}
     (Is : NamedFile S → List (NamedFile S) → Option (NamedFile S) → KnownBytes → KnownBytes → Type 0)
     (before after : KnownBytes) : Type 0 where
   -- The schema file.
@@ -40,8 +27,6 @@ pub record IsOverOpened {S : Type 0} (paths : CheckPaths)
   pub asks : Option (NamedFile S)
   -- The row files.
   pub rows : List (NamedFile S)
-  -- The files were opened under the paths.
-  pub opened : AreOpened paths schema rows asks
   -- The bytes of the output before the flush.
   pub middle : KnownBytes
   -- `Is` holds of the files and of what was written to the output.
@@ -49,33 +34,26 @@ pub record IsOverOpened {S : Type 0} (paths : CheckPaths)
   -- The flush left the bytes of the output unchanged.
   pub flushed : Keeps middle after
 
--- A check of the files of these paths was written. It says whether there was no finding.
-abbrev pub HasReportedOver : {S : Type 0} → (S → KnownBytes) → CheckPaths → KnownBytes → KnownBytes → Bool → Type 0
-HasReportedOver rem paths before after good =
-    IsOverOpened paths (λ schema rows asks start end. HasReported rem schema rows asks start end good) before after
+-- A check of some files was written. It says whether there was no finding.
+abbrev pub HasReportedOver : {S : Type 0} → (S → KnownBytes) → KnownBytes → KnownBytes → Bool → Type 0
+HasReportedOver rem before after good =
+    IsOverOpened (λ schema rows asks start end. HasReported rem schema rows asks start end good) before after
 
--- A check of the files of some paths had no finding: the schema is valid, all records are good, and each ask is a
--- query.
+-- A check of some files had no finding: the schema is valid, all records are good, and each ask is a query.
 abbrev pub HasChecked : {S : Type 0} → (S → KnownBytes) → KnownBytes → KnownBytes → Type 0
-HasChecked rem before after = (paths : CheckPaths) × HasReportedOver rem paths before after true
+HasChecked rem before after = HasReportedOver rem before after true
 
 -- What a failed check leaves in the output: nothing or, if the output can't be written, a prefix.
-abbrev pub LeavesCheck : {S : Type 0} → (S → KnownBytes) → CheckPaths → RunFault → KnownBytes → KnownBytes → Type 0
-LeavesCheck rem paths (CannotOpen path) before after = IsPathOf paths path × (after ≡ before)
-LeavesCheck rem paths (Run run.NoMemory) before after = after ≡ before
-LeavesCheck rem paths (Run run.Write) before after = IsOverOpened paths (HasBegunReport rem) before after
-LeavesCheck rem paths fault before after = ⊥
+abbrev pub LeavesCheck : {S : Type 0} → (S → KnownBytes) → RunFault → KnownBytes → KnownBytes → Type 0
+LeavesCheck rem (CannotOpen path) before after = after ≡ before
+LeavesCheck rem (Run run.NoMemory) before after = after ≡ before
+LeavesCheck rem (Run run.Write) before after = IsOverOpened (HasBegunReport rem) before after
+LeavesCheck rem fault before after = ⊥
 
--- A check of these files had findings, and no line of a fault; or it ended early, and the line of its fault was
+-- A check of some files had findings, and no line of a fault; or it ended early, and the line of its fault was
 -- written.
-abbrev pub HasFailedCheckOf : {S : Type 0} → (S → KnownBytes) → CheckPaths → KnownBytes → KnownBytes
-    → Result (Unit {0}) WriteFault → KnownBytes → KnownBytes → Type 0
-HasFailedCheckOf rem paths before after reported stderr_before stderr_after =
-    (HasReportedOver rem paths before after false × (reported ≡ Ok tt) × (stderr_after ≡ stderr_before))
-    ⊎ ((fault : RunFault) × LeavesCheck rem paths fault before after × IsLineWritten reported stderr_before stderr_after (fault_line fault))
-
--- The check failed for some paths.
 abbrev pub HasFailedCheck : {S : Type 0} → (S → KnownBytes) → KnownBytes → KnownBytes
     → Result (Unit {0}) WriteFault → KnownBytes → KnownBytes → Type 0
 HasFailedCheck rem before after reported stderr_before stderr_after =
-    OrNoMemory ((paths : CheckPaths) × HasFailedCheckOf rem paths before after reported stderr_before stderr_after) before after reported stderr_before stderr_after
+    (HasReportedOver rem before after false × (reported ≡ Ok tt) × (stderr_after ≡ stderr_before))
+    ⊎ ((fault : RunFault) × LeavesCheck rem fault before after × IsLineWritten reported stderr_before stderr_after (fault_line fault))

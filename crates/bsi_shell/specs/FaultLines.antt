@@ -1,8 +1,7 @@
 -- The lines that say why a run over files ended early, or that the words are not a command.
 use Rattle.std.specs.Io.KnownBytes.{Appends}
-use Rattle.std.specs.Prelude.{◌≡◌, ◌⊎◌, ℕ, List, ◌++◌, Result, Ok, Err, codes}
+use Rattle.std.specs.Prelude.{ℕ, List, ◌++◌, Result, Ok, Err, codes}
 use Rattle.bsi_answers.specs.FaultTexts.{fault_text}
-use Rattle.bsi_answers.specs.declared.faults.FilesFault.TheVariants.{NoMemory}
 use Rattle.bsi_shell.specs.declared.files.RunFault.{RunFault}
 use Rattle.bsi_shell.specs.declared.files.RunFault.TheVariants.{CannotOpen, Run}
 use Rattle.bsi_shell.specs.declared.request.Subcommand.{Subcommand}
@@ -20,11 +19,6 @@ fault_line (Run fault) = fault_text fault ++ codes "\n"
 abbrev pub IsLineWritten : Result (Unit {0}) WriteFault → KnownBytes → KnownBytes → List ℕ → Type 0
 IsLineWritten (Ok done) before after line = Appends before after line
 IsLineWritten (Err fault) before after line = AppendsPrefix before after line
-
--- The command failed, or memory was refused before it began, of which a line was written.
-abbrev pub OrNoMemory : Type 0 → KnownBytes → KnownBytes → Result (Unit {0}) WriteFault → KnownBytes → KnownBytes → Type 0
-OrNoMemory HasFailed before after reported stderr_before stderr_after =
-    HasFailed ⊎ ((after ≡ before) × IsLineWritten reported stderr_before stderr_after (fault_line (Run NoMemory)))
 
 -- The usage line of a command. Those of `script` and `files` are one.
 abbrev pub usage_of : Subcommand → List ℕ

@@ -1,20 +1,17 @@
 -- What a run over files leaves in the output, and what it reports of a fault.
-use Rattle.std.specs.Borrow.{Bor}
 use Rattle.std.specs.Io.KnownBytes.{Keeps}
-use Rattle.std.specs.List.{Contains}
-use Rattle.std.specs.Prelude.{◌≡◌, ◌<◌, ◌≤◌, ◌⊎◌, ℕ, false, List, Result, length, map}
+use Rattle.std.specs.Prelude.{◌≡◌, ◌<◌, ◌≤◌, ⊤, ◌⊎◌, ℕ, false, List, Result, length, map}
 use Rattle.bsi_files.specs.RunFaults.{IsFaultOf}
 use Rattle.bsi_answers.specs.Runs.{IsRun}
 use Rattle.bsi_answers.specs.Writing.{Leaves, WhereKnown, WritesAll}
 use Rattle.bsi_answers.specs.declared.faults.FilesFault.{FilesFault}
 use Rattle.bsi_answers.specs.declared.faults.FilesFault.TheVariants.{NoMemory}
 use Rattle.bsi_rows.specs.Table.{max_feeders}
-use Rattle.bsi_shell.specs.FaultLines.{fault_line, IsLineWritten, OrNoMemory}
+use Rattle.bsi_shell.specs.FaultLines.{fault_line, IsLineWritten}
 use Rattle.bsi_shell.specs.declared.files.RunFault.{RunFault}
 use Rattle.bsi_shell.specs.declared.files.RunFault.TheVariants.{CannotOpen, Run}
-use Rattle.bsi_shell.specs.declared.paths.Paths.{Paths}
 use Rattle.bsi_input.specs.declared.writing.WriteFault.{WriteFault}
-use Rattle.bsi_syntax.specs.Bytes.{Bytes, KnownBytes}
+use Rattle.bsi_syntax.specs.Bytes.{KnownBytes}
 
 -- A run over opened files was written.
 pub record HasRunOver {S : Type 0} (rem : S → KnownBytes) (before after : KnownBytes) : Type 0 where
@@ -53,28 +50,18 @@ pub record HasFailedRunOver {S : Type 0} (rem : S → KnownBytes) (fault : Files
   pub written : WhereKnown (rem schema) (map rem rows) (rem asks)
       (λ declared texts asked. LeavesFlushed declared texts asked fault before after)
 
--- A fault that may be met while files are opened whose paths satisfy `Is`.
-abbrev pub IsOpenFault : (Bor Bytes → Type 0) → RunFault → Type 0
-IsOpenFault Is (CannotOpen path) = Is path
-IsOpenFault Is (Run fault) = fault ≡ NoMemory
-
--- A path of a run.
-abbrev pub IsPathOf : Paths → Bor Bytes → Type 0
-IsPathOf paths path = (path ≡ paths.schema) ⊎ ((path ≡ paths.asks) ⊎ Contains paths.rows.items path)
+-- A fault that may be met while files are opened.
+abbrev pub IsOpenFault : RunFault → Type 0
+IsOpenFault (CannotOpen path) = ⊤
+IsOpenFault (Run fault) = fault ≡ NoMemory
 
 -- Why a run ended early: no file was read, and nothing was written; or a run over opened files failed.
-abbrev pub HasEndedEarly : {S : Type 0} → (S → KnownBytes) → Paths → KnownBytes → KnownBytes → RunFault → Type 0
-HasEndedEarly rem paths before after (CannotOpen path) = IsPathOf paths path × Keeps before after
-HasEndedEarly rem paths before after (Run fault) = ((fault ≡ NoMemory) × Keeps before after) ⊎ HasFailedRunOver rem fault before after
+abbrev pub HasEndedEarly : {S : Type 0} → (S → KnownBytes) → KnownBytes → KnownBytes → RunFault → Type 0
+HasEndedEarly rem before after (CannotOpen path) = Keeps before after
+HasEndedEarly rem before after (Run fault) = ((fault ≡ NoMemory) × Keeps before after) ⊎ HasFailedRunOver rem fault before after
 
 -- A run ended early, and the line of its fault was written.
-pub record HasFailedFiles {S : Type 0} (rem : S → KnownBytes) (paths : Paths) (before after : KnownBytes)
-    (reported : Result (Unit {0}) WriteFault) (stderr_before stderr_after : KnownBytes) : Type 0 where
+pub record HasFailedFiles {S : Type 0} (rem : S → KnownBytes) (before after : KnownBytes) (reported : Result (Unit {0}) WriteFault) (stderr_before stderr_after : KnownBytes) : Type 0 where
   pub fault : RunFault
-  pub failed : HasEndedEarly rem paths before after fault
+  pub failed : HasEndedEarly rem before after fault
   pub line : IsLineWritten reported stderr_before stderr_after (fault_line fault)
-
--- The run failed for some paths.
-abbrev pub HasFailedRun : {S : Type 0} → (S → KnownBytes) → KnownBytes → KnownBytes → Result (Unit {0}) WriteFault → KnownBytes → KnownBytes → Type 0
-HasFailedRun rem before after reported stderr_before stderr_after =
-    OrNoMemory ((paths : Paths) × HasFailedFiles rem paths before after reported stderr_before stderr_after) before after reported stderr_before stderr_after

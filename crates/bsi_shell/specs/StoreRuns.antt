@@ -6,9 +6,9 @@ use Rattle.std.specs.Prelude.{◌≡◌, ◌⊎◌, ℕ, Bool, List, IfSome, IsO
 use Rattle.bsi_store.specs.Loads.{HasAdded, HasSaved, IsAddFault, IsSaveFault, LeavesReported}
 use Rattle.bsi_store.specs.declared.add.AddPaths.{AddPaths}
 use Rattle.bsi_store.specs.declared.save.SavePaths.{SavePaths}
-use Rattle.bsi_answers.specs.declared.faults.FilesFault.TheVariants.{Write}
+use Rattle.bsi_answers.specs.declared.faults.FilesFault.TheVariants.{NoMemory, Write}
 use Rattle.bsi_input.specs.declared.writing.WriteFault.{WriteFault}
-use Rattle.bsi_shell.specs.FaultLines.{IsLineWritten, OrNoMemory}
+use Rattle.bsi_shell.specs.FaultLines.{IsLineWritten}
 use Rattle.bsi_store.specs.Asked.{HasAsked, HasShown, LeavesAnswers, LeavesShown}
 use Rattle.bsi_store.specs.Faults.{store_fault_line, IsOfFile, NamesPath}
 use Rattle.bsi_store.specs.declared.ask.AskPaths.{AskPaths}
@@ -58,6 +58,10 @@ pub record HasFailedStore (Leaves : StoreFault → KnownBytes → KnownBytes →
   pub flushed : Keeps middle after
   -- The line of the fault was written to stderr or, if that failed, a prefix of the line.
   pub line : IsLineWritten reported stderr_before stderr_after (store_fault_line fault)
+
+-- The command failed, or memory was refused before it began.
+abbrev pub OrNoMemory : Type 0 → KnownBytes → KnownBytes → Result (Unit {0}) WriteFault → KnownBytes → KnownBytes → Type 0
+OrNoMemory HasFailed before after reported stderr_before stderr_after = HasFailed ⊎ ((after ≡ before) × IsLineWritten reported stderr_before stderr_after (store_fault_line (Run NoMemory)))
 
 -- What a fault of `bsi save` says about its paths and its files, and what it leaves in the output.
 pub record LeavesSave {S : Type 0} (rem put : S → KnownBytes) (paths : SavePaths) (fault : StoreFault) (before after : KnownBytes) : Type 0 where

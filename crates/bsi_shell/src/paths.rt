@@ -16,5 +16,4 @@ pub(crate) struct CheckPaths<'a> {
     pub(crate) schema: &'a str,
     pub(crate) asks: Option<&'a str>,
     pub(crate) rows: Vec<&'a str>,
-    ghost some: { 0 < length rows.items },
 }

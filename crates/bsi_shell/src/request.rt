@@ -230,9 +230,6 @@ fn read_check_paths<'a>(alloc: Global, files: &ArgMatches<'a>) -> Result<Request
     let (Some(schema), Some(rows)) = (files.get_str("schema"), files.get_strs("rows")) else {
         return Ok(Request::Wrong);
     };
-    if rows.is_empty() {
-        return Ok(Request::Wrong);
-    }
     let asks = files.get_str("asks");
     let rows = rows.to_vec(alloc)?;
     Ok(Request::Check(CheckPaths { schema, asks, rows }))

@@ -1,9 +1,9 @@
 //! Runs a command line (`run_words`): carries out what its words ask for, and returns the status to end with.
 ghost use Rattle.std.specs.Prelude.{◌≡◌, ◌≤◌, IfErr, OnErr, OnOk, false};
-ghost use Rattle.bsi_shell.specs.Checks.{HasChecked, HasFailedCheck, HasFailedCheckOf, HasReportedOver};
+ghost use Rattle.bsi_shell.specs.Checks.{HasChecked, HasFailedCheck};
 ghost use Rattle.bsi_shell.specs.Commands.{subcommand_of};
 ghost use Rattle.bsi_shell.specs.FaultLines.{usage_of, IsLineWritten};
-ghost use Rattle.bsi_shell.specs.FileRuns.{HasFailedFiles, HasFailedRun, HasRunOver};
+ghost use Rattle.bsi_shell.specs.FileRuns.{HasFailedFiles, HasRunOver};
 ghost use Rattle.bsi_shell.specs.StoreRuns.{HasAddedRows, HasAskedEither, HasDone, HasFailedAdd, HasFailedAsk, HasFailedSave, HasFailedShow, HasSavedRows, IsFlushed};
 ghost use Rattle.bsi_store.specs.Asked.{HasShown};
 ghost use Rattle.bsi_shell.specs.ScriptRuns.{HasFailedScript, LeavesScript};
@@ -75,7 +75,7 @@ pub fn run_words<
     ensures ran { result.status ≡ 0 → subcommand_of words.items ≡ Subcommand.Files →
         HasRunOver S.remaining (O.contents output.old) (O.contents output.new) }
     ensures files_reported { result.status ≡ 1 → subcommand_of words.items ≡ Subcommand.Files →
-        HasFailedRun S.remaining (O.contents output.old) (O.contents output.new) result.reported
+        HasFailedFiles S.remaining (O.contents output.old) (O.contents output.new) result.reported
         (F.contents stderr.old) (F.contents stderr.new) }
 
     // Where it is `check`, all is good after status 0, and no reason was written. After status 1 there are reasons on
@@ -173,7 +173,7 @@ fn answer_files<
     ensures ran { result.status ≡ 0 →
         HasRunOver S.remaining (O.contents output.old) (O.contents output.new) }
     ensures reported { result.status ≡ 1 →
-        HasFailedFiles S.remaining paths.now (O.contents output.old) (O.contents output.new) result.reported
+        HasFailedFiles S.remaining (O.contents output.old) (O.contents output.new) result.reported
         (F.contents stderr.old) (F.contents stderr.new) }
     ensures stderr_unchanged { result.status ≡ 0 → F.contents stderr.new ≡ F.contents stderr.old }
 {
@@ -192,9 +192,9 @@ fn answer_check<'a, R: AllocGlobal + Files<File = S>, S: Read + Drop, O: Write, 
 ) -> CommandEnd
     ensures status { result.status ≤ 1 }
     ensures checked { result.status ≡ 0 →
-        HasReportedOver S.remaining paths.now (O.contents output.old) (O.contents output.new) true }
+        HasChecked S.remaining (O.contents output.old) (O.contents output.new) }
     ensures reasons { result.status ≡ 1 →
-        HasFailedCheckOf S.remaining paths.now (O.contents output.old) (O.contents output.new) result.reported
+        HasFailedCheck S.remaining (O.contents output.old) (O.contents output.new) result.reported
         (F.contents stderr.old) (F.contents stderr.new) }
     ensures stderr_unchanged { result.status ≡ 0 → F.contents stderr.new ≡ F.contents stderr.old }
 {

@@ -35,7 +35,7 @@ fn quantities(alloc: Global, bits: u32) -> Option<Schema> {
     Some(schema)
 }
 
-fn source(alloc: Global, bits: u32, input: Input) -> Option<RowSource<Input>> {
+fn source(alloc: Global, bits: u32, input: Input) -> Option<RowSource<Input, Schema>> {
     let schema = quantities(alloc, bits)?;
     RowSource::begin(alloc, &schema, input).ok()
 }

@@ -45,7 +45,7 @@ fn is_given(
 
 // Whether a call fills a block with these, or answers the fault.
 fn gives_next<R: Read + Drop>(
-    source: &mut RowSource<R>,
+    source: &mut RowSource<R, Schema>,
     want: GivenRows<'_>,
 ) -> Result<bool, SourceFault> {
     let mut block = source.block(2)?;
@@ -54,7 +54,7 @@ fn gives_next<R: Read + Drop>(
 }
 
 fn gives_each<R: Read + Drop>(
-    source: &mut RowSource<R>,
+    source: &mut RowSource<R, Schema>,
     want: &[GivenRows<'_>],
 ) -> Result<bool, SourceFault> {
     for given in want {

@@ -28,7 +28,7 @@ type GivenRow<'a> = Result<Option<&'a [Option<i128>]>, SourceFault>;
 
 // Fills the row with the next one, by a row of its own or in place.
 fn next<R: Read + Drop>(
-    source: &mut RowSource<R>,
+    source: &mut RowSource<R, Schema>,
     row: &mut Row,
     is_own: bool,
 ) -> Result<bool, SourceFault> {
@@ -57,7 +57,7 @@ fn is_given(answer: Result<bool, SourceFault>, row: &Row, want: GivenRow<'_>) ->
 // Whether a source gives these one after another, with so many bad records at the end. The fault that memory was
 // refused stays.
 fn gives_each<R: Read + Drop>(
-    source: &mut RowSource<R>,
+    source: &mut RowSource<R, Schema>,
     row: &mut Row,
     file: File<'_>,
     is_own: bool,

@@ -14,5 +14,5 @@ fn rows_queries_answers_and_indexes_cross_threads(_rt: HostRuntime) {
     crosses_threads::<Query>();
     crosses_threads::<Answer>();
     crosses_threads::<Index>();
-    moves_to_a_thread::<RowSource<&'static [u8]>>();
+    moves_to_a_thread::<RowSource<&'static [u8], Schema>>();
 }

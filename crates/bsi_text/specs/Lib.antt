@@ -1,5 +1,6 @@
 pub mod FaultTexts
 pub mod Sessions
+pub use Rattle.bsi_input.specs.Formats
 pub use Rattle.bsi_input.specs.Pasts
 pub use Rattle.bsi_input.specs.RecordSources
 pub use Rattle.bsi_input.specs.RowFiles

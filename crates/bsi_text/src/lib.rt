@@ -5,7 +5,8 @@ mod script;
 mod session;
 
 pub use bsi_input::{
-    RecordSource, RowSource, SchemaFault, SourceFault, WriteFault, laws, read_schema, write_bytes,
+    RecordSource, RowFormat, RowSource, SchemaFault, SourceFault, WriteFault, laws, read_schema,
+    write_bytes,
 };
 pub use bsi_syntax::{
     DeclaredTable, NoMemory, read_number, read_query, read_row, read_setup, read_signed, write_bad,

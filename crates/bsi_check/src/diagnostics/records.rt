@@ -15,7 +15,7 @@ use std::alloc::Global;
 /// takes in.
 pub fn why_bad_record(
     alloc: Global,
-    layout: &Layout,
+    layout: &Layout<Schema>,
     fields: &ByteRecord,
     line: u64,
 ) -> Result<String, NoMemory> {
@@ -25,7 +25,11 @@ pub fn why_bad_record(
 }
 
 /// Returns why a record is no row.
-fn why_no_row(alloc: Global, layout: &Layout, fields: &ByteRecord) -> Result<String, NoMemory> {
+fn why_no_row(
+    alloc: Global,
+    layout: &Layout<Schema>,
+    fields: &ByteRecord,
+) -> Result<String, NoMemory> {
     let (schema, header) = (layout.schema(), layout.header());
     let (count, expected) = (fields.len(), header.len());
     if count != expected {

@@ -8,6 +8,7 @@ ghost use Rattle.bsi_kinds.specs.Kinds.{value_at, ComparesValues, IsKind, IsNumb
 ghost use Rattle.bsi_kinds.specs.Nulls.{is_null_word};
 ghost use Rattle.bsi_logical.specs.Entries.{asked_kind, constant_of, is_null, is_summed, is_text, HaveSameValues, IsEntry};
 ghost use Rattle.bsi_logical.specs.Logical.{kind_of};
+ghost use Rattle.bsi_logical.specs.LogicalRows.{entry_of};
 
 use crate::NoMemory;
 use crate::logical::LogicalSchema;
@@ -22,6 +23,7 @@ impl LogicalSchema {
     /// memory.
     pub fn read_entry(&self, c: u32, field: &[u8]) -> Option<Option<i64>>
         requires { c < length self.now.schema.columns }
+        ensures exact { result ≡ entry_of self.now c field.now }
         ensures some { IfSome result (IsEntry self.now c field.now) }
         ensures number { IfSome result (λ entry. IfSome entry (IsNumber (kind_of self.now c))) }
         ensures none { IfNone result ((entry : Option ℤ) → IsEntry self.now c field.now entry → ⊥) }

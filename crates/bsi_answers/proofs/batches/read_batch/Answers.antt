@@ -1,6 +1,7 @@
 use Rattle.std.proofs.Common.{◌≡◌, [], arith, rules, subst, sym}
 use Rattle.std.specs.Prelude.{IfErr}
-use Rattle.bsi_input.specs.Sources.{max_records, HasNext}
+use Rattle.bsi_input.specs.Formats.{max_records}
+use Rattle.bsi_input.specs.Sources.{HasNext}
 use Rattle.bsi_answers.proofs.Passing.{if_err_both}
 use Rattle.bsi_answers.specs.declared.faults.FilesFault.TheVariants.{TooLong}
 use Rattle.bsi_answers.specs.declared.faults.Which.TheVariants.{AsksFile}

@@ -1,6 +1,7 @@
 use Rattle.std.proofs.Common.{◌-◌, ◌≤◌}
 use Rattle.csv.specs.Reading.{source_of}
-use Rattle.bsi_input.specs.Sources.{max_records, IsPlainReader}
+use Rattle.bsi_input.specs.Formats.{max_records}
+use Rattle.bsi_input.specs.Sources.{IsPlainReader}
 use Rattle.bsi_input.specs.Texts.{ForText}
 use Rattle.bsi_check.specs.Reasons.{AddsFirstReasons}
 use Rattle.bsi_check.proofs.Asking.{AreAsks}

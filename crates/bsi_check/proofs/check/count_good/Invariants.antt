@@ -1,5 +1,5 @@
 use Rattle.std.proofs.Common.{◌≡◌, ◌≤◌, ◌*◌, map, sum, take}
-use Rattle.bsi_input.specs.Sources.{max_records}
+use Rattle.bsi_input.specs.Formats.{max_records}
 use Rattle.bsi_check.specs.Reports.{good_count}
 use Rattle.bsi_check.proofs.check.count_good.Given as goal
 

@@ -1,9 +1,10 @@
 use Rattle.std.proofs.Common.{◌≡◌, ◌∙◌, Some, true, refl, rules, subst, sym}
 use Rattle.csv.specs.Reading.{ReadRecord}
 use Rattle.csv.specs.Records.{fields_of}
+use Rattle.bsi_schema.specs.Columns.{Declared}
 use Rattle.bsi_input.proofs.Taking.{stands_after}
 use Rattle.bsi_input.specs.RowFiles.{is_header}
-use Rattle.bsi_input.specs.Sources.{Layout}
+use Rattle.bsi_input.specs.Sources.{plain_layout, LayoutOf}
 use Rattle.bsi_check.specs.Checks.{layout_of, HasCounted}
 use Rattle.bsi_check.proofs.Counting.{counted_text}
 use Rattle.bsi_check.proofs.Unread.{long_file, passed_on}
@@ -20,7 +21,7 @@ returns-clause-finding g c = λ bytes known.
     let named : is_header c.args.schema.now header ≡ true = search rules in
     counted_text g.I.Read.remaining c.args.schema.now header start input c.in_ok-counts.counts (Some bytes) named known
     (stands_after g.I.Read.remaining start input header c.requires.plain.config c.requires.start layout refl next)
-    (subst (λ (l : Layout). HasCounted g.I.Read.remaining l input c.in_ok-counts.counts) c.in_ok-layout.ensures c.in_ok-counts.ensures.counted)
+    (subst (λ (l : LayoutOf Declared). HasCounted g.I.Read.remaining (plain_layout l) input c.in_ok-counts.counts) c.in_ok-layout.ensures c.in_ok-counts.ensures.counted)
 
 -- the header was read, and then too many records
 pub returns-in_err-counts-clause-too_long : goal.returns-in_err-counts-clause-too_long

@@ -1,5 +1,6 @@
 use Rattle.std.proofs.Common.{◌-◌}
-use Rattle.bsi_input.specs.Sources.{max_records}
+use Rattle.bsi_input.specs.Formats.{max_records}
+use Rattle.bsi_input.specs.Sources.{plain_layout}
 use Rattle.bsi_check.specs.Reasons.{AddsFirstReasons}
 use Rattle.bsi_check.proofs.Counting.{AreCounted}
 use Rattle.bsi_check.proofs.rows.count_records.Given as goal
@@ -7,7 +8,7 @@ use Rattle.bsi_check.proofs.rows.count_records.Given as goal
 -- the records so far were counted, and the bad ones reported
 abbrev pub invariant-records : goal.invariant-records
 invariant-records g l = record {
-  counted : AreCounted (g.I.Read.remaining) l.fn.layout l.initial.input l.input l.records l.bad;
+  counted : AreCounted (g.I.Read.remaining) (plain_layout l.fn.layout) l.initial.input l.input l.records l.bad;
   reported : AddsFirstReasons l.path l.bad l.initial.reasons.items l.reasons.items;
 }
 

@@ -1,6 +1,7 @@
 use Rattle.std.proofs.Common.{◌≡◌, [], Bool, true, Option, Some, IfSome, ap, arith, sym, subst, ◌∙◌}
 use Rattle.bsi_system.specs.Rings.{FeederState}
 use Rattle.bsi_input.specs.declared.rows.SourceFault.{SourceFault}
+use Rattle.bsi_input.specs.Sources.{plain_layout}
 use Rattle.bsi_input.proofs.Joining.{taken_both}
 use Rattle.bsi_input.proofs.Taking.{taken_none}
 use Rattle.bsi_files.specs.Feeding.{HasFailed}
@@ -10,7 +11,7 @@ use Rattle.bsi_files.proofs.feeding.feed.Goals as goal
 
 pub batches-init : goal.batches-init
 batches-init g c = record {
-  sent = sent_none g.I.Read.remaining c.args.feeder c.args.source (taken_none g.I.Read.remaining c.args.source.layout c.args.source.input c.args.source.counts);
+  sent = sent_none g.I.Read.remaining c.args.feeder c.args.source (taken_none g.I.Read.remaining (plain_layout c.args.source.layout) c.args.source.input c.args.source.counts);
   few = omega arith;
 }
 
@@ -63,6 +64,6 @@ returns-clause-fed g c =
     fed_first g.I.Read.remaining c.args.feeder c.args.source c.batches.accepted c.batches.feeder c.batches.source c.batches.invariant.sent (taken_both g.I.Read.remaining) c.finish-2.result
     (of_some c.finish-2.result.closing c.finish-2.ensures.closing (λ closing closes. closes.rows)) c.finish-2.ensures.accepted c.batches.source
     (read_on g.I.Read.remaining c.batches.source c.batches.source []
-    (passed_none g.I.Read.remaining c.batches.source (taken_none g.I.Read.remaining c.batches.source.layout c.batches.source.input c.batches.source.counts)).gone
+    (passed_none g.I.Read.remaining c.batches.source (taken_none g.I.Read.remaining (plain_layout c.batches.source.layout) c.batches.source.input c.batches.source.counts)).gone
     (taken_both g.I.Read.remaining)) c.finish-2.ensures.bad
     (λ going fine. absurd (cc (c.finish-2.ensures.stopped, going)))

@@ -8,7 +8,7 @@ use Rattle.bsi_table.specs.Index.{table_of}
 use Rattle.bsi_rows.proofs.CallerLemmas.{fitting-alike}
 use Rattle.bsi_input.proofs.Joining.{taken_both}
 use Rattle.bsi_input.proofs.Taking.{taken_none}
-use Rattle.bsi_input.specs.Sources.{GivesFirst, Source}
+use Rattle.bsi_input.specs.Sources.{plain_layout, plain_source, GivesFirst, SourceOf}
 use Rattle.bsi_files.specs.Feeding.{FailsNow, GivesNone}
 use Rattle.bsi_files.proofs.Feeds.{passed_none, read_on, HasPassed}
 use Rattle.bsi_files.proofs.Filled.{entries_append, fill_fails, fill_next, fill_over, no_entries_of, passed_fill, passed_next, passed_open, same_block, so_err}
@@ -24,7 +24,7 @@ fills-init g c =
       batch = (refl, c.requires.batch.1);
       few = omega (arith, none);
       some = omega arith;
-      passed = subst (HasPassed rem source source) (sym (ap entries_of c.requires.batch.0)) (passed_none rem source (taken_none rem source.layout source.input source.counts));
+      passed = subst (HasPassed rem source source) (sym (ap entries_of c.requires.batch.0)) (passed_none rem source (taken_none rem (plain_layout source.layout) source.input source.counts));
       start = λ is. refl;
       read_so_far = λ some. absurd (omega (arith, some, none));
     }
@@ -47,7 +47,7 @@ returns-in-Err-clause-given g c =
       read_so_far = read_on rem c.args.source.now new rows has.gone (taken_both rem);
       some = λ some. passed_next rem c.args.source.now new rows has e.few some;
       none = λ nothing.
-          subst (λ (s : Source g.row.I.Denot). FailsNow rem s c.in-Err.fault) (i.start (omega (arith, nothing, length-map c.fills.batch.rows (λ (row : SourcedRow). row.1))))
+          subst (λ (s : SourceOf g.row.I.Denot Declared). FailsNow rem s c.in-Err.fault) (i.start (omega (arith, nothing, length-map c.fills.batch.rows (λ (row : SourcedRow). row.1))))
           (fill_fails rem old new 0 c.clear.new.self full empty c.fill.result e.failed e.ended e.filled (taken_both rem) e.stopped c.in-Err.fault c.in-Err.is);
     }
 
@@ -69,7 +69,7 @@ returns-then-len-eq0-clause-given g c =
       read_so_far = read_on rem c.args.source.now new rows has.gone (taken_both rem);
       some = λ some. passed_next rem c.args.source.now new rows has e.few some;
       none = λ nothing.
-          subst (λ (s : Source g.row.I.Denot). GivesFirst rem s new None × GivesNone rem s new) (i.start (omega (arith, nothing, length-map c.fills.batch.rows (λ (row : SourcedRow). row.1))))
+          subst (λ (s : SourceOf g.row.I.Denot Declared). GivesFirst rem (plain_source s) (plain_source new) None × GivesNone rem s new) (i.start (omega (arith, nothing, length-map c.fills.batch.rows (λ (row : SourcedRow). row.1))))
           (fill_over rem old new 0 c.clear.new.self full empty c.fill.result e.failed e.ended e.filled e.later c.in_default.is (taken_both rem) e.few zero);
     }
 

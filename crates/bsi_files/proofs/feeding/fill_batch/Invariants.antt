@@ -1,6 +1,6 @@
 use Rattle.std.proofs.Common.{◌≡◌, ◌*◌, ◌<◌, ◌≤◌, length}
 use Rattle.bsi_rows.specs.RowBlocks.{entries_of, max_block_rows}
-use Rattle.bsi_input.specs.Sources.{max_records}
+use Rattle.bsi_input.specs.Formats.{max_records}
 use Rattle.bsi_files.proofs.Feeds.{HasPassed}
 use Rattle.bsi_files.proofs.feeding.fill_batch.Given as goal
 

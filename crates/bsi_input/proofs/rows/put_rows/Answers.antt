@@ -1,30 +1,31 @@
 use Rattle.std.proofs.Common.{◌≡◌, None, Some, length, sym, subst, ap, arith, ◌∙◌}
 use Rattle.csv.specs.Records.{fields_of}
-use Rattle.bsi_input.specs.RecordSources.{ReadsRecord}
-use Rattle.bsi_input.specs.RowFiles.{given, good_row}
-use Rattle.bsi_input.specs.Sources.{counts_of}
+use Rattle.bsi_input.specs.RecordSources.{ReadsRecord, Stops}
+use Rattle.bsi_input.specs.Formats.{given, good_row}
+use Rattle.bsi_input.specs.Sources.{counts_of, layout_by}
 use Rattle.bsi_input.proofs.Filling.{put_bad, put_good, put_none, puts_all, puts_before, puts_full, puts_wanting}
 use Rattle.bsi_input.proofs.rows.put_rows.Goals as goal
 
 pub records-init : goal.records-init
 records-init g c = record {
-  put = put_none g.R.Read.remaining c.args.layout.now c.args.input.now (counts_of c.args.read_so_far.now c.args.bad.now) c.args.feeder c.args.block.now c.requires.plain c.requires.counts;
+  put = put_none g.R.Read.remaining (layout_by g.F.RowFormat.format c.args.layout.now) c.args.input.now (counts_of c.args.read_so_far.now c.args.bad.now) c.args.feeder c.args.block.now c.requires.plain c.requires.counts;
   wide = c.in_ok-make_room.ensures.wide;
 }
 
 -- memory for a row is refused
 pub returns-in_err-make_room-clause-puts : goal.returns-in_err-make_room-clause-puts
 returns-in_err-make_room-clause-puts g c =
-    puts_wanting g.R.Read.remaining c.args.layout.now c.args.input.now c.args.input.now (counts_of c.args.read_so_far.now c.args.bad.now) (counts_of c.args.read_so_far.now c.args.bad.now) c.args.feeder
+    puts_wanting g.R.Read.remaining (layout_by g.F.RowFormat.format c.args.layout.now) c.args.input.now c.args.input.now (counts_of c.args.read_so_far.now c.args.bad.now) (counts_of c.args.read_so_far.now c.args.bad.now) c.args.feeder
     c.args.block.now c.args.block.now
-    (put_none g.R.Read.remaining c.args.layout.now c.args.input.now (counts_of c.args.read_so_far.now c.args.bad.now) c.args.feeder c.args.block.now c.requires.plain c.requires.counts)
+    (put_none g.R.Read.remaining (layout_by g.F.RowFormat.format c.args.layout.now) c.args.input.now (counts_of c.args.read_so_far.now c.args.bad.now) c.args.feeder c.args.block.now c.requires.plain c.requires.counts)
     c.args.input.now c.from_residual.result c.from_residual.ensures.1 c.requires.room
 
 -- the next record can't be read, or there are too many
 pub returns-in_err-read_record-clause-puts : goal.returns-in_err-read_record-clause-puts
 returns-in_err-read_record-clause-puts g c =
     puts_before _ _ _ _ _ _ _ _ _ c.records.invariant.put c.read_record.new.input c.from_residual-in_err-read_record.result c.in_err-read_record.field-0.0 c.read_record.new.read_so_far
-    c.from_residual-in_err-read_record.ensures.1 c.in_err-read_record.ensures.stopped (omega (arith, c.len.ensures.len, c.records-test.true))
+    c.from_residual-in_err-read_record.ensures.1 (subst (λ n. Stops n g.R.Read.remaining c.records.input c.records.read_so_far c.read_record.new.read_so_far c.in_err-read_record.field-0.0) c.most_records-most.ensures
+    c.in_err-read_record.ensures.stopped) (omega (arith, c.len.ensures.len, c.records-test.true))
 
 -- no record is left
 pub returns-then-not-branch-clause-puts : goal.returns-then-not-branch-clause-puts
@@ -40,7 +41,7 @@ records-preserved-then-not-good g c =
     let is_bad : given c.add-good.result c.add-good.new.entries.items ≡ None = ap (λ good. given good c.add-good.new.entries.items) c.if-not-good.true in
     record {
       put = put_bad _ _ _ _ _ _ _ _ _ c.records.invariant.put c.read_record.new.input c.read_record.new.read_so_far (fields_of c.read_record.new.fields) c.add-good.new.block takes
-          c.in_ok-read_record.ensures.plain c.read_record.ensures.few (cc (is_bad, c.add-good.ensures.row)) (c.add-good.ensures.unchanged c.if-not-good.true);
+          c.in_ok-read_record.ensures.plain (omega (arith, c.read_record.ensures.few, c.most_records-most.ensures)) (cc (is_bad, c.add-good.ensures.row)) (c.add-good.ensures.unchanged c.if-not-good.true);
       wide = c.add-good.ensures.wide;
     }
 
@@ -48,11 +49,11 @@ pub records-preserved : goal.records-preserved
 records-preserved g c =
     let takes = subst (ReadsRecord g.R.Read.remaining c.records.input c.read_record.new.input c.records.read_so_far c.read_record.new.read_so_far (fields_of c.read_record.new.fields))
     c.if-not-branch.false c.in_ok-read_record.ensures.reads in
-    let good : Some c.add-good.new.entries.items ≡ good_row c.args.layout.now.schema c.args.layout.now.header (fields_of c.read_record.new.fields) =
+    let good : Some c.add-good.new.entries.items ≡ good_row (g.F.RowFormat.format c.args.layout.now.format) c.args.layout.now.header (fields_of c.read_record.new.fields) =
     sym (ap (λ good. given good c.add-good.new.entries.items) c.if-not-good.false) ∙ c.add-good.ensures.row in
     record {
       put = put_good _ _ _ _ _ _ _ _ _ c.records.invariant.put c.read_record.new.input c.read_record.new.read_so_far (fields_of c.read_record.new.fields) c.add-good.new.entries.items c.add-good.new.block takes
-          c.in_ok-read_record.ensures.plain c.read_record.ensures.few good (c.add-good.ensures.fits c.if-not-good.false) (c.add-good.ensures.added c.if-not-good.false);
+          c.in_ok-read_record.ensures.plain (omega (arith, c.read_record.ensures.few, c.most_records-most.ensures)) good (c.add-good.ensures.fits c.if-not-good.false) (c.add-good.ensures.added c.if-not-good.false);
       wide = c.add-good.ensures.wide;
     }
 

@@ -1,7 +1,7 @@
-use Rattle.std.proofs.Common.{◌≡◌, true, false, rules, subst}
+use Rattle.std.proofs.Common.{◌≡◌, true, false, rules, subst, arith}
 use Rattle.csv.specs.Reading.{ReadRecord}
 use Rattle.csv.specs.Records.{fields_of}
-use Rattle.bsi_input.specs.RowFiles.{given, good_row}
+use Rattle.bsi_input.specs.Formats.{given, good_row}
 use Rattle.bsi_input.proofs.Taking.{has_ended, is_too_long, memory_fails, read_fails, taken_bad, taken_good, taken_none}
 use Rattle.bsi_input.proofs.rows.read_good_row.Goals as goal
 
@@ -28,15 +28,15 @@ returns-then-good-clause-given g c =
     let fields = fields_of c.read_next.new.fields in
     let reads : ReadRecord g.R.Read.remaining c.records.input input true fields = search rules in
     taken_good _ _ _ _ _ _ c.records.invariant input fields c.read.new.row reads
-    (subst (λ good. given good c.read.new.row ≡ good_row c.args.layout.now.schema c.args.layout.now.header fields) c.if-good.true c.in_ok-good.ensures.row)
+    (subst (λ good. given good c.read.new.row ≡ good_row (g.F.RowFormat.format c.args.layout.now.format) c.args.layout.now.header fields) c.if-good.true c.in_ok-good.ensures.row)
 
 pub records-preserved : goal.records-preserved
 records-preserved g c =
     let input = c.read_next.new.input in
     let fields = fields_of c.read_next.new.fields in
     let reads : ReadRecord g.R.Read.remaining c.records.input input true fields = search rules in
-    taken_bad _ _ _ _ _ _ c.records.invariant input fields reads c.in_ok-read_next.ensures.plain c.records-test.true
-    (subst (λ good. given good c.read.new.row ≡ good_row c.args.layout.now.schema c.args.layout.now.header fields) c.if-good.false c.in_ok-good.ensures.row)
+    taken_bad _ _ _ _ _ _ c.records.invariant input fields reads c.in_ok-read_next.ensures.plain (omega (arith, c.records-test.true, c.most_records-most.ensures))
+    (subst (λ good. given good c.read.new.row ≡ good_row (g.F.RowFormat.format c.args.layout.now.format) c.args.layout.now.header fields) c.if-good.false c.in_ok-good.ensures.row)
 
 pub returns-in_err-read_next-2-clause-stopped : goal.returns-in_err-read_next-2-clause-stopped
 returns-in_err-read_next-2-clause-stopped g c =
@@ -47,7 +47,7 @@ returns-then-branch-clause-stopped g c =
     let input = c.read_next-2.new.input in
     let fields = fields_of c.read_next-2.new.fields in
     let reads : ReadRecord g.R.Read.remaining c.records.input input true fields = search rules in
-    is_too_long _ _ _ _ _ _ c.records.invariant input fields reads c.records-test.false
+    is_too_long _ _ _ _ _ _ c.records.invariant input fields reads (omega (arith, c.records-test.false, c.most_records-most.ensures))
 
 pub returns-clause-given : goal.returns-clause-given
 returns-clause-given g c =

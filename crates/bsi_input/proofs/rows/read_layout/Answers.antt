@@ -9,5 +9,5 @@ returns-clause-after_header g c =
     let input = c.read_next.new.input in
     let fields = fields_of c.read_next.new.fields in
     let reads : ReadRecord g.R.Read.remaining c.args.input.now input true fields = search rules in
-    layout_behind g.R.Read.remaining c.args.input.now input fields c.requires.plain.config c.requires.start c.args.schema.now c.in_ok-new.field-0 c.ok_or.result c.in_ok-new.ensures
+    layout_behind g.R.Read.remaining c.args.input.now input fields c.requires.plain.config c.requires.start g.F.RowFormat.format c.args.format.now c.in_ok-new.field-0 c.ok_or.result c.in_ok-new.ensures
     c.ok_or.ensures.ok_part reads

@@ -5,7 +5,7 @@ use Rattle.bsi_syntax.specs.Setups.{declared_table, table_after, IsChange}
 use Rattle.bsi_input.specs.RecordSources.{ReadsNextRecord, StopsAt}
 use Rattle.bsi_input.proofs.Declaring.{declared_bad, declared_fault, declared_more, declared_none, passed_on}
 use Rattle.bsi_input.proofs.schema_text.declare_all.Goals as goal
-use Rattle.bsi_input.specs.Sources.{max_records}
+use Rattle.bsi_input.specs.Formats.{max_records}
 
 pub records-init : goal.records-init
 records-init g c = record {

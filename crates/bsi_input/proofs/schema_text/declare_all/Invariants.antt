@@ -1,6 +1,6 @@
 use Rattle.std.proofs.Common.{◌≡◌, ◌≤◌, None}
 use Rattle.csv.specs.Reading.{reader_state, source_of}
-use Rattle.bsi_input.specs.Sources.{max_records}
+use Rattle.bsi_input.specs.Formats.{max_records}
 use Rattle.bsi_input.specs.Texts.{ForText}
 use Rattle.bsi_input.proofs.Declaring.{HasDeclared}
 use Rattle.bsi_input.proofs.schema_text.declare_all.Given as goal

@@ -1,6 +1,6 @@
 use Rattle.std.proofs.Common.{◌≡◌, ◌≤◌, None}
 use Rattle.csv.specs.Reading.{reader_state, source_of}
-use Rattle.bsi_input.specs.Sources.{max_records}
+use Rattle.bsi_input.specs.Formats.{max_records}
 use Rattle.bsi_input.specs.Texts.{ForText}
 use Rattle.bsi_logical.proofs.Saying.{HasSaid}
 use Rattle.bsi_logical.proofs.logical_text.declare_all.Given as goal

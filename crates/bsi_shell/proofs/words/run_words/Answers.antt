@@ -3,7 +3,7 @@ use Rattle.bsi_answers.specs.declared.faults.FilesFault.TheVariants.{NoMemory}
 use Rattle.bsi_shell.specs.FaultLines.{fault_line, IsLineWritten}
 use Rattle.bsi_shell.specs.declared.files.RunFault.TheVariants.{Run}
 use Rattle.bsi_input.proofs.Standing.{nothing_begun}
-use Rattle.bsi_shell.proofs.Runs.{of_any}
+use Rattle.bsi_shell.proofs.Runs.{flush_same, of_any}
 use Rattle.bsi_shell.proofs.words.run_words.Goals as goal
 
 -- no memory for the words: nothing was written
@@ -11,16 +11,19 @@ pub returns-clause-begun : goal.returns-clause-begun
 returns-clause-begun g c = λ one script. of_any (g.I.Read.remaining c.args.input) (λ bytes. nothing_begun bytes (g.O.Write.contents c.args.output.now))
 
 pub returns-clause-files_reported : goal.returns-clause-files_reported
-returns-clause-files_reported g c = λ one command.
-    inr (
-      refl {a = g.O.Write.contents c.args.output.now},
-      subst (λ reported. IsLineWritten reported (g.F.Write.contents c.args.stderr.now) (g.F.Write.contents c.write_run_fault.new.stderr) (fault_line (Run NoMemory)))
-          (sym c.by-in-NoMemory.ensures.reported) c.write_run_fault.ensures,
-    )
+returns-clause-files_reported g c = λ one files.
+    let written = g.O.Write.contents c.args.output.now in
+    record {
+      fault = Run NoMemory;
+      failed = inl (refl, flush_same written written refl);
+      line = subst (λ reported. IsLineWritten reported (g.F.Write.contents c.args.stderr.now) (g.F.Write.contents c.write_run_fault.new.stderr) (fault_line (Run NoMemory)))
+          (sym c.by-in-NoMemory.ensures.reported) c.write_run_fault.ensures;
+    }
 
 pub returns-clause-reasons : goal.returns-clause-reasons
-returns-clause-reasons g c = λ one command.
+returns-clause-reasons g c = λ one check.
     inr (
+      Run NoMemory,
       refl {a = g.O.Write.contents c.args.output.now},
       subst (λ reported. IsLineWritten reported (g.F.Write.contents c.args.stderr.now) (g.F.Write.contents c.write_run_fault.new.stderr) (fault_line (Run NoMemory)))
           (sym c.by-in-NoMemory.ensures.reported) c.write_run_fault.ensures,
@@ -58,13 +61,7 @@ returns-clause-unshown g c = λ one command.
           (sym c.by-in-NoMemory.ensures.reported) c.write_run_fault.ensures,
     )
 
--- each command, by the paths that it read from the words
-pub returns-in-Files-clause-files_reported : goal.returns-in-Files-clause-files_reported
-returns-in-Files-clause-files_reported g c = λ one command. inl (c.in-Files.paths, c.answer_files.ensures.reported one)
-
-pub returns-in-Check-clause-reasons : goal.returns-in-Check-clause-reasons
-returns-in-Check-clause-reasons g c = λ one command. inl (c.in-Check.paths, c.answer_check.ensures.reasons one)
-
+-- each command, by what it took from the words
 pub returns-in-Save-clause-unsaved : goal.returns-in-Save-clause-unsaved
 returns-in-Save-clause-unsaved g c = λ one command. inl (c.in-Save.paths, c.answer_save.ensures.reported one)
 
@@ -78,9 +75,6 @@ pub returns-in-Show-clause-unshown : goal.returns-in-Show-clause-unshown
 returns-in-Show-clause-unshown g c = λ one command. inl (c.in-Show.path, c.answer_show.ensures.reported one)
 
 -- and what it did by them
-pub returns-in-Check-clause-checked : goal.returns-in-Check-clause-checked
-returns-in-Check-clause-checked g c = λ zero command. (c.in-Check.paths, c.answer_check.ensures.checked zero)
-
 pub returns-in-Save-clause-saved : goal.returns-in-Save-clause-saved
 returns-in-Save-clause-saved g c = λ zero command. (c.in-Save.paths, c.answer_save.ensures.saved zero)
 

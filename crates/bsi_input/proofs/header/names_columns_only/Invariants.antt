@@ -2,7 +2,7 @@ use Rattle.std.proofs.Common.{◌≡◌, take, true}
 use Rattle.std.specs.List.{list_all}
 use Rattle.csv.specs.Records.{fields_of}
 use Rattle.bsi_input.specs.RowFiles.{is_known}
-use Rattle.bsi_input.proofs.layout.names_columns_only.Given as goal
+use Rattle.bsi_input.proofs.header.names_columns_only.Given as goal
 
 -- each of the fields so far is the name of a column
 abbrev pub invariant-fields : goal.invariant-fields

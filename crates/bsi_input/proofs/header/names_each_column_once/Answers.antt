@@ -4,7 +4,7 @@ use Rattle.csv.specs.Records.{fields_of}
 use Rattle.bsi_schema.specs.Columns.{column_at, no_column}
 use Rattle.bsi_input.specs.RowFiles.{is_named_once}
 use Rattle.bsi_input.proofs.Layouts.{all_stop, not_one}
-use Rattle.bsi_input.proofs.layout.names_each_column_once.Goals as goal
+use Rattle.bsi_input.proofs.header.names_each_column_once.Goals as goal
 
 pub returns-then-count_fields_named-ne1 : goal.returns-then-count_fields_named-ne1
 returns-then-count_fields_named-ne1 c =

@@ -1,7 +1,7 @@
 use Rattle.std.proofs.Common.{◌≡◌, take, count_by}
 use Rattle.std.specs.Str.{bytes_eq}
 use Rattle.csv.specs.Records.{fields_of}
-use Rattle.bsi_input.proofs.layout.count_fields_named.Given as goal
+use Rattle.bsi_input.proofs.header.count_fields_named.Given as goal
 
 -- so many of the fields so far are the name
 abbrev pub invariant-fields : goal.invariant-fields

@@ -2,7 +2,7 @@ use Rattle.std.proofs.Common.{◌≡◌, ◌≤◌, length, map, take}
 use Rattle.std.specs.Vec.{vec_capacity}
 use Rattle.csv.specs.Records.{fields_of}
 use Rattle.bsi_input.specs.RowFiles.{field_index}
-use Rattle.bsi_input.proofs.layout.field_indexes.Given as goal
+use Rattle.bsi_input.proofs.header.field_indexes.Given as goal
 
 -- the places of the columns so far, and room for those of the others
 abbrev pub invariant-columns : goal.invariant-columns

@@ -1,7 +1,7 @@
 use Rattle.std.proofs.Common.{◌≡◌, ◌+◌, drop}
 use Rattle.csv.specs.Records.{fields_of}
 use Rattle.bsi_input.specs.RowFiles.{field_index}
-use Rattle.bsi_input.proofs.layout.field_index.Given as goal
+use Rattle.bsi_input.proofs.header.field_index.Given as goal
 
 -- no field so far is the name
 abbrev pub invariant-fields : goal.invariant-fields
