@@ -13,7 +13,7 @@ use Rattle.bsi_syntax.specs.Bytes.{KnownBytes}
 module _ {S : Type 0} (rem : S → KnownBytes) (schema : NamedFile S) (asks : Option (NamedFile S)) (rows : List (NamedFile S)) where
   pub over_opened : (Is : NamedFile S → List (NamedFile S) → Option (NamedFile S) → KnownBytes → KnownBytes → Type 0)
       (before middle after : KnownBytes) → Is schema rows asks before middle → Keeps middle after → IsOverOpened Is before after
-  over_opened Is before middle after is flushed = record {
+  over_opened Is before middle after is keeps = record {
     schema = schema;
     asks = asks;
     rows = rows;

@@ -25,13 +25,13 @@ left_of L (Err e) fault failed done (inr is) = cc is.0
 -- a command that met no fault, whose output was flushed
 pub flushed : {T E : Type 0} {D : KnownBytes → KnownBytes → Type 0} (run : Result T E) (before middle after : KnownBytes) → OnOk run (D before middle)
     → IsOk run → Keeps middle after → IsFlushed D before after
-flushed run before middle after done ok flushed = record { middle = middle; is = on_ok_is run done ok; flushed = keeps }
+flushed run before middle after done ok keeps = record { middle = middle; is = on_ok_is run done ok; flushed = keeps }
 
 -- and one that met a fault, or could not flush
 pub reported_end : {L : StoreFault → KnownBytes → KnownBytes → Type 0} {D : KnownBytes → KnownBytes → Type 0} (run : Result (Unit {0}) StoreFault)
     (before middle after : KnownBytes) (reported : Result (Unit {0}) WriteFault) (said now : KnownBytes) → IfErr run (λ fault. L fault before middle)
     → OnOk run (D before middle) → EndedByFault run reported said now → Keeps middle after → HasFailedStore L D before after reported said now
-reported_end {L} run before middle after reported said now failed done ended flushed = record {
+reported_end {L} run before middle after reported said now failed done ended keeps = record {
   fault = ended.fault;
   middle = middle;
   left = left_of (λ fault. L fault before middle) run ended.fault failed done ended.is;

@@ -56,10 +56,10 @@ of_each known (Err e) follows answered fault = fault
 
 -- bytes that were appended, and then keeps
 pub appends_flushed : (before middle after : KnownBytes) (bytes : List ℕ) → Appends before middle bytes → Keeps middle after → Appends before after bytes
-appends_flushed None middle after bytes appended flushed = tt
-appends_flushed (Some xs) None after bytes appended flushed = absurd appended
-appends_flushed (Some xs) (Some ys) None bytes appended flushed = absurd keeps
-appends_flushed (Some xs) (Some ys) (Some zs) bytes appended flushed = keeps ∙ appended
+appends_flushed None middle after bytes appended keeps = tt
+appends_flushed (Some xs) None after bytes appended keeps = absurd appended
+appends_flushed (Some xs) (Some ys) None bytes appended keeps = absurd keeps
+appends_flushed (Some xs) (Some ys) (Some zs) bytes appended keeps = keeps ∙ appended
 
 -- the lines of all records, and then no more
 pub answered_flushed : (before middle after : KnownBytes) → Keeps middle after → (bytes : List ℕ) → IsAnswered bytes before middle → IsAnswered bytes before after
