@@ -28,7 +28,7 @@ pub trait RowFormat {
         ensures { result.now ≡ (format self.now).schema };
 
     /// Returns whether a record is a header. It allocates no memory.
-    fn takes_header(&self, header: &ByteRecord) -> bool
+    fn accepts_header(&self, header: &ByteRecord) -> bool
         ensures { result ≡ (format self.now).is_header (fields_of header.now) };
 
     /// Returns for each column the index of its field under a header. An index past the last field stands for an empty
@@ -73,7 +73,7 @@ impl RowFormat for Schema {
         self
     }
 
-    fn takes_header(&self, header: &ByteRecord) -> bool {
+    fn accepts_header(&self, header: &ByteRecord) -> bool {
         is_good_header(self, header)
     }
 

@@ -51,7 +51,7 @@ impl<F: RowFormat + Drop> Layout<F> {
             ≡ (if (F.format format.now).is_header (fields_of header) then Some
             (record { format = format.now; header = fields_of header }) else None)) }
     {
-        if !format.takes_header(&header) {
+        if !format.accepts_header(&header) {
             return Ok(None);
         }
         Ok(Some(Layout::of_header(alloc, format, header)?))

@@ -9,7 +9,7 @@ ghost use Rattle.bsi_input.specs.Texts.{ForText};
 
 use crate::NoMemory;
 use crate::rows::SourceFault;
-use crate::texts::RecordSource;
+use crate::record_source::RecordSource;
 use bsi_syntax::{DeclaredTable, read_setup};
 use csv::ByteRecord;
 use std::alloc::Global;

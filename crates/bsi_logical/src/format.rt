@@ -69,7 +69,7 @@ impl RowFormat for LogicalFormat {
         self.logical.schema()
     }
 
-    fn takes_header(&self, header: &ByteRecord) -> bool {
+    fn accepts_header(&self, header: &ByteRecord) -> bool {
         has_each_title_once(&self.logical, header)
     }
 
