@@ -1,9 +1,9 @@
 //! The peer of columns.rattle in Rust: the same columns, comparisons and totals, written by hand.
 //!
 //! Built by `rustc -C opt-level=3 -C target-cpu=x86-64-v2`. A comparison goes over the rows in spans of words that stay in
-//! registers, reads each bitmap that it needs once, and writes its result once. A sum takes the found set in spans that stay
-//! in the first cache. A median narrows the found set and takes the next count in one pass. The scan goes over a plain list.
-//! Under bases the binary places of the digits are kept beside their bitmaps: a sum counts them, and `<=` under equality
+//! registers, reads each bitmap that it needs once, and writes its result once. A sum takes the selection in spans that stay
+//! in the first cache. A median narrows the selection and takes the next count in one pass. The scan goes over a plain list.
+//! Under bases the binary places of the digits are stored beside their bitmaps: a sum counts them, and `<=` under equality
 //! encoding reads them where they are fewer. Its median counts the bitmaps, which took less time in a cache. A build takes
 //! blocks of 64 entries, turns each into words, and pushes a word to each bitmap, which grows as a `Vec` does. Slices, and the
 //! places, which are the number's since each base is 2^5, are turned by six stages of exchanges, which took a fifth of the time

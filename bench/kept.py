@@ -1,8 +1,8 @@
 #!/usr/bin/env python3
-"""Keeps a million rows and asks them, by turns: `bsi save` and `bsi ask`, `bsi files` over the CSV file, pandas' pickle, and SQLite's file.
+"""Saves a million rows and asks them, by turns: `bsi save` and `bsi ask`, `bsi files` over the CSV file, pandas' pickle, and SQLite's file.
 The best of the rounds is printed in milliseconds, and the sizes of the files in bytes. All answers must be the same.
 
-Then the same rows are kept in slices, range and equality encoded. Of each form it prints, by turns and the best of the rounds, the
+Then the same rows are saved in slices, range and equality encoded. Of each form it prints, by turns and the best of the rounds, the
 milliseconds of processor time that one thread takes to open the bytes of the file by the C library, and that `bsi files` takes on one
 processor to read the rows from CSV; how fast bytes are saved and opened; the peak memory of `bsi ask`; and the size of the file. It needs
 out/lib/libbsi.so (make lib), or the one that BSI_LIBRARY names.

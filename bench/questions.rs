@@ -1,7 +1,7 @@
-//! The peer of questions.rattle in Rust: scans of plain lists, without a branch where they count or add, the ends of a column by
+//! The peer of questions.rattle in Rust: scans of plain lists, without a branch where they count or add, the extremes of a column by
 //! hand-written descents over spans of bitmaps, and a pass that only reads the bitmaps of three comparisons.
 //!
-//! Built by `rustc -C opt-level=3 -C target-cpu=x86-64-v2`. A descent takes the found rows of 32 words, goes down the slices or the
+//! Built by `rustc -C opt-level=3 -C target-cpu=x86-64-v2`. A descent takes the selected rows of 32 words, goes down the slices or the
 //! components from the most significant one, and leaves the span once it can't beat the best number so far.
 
 use std::hint::black_box;

@@ -1,4 +1,4 @@
-/* Opens the file of a kept index that its word names, and answers the questions of its input as `bsi ask` does. */
+/* Opens the file of a saved index that its word names, and answers the questions of its input as `bsi ask` does. */
 #include "check.h"
 
 static uint8_t notes[BSI_MAX_NOTES];

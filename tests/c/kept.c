@@ -1,4 +1,4 @@
-/* An index that is saved and opened again: the same answers, and no answer from bytes that are cut or turned. */
+/* An index that is saved and opened again: the same answers, and no answer from bytes that are cut or changed. */
 #include "check.h"
 
 enum { ROWS = 150, ROOM = 4096 };

@@ -1,4 +1,4 @@
-// Preloaded: a read of a regular file fails, or gives one byte.
+// A library to be preloaded: one read of a regular file fails, or gives one byte.
 //
 // BSI_FAIL_READ or BSI_SHORT_READ say which read this is, from 1. How many there were stands in the file BSI_READ_COUNT.
 

@@ -1,4 +1,4 @@
-"""Random tables: a schema, row files and questions, and the plain lists of the rows that each segment of their kept index has."""
+"""Random tables: a schema, row files and questions, and the plain lists of the rows that each segment of their saved index has."""
 
 import collections
 import copy

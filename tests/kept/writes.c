@@ -1,4 +1,4 @@
-// Preloaded: tells what is locked, written, stored, cut and moved, in its order, and lets one file not be stored or cut.
+// A library to be preloaded: it logs what is locked, written, stored, cut and moved, in order, and has one sync or cut fail.
 //
 // The file BSI_LOG gets a line for each: the word, how many bytes or which lock, and the path, of a move both.
 // BSI_FAIL_SYNC and BSI_FAIL_CUT say which sync and which cut fails, from 1.

@@ -1,4 +1,4 @@
-//! Shows on a terminal how far a run over files is.
+//! Shows on a terminal how far a run over files is (`Progress`), as the gate that its feeders call.
 
 use arrayvec::ArrayString;
 use bsi_shell::{Gate, Stopping};

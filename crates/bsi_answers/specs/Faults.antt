@@ -1,4 +1,4 @@
--- The faults of a run: at which step each can be raised.
+-- The faults of a run: at which step each can be raised, and which one a fault of a text or of the schema file becomes.
 use Rattle.std.specs.Prelude.{Bool, true, false}
 use Rattle.bsi_answers.specs.declared.faults.FilesFault.{FilesFault}
 use Rattle.bsi_answers.specs.declared.faults.FilesFault.TheVariants.{BadSchema, IndexFull, NoColumns, Read, Source, TooLong, NoMemory, Write}

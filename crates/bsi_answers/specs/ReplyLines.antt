@@ -1,4 +1,4 @@
--- The text of each kind of reply as a line (`question_reply_line`): totals, groups, first rows, quantiles.
+-- The text of each kind of reply as a line (`question_reply_line`): totals, groups, first rows, numbers.
 use Rattle.std.specs.Prelude.{◌<◌, ℕ, ℤ, All, List, [], ◌∷◌, ◌++◌, Option, Some, None, Result, Ok, Err, codes, decimal, slice_index}
 use Rattle.std.specs.Fmt.{signed_decimal}
 use Rattle.std.specs.List.{flat_map}

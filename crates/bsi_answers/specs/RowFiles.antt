@@ -1,4 +1,5 @@
--- Which rows and how many bad records the bytes of a row file have (`IsRowFile`); the counts of its feeder.
+-- Which rows and how many bad records the bytes of a row file have (`IsRowFile`), and how a run counts them
+-- (`FedCounts`).
 use Rattle.std.specs.Prelude.{◌≡◌, ◌≤◌, ℕ, true, List, [], ◌∷◌, length, slice_index_or}
 use Rattle.bsi_syntax.specs.Bytes.{Bytes}
 use Rattle.bsi_syntax.specs.Numbers.{Field}

@@ -1,4 +1,5 @@
-//! Writes the line that answers each record of a text. Each batch of questions is answered by several threads.
+//! Answers each record of a text by a line (`answer_asks`), behind the lines of the row files (`answer_all`). Threads
+//! answer the questions of a batch if these pass over many rows.
 
 ghost use Rattle.std.specs.Prelude.{◌≡◌, ◌≤◌, ◌∷◌, ◌⊎◌, [], None, IfErr, IfSome, OnOk, length, map, true};
 ghost use Rattle.std.specs.Io.KnownBytes.{Appends};

@@ -1,4 +1,4 @@
-//! How many rows and bad records a row file had, and why it was not read to its end.
+//! What a run reports of a row file (`Fed`): how many rows and bad records it had, and why it was not read to its end.
 
 ghost use Rattle.std.specs.Prelude.{◌≡◌, ◌<◌};
 ghost use Rattle.bsi_rows.specs.Table.{max_feeders};

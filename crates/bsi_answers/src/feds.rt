@@ -1,4 +1,4 @@
-//! Writes the line of each row file: how many rows it gave.
+//! Writes the line `fed` of each row file: how many rows it gave, and how many of its records are bad.
 
 ghost use Rattle.std.specs.Prelude.{◌≡◌, ◌≢◌, ◌≤◌, IfErr, OnOk, length, map, true};
 ghost use Rattle.std.specs.Io.KnownBytes.{Appends};

@@ -1,5 +1,5 @@
-//! The exports of the C library alone: each call takes a handle, and returns 0 or the number of a refusal, which
-//! `include/bsi.h` lists.
+//! The exports of the C library alone: each call but `bsi_version` takes a handle, and returns 0 or the number of a
+//! refusal, which `include/bsi.h` lists.
 #![tactic(auto)]
 
 ghost use Rattle.std.specs.Prelude.{◌≡◌, ◌≢◌, Err, None, drop, length, map};

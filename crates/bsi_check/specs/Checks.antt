@@ -1,4 +1,4 @@
--- What a check finds in the row files and the asks of a run.
+-- What a check finds in the row files (`IsFileFinding`) and in the asks (`IsAsksFinding`) of a run.
 use Rattle.std.specs.Prelude.{◌≡◌, ⊤, ◌⊎◌, ℕ, ◌+◌, ◌≤◌, Bool, true, false, nat_eq, List, [], ◌∷◌, length}
 use Rattle.csv.specs.Reading.{strip_bom}
 use Rattle.csv.specs.declared.parser.State.{State}

@@ -1,4 +1,4 @@
--- What a check of all files of a run writes.
+-- What a check of all files of a run writes: its reasons, and then the line `fed` of each row file.
 use Rattle.std.specs.Io.KnownBytes.{Appends}
 use Rattle.std.specs.Prelude.{◌≡◌, ◌⊎◌, ℕ, suc, ◌-◌, ◌<◌, Bool, ◌&&◌, nat_eq, nat_le, List, [], ◌∷◌, ◌++◌, length, map, sum, Option, None, Some, IfSome, codes}
 use Rattle.std.specs.List.{list_all}

@@ -1,4 +1,5 @@
-//! Checks a file of queries (`check_asks`): counts the records that are none, and adds the reasons of the first 100.
+//! Checks a file of queries (`check_asks`): counts the records that are no queries, and adds the reasons of the first
+//! 100.
 
 ghost use Rattle.std.specs.Prelude.{◌≡◌, ◌≢◌, IfErr, IfOk, IfSome, OnOk};
 ghost use Rattle.csv.specs.Reading.{reader_state, source_of};

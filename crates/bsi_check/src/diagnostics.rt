@@ -1,4 +1,4 @@
-//! Why a record is no declaration, no header, no row or no ask: texts for people, of which no clause says more.
+//! Says why a record is no declaration, header, row or ask, in texts for people; nothing is proved of what they say.
 
 mod asks;
 mod closest;

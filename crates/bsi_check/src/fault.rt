@@ -1,4 +1,4 @@
-//! Why a check ends early.
+//! Why a check ends early (`CheckFault`): memory was refused, or the writer failed.
 ghost use Rattle.std.specs.Prelude.{◌≡◌};
 
 use crate::NoMemory;

@@ -1,4 +1,4 @@
-//! Tests rows that C passes as arrays, one a column (`ColumnInput`), and appends them to an index, block by block.
+//! Checks rows that C passes as arrays, one a column (`ColumnInput`), and appends them to an index, block by block.
 
 ghost use Rattle.std.specs.Prelude.{◌≡◌, ◌+◌, ◌%◌, ◌<◌, ◌≤◌, length, replicate, true, IfErr, OnErr, OnOk};
 ghost use Rattle.bsi_ffi.specs.Calls.{with_first, AreAppendable, AppendsColumns, IsRowsRefusal};

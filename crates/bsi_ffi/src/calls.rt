@@ -1,4 +1,4 @@
-//! The calls of the C library, each on an open handle.
+//! The calls of the C library: each opens a closed handle, or appends to, asks, saves, shares or closes an open one.
 
 ghost use Rattle.std.specs.Prelude.{◌≡◌, ◌≢◌, None, drop, is_some, length, map, IfErr, OnErr, OnOk};
 ghost use Rattle.bsi_ffi.specs.Calls.{IsAppending, IsAsking, IsClosing, IsCounting, IsDescribing, IsOpening, IsReopening, IsReserving, IsSaving, IsSelecting, IsSharing, LeavesRest, LeavesWords};

@@ -1,4 +1,4 @@
-//! The columns in which C passes rows (`ColumnInput`), numbers and a validity bitmap; functions test and read them.
+//! The columns in which C passes rows (`ColumnInput`), numbers and a validity bitmap; functions check and read them.
 
 ghost use Rattle.std.specs.Prelude.{◌≡◌, ℕ, ◌+◌, ◌*◌, ◌/◌, ◌%◌, ◌<◌, ◌≤◌, length, slice_index, true};
 ghost use Rattle.std.specs.Int.{bit_at};

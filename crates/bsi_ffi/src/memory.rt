@@ -1,4 +1,4 @@
-//! How many bytes the rows of an index take.
+//! How many bytes the rows of an index take (`index_bytes`), by its schema, its feeders and how many rows there are.
 
 ghost use Rattle.std.specs.Prelude.{◌≡◌, ◌≤◌, ◌*◌, length, sum_by};
 ghost use Rattle.bsi_digits.specs.Digits.{IsBase};

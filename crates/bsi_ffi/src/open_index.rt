@@ -1,4 +1,4 @@
-//! An index that was opened, and the text of its schema.
+//! The index behind a handle, and the text that declared its columns and its limit (`OpenIndex`).
 
 ghost use Rattle.std.specs.Prelude.{◌≡◌, IfErr, OnErr, drop, OnOk};
 ghost use Rattle.bsi_input.specs.SchemaTexts.{IsSchemaText};

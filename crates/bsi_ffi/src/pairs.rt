@@ -1,4 +1,5 @@
-//! Answers a query over groups by two columns, and writes each group as a C struct (`FlatPair`).
+//! Answers a query over groups by two columns, and writes each group as a C struct (`FlatPair`) of two entries
+//! (`FlatEntry`).
 
 ghost use Rattle.std.specs.Prelude.{◌≡◌, ◌≤◌, drop, length, map, take, OnErr, OnOk};
 ghost use Rattle.std.specs.List.{AllZip};

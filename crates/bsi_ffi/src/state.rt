@@ -1,4 +1,5 @@
-//! What an open handle points to: an index of its own, or one that several handles share and that accepts no rows.
+//! What an open handle points to (`HandleState`): an index of its own, or one that several handles share and that
+//! accepts no rows.
 
 ghost use Rattle.std.specs.Prelude.{◌≡◌, ◌≢◌, Some, option_map, IfErr, IfOk};
 ghost use Rattle.bsi_ffi.specs.Calls.{HoldsShared, IsAppending, IsReserving, IsShareRefusal};

@@ -1,4 +1,4 @@
-//! Which row of columns is the first that does not fit a schema, and which column does not accept it.
+//! Finds the first row of columns that does not fit a schema, and the column that does not accept it (`first_misfit`).
 
 ghost use Rattle.std.specs.Prelude.{◌≡◌, ◌<◌, ◌≤◌, ℕ, false, length, true};
 ghost use Rattle.std.specs.List.{list_all};

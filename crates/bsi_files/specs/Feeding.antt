@@ -1,4 +1,4 @@
--- What a feeder that reads a row file sends.
+-- What a feeder that reads a row file sends, and how it ends (`HasFed`), by what its source had left.
 use Rattle.std.specs.Prelude.{◌≡◌, ◌<◌, ◌≤◌, ℕ, ◌+◌, false, List, ◌++◌, Option, None, Ok, Err, IfSome, length, MatchOption}
 use Rattle.csv.specs.declared.reader.Reader.{Reader}
 use mathlib.Core.List.{IsPrefix}

@@ -1,4 +1,5 @@
--- The progress of each feeder, as closings are settled and rows are popped.
+-- The progress of each feeder, as closings are settled and rows are popped; and what is reported of its end
+-- (`IsFedOf`).
 use Rattle.std.specs.Prelude.{◌≡◌, ⊤, All, ℕ, suc, ◌+◌, ◌<◌, true, List, [], ◌∷◌, None, Some, ◌≢◌, Bool, false, IfSome, is_some, length}
 use Rattle.std.specs.List.{list_all}
 use Rattle.bsi_rows.specs.Rows.{Entries}

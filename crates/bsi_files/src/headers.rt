@@ -1,4 +1,4 @@
-//! The headers of the row files, which are read before any row is.
+//! Reads the headers of the row files before any row is read, and gives the capacity of each file's ring.
 
 ghost use Rattle.std.specs.Prelude.{◌≡◌, ◌≤◌, IfErr, IfOk, length, map, replicate, true};
 ghost use Rattle.bsi_files.specs.Feeding.{max_batch_rows};

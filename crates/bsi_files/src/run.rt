@@ -1,4 +1,4 @@
-//! A run over row files, from their headers to the answers.
+//! A run over row files, from their headers to the answers (`run_files`), or to one index of all rows (`load_files`).
 //!
 //! Its lines are stated over the rows of the files, one file after the other. The loader mixes them as the threads
 //! run; by `laws::any_mix` a line is the same for each mix. Only closings tie rows to files, so a full index is

@@ -1,4 +1,5 @@
-//! Readers and writers that fail, for the tests of what reads and writes.
+//! Readers that give a text byte by byte and then end or fail (`TextReader`), and writers that accept some bytes
+//! (`NarrowWriter`).
 
 use std::io;
 use std::io::{Read, Write};

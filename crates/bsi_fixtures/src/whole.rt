@@ -1,4 +1,4 @@
-//! A component that works on whole vectors alone. It counts the calls that write one, and the sums.
+//! A component without calls on spans (`WholeVectors`). It counts the calls that write a whole vector, and the sums.
 
 ghost use Rattle.std.specs.Prelude.{false};
 

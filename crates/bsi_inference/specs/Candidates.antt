@@ -1,4 +1,5 @@
--- The candidates of a column, one for each form: which fields they accept, and what a field or another list changes.
+-- The candidates of a column, one for each form: which fields they accept, and how a field or another part changes
+-- them.
 use Rattle.std.specs.Prelude.{◌≡◌, ◌⊎◌, ℕ, ◌<◌, ◌==◌, Bool, true, false, ◌&&◌, if◌then◌else◌, List, [], ◌∷◌, length, slice_index_or, Option, Some, None, is_some, option_map, ℤ}
 use Rattle.std.specs.List.{All}
 use Rattle.std.specs.Option.{option_or}

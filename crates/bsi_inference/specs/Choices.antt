@@ -1,4 +1,4 @@
--- Which of the candidates of a column is chosen.
+-- Which of the candidates of a column is chosen (`choice_of`), and which fields the choice can read (`IsChosenFor`).
 use Rattle.std.specs.Prelude.{◌≡◌, ◌≤◌, ℕ, ◌&&◌, Bool, true, false, nat_le, if◌then◌else◌, List, Some, option_map, unwrap_or, ℤ}
 use Rattle.std.specs.List.{list_any}
 use Rattle.bsi_kinds.specs.Dates.{date_number}

@@ -1,4 +1,4 @@
--- What is decided of the fields of a column.
+-- What is decided of the fields of a column (`Decides`), and that it is true of each field (`IsDecidedFor`).
 use Rattle.std.specs.Prelude.{◌≡◌, ◌⊎◌, ◌+ℤ◌, ℕ, List, [], length, map, pos}
 use Rattle.std.specs.List.{Contains}
 use Rattle.bsi_kinds.specs.Decimals.{Field}

@@ -1,4 +1,5 @@
-//! One form that the fields of a column may have (`Candidate`), and the numbers that were seen by it.
+//! A form in which the fields of a column may be written (`Candidate`), and the numbers that they have by it, unless a
+//! field ruled it out; and lists of such candidates.
 
 ghost use Rattle.std.specs.Prelude.{◌≡◌, map};
 ghost use Rattle.std.specs.List.{list_any};

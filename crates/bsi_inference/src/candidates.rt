@@ -1,4 +1,5 @@
-//! The kinds that a column may still have after the fields that were seen.
+//! The kinds that a column may still have (`Candidates`), once fields were observed one by one or another part was
+//! joined.
 
 ghost use Rattle.std.specs.Prelude.{◌≡◌, ◌⊎◌, true, false, map, IsTrue, IfOk, OnOk};
 ghost use Rattle.bsi_kinds.specs.Decimals.{Field};

@@ -1,4 +1,5 @@
-//! Chooses what the fields of a column are read as (`choose`): the first candidate that is not ruled out.
+//! Chooses what the fields of a column are read as (`choose`): the first candidate that is not ruled out, unless dates
+//! may have day or month first.
 
 ghost use Rattle.std.specs.Prelude.{◌≡◌, ℕ};
 ghost use Rattle.bsi_kinds.specs.Decimals.{Field};

@@ -1,4 +1,5 @@
-//! The decimals that the fields of a column may be.
+//! The decimals that the fields of a column may be (`Decimals`): the most places of a field, and their numbers at so
+//! many places.
 
 ghost use Rattle.std.specs.Prelude.{◌≡◌, ℕ, ◌≤◌, true, false, Some, is_some, IsTrue};
 ghost use Rattle.bsi_kinds.specs.Decimals.{decimal_entry, Field};

@@ -1,4 +1,5 @@
-//! What was decided of a column: its kind, or why it has none yet.
+//! What was decided of a column (`Decision`): its kind, limits and null words (`Column`), or why it has no kind yet
+//! (`Doubt`).
 
 use crate::span::Span;
 use bsi_kinds::Kind;

@@ -1,4 +1,5 @@
-//! The forms in which dates, times and booleans may be written.
+//! The forms in which dates, times and booleans may be written (`Form`): the number that a field spells in one, and its
+//! kind.
 
 ghost use Rattle.std.specs.Prelude.{◌≡◌, ℕ, ℤ, IfSome, IfNone, IfOk};
 ghost use Rattle.bsi_kinds.specs.Decimals.{Field};

@@ -1,4 +1,5 @@
-//! Null words: fields that stand for no value, as the empty field does.
+//! Null words, fields that stand for no value as the empty field does: the usual ones, and whether a field is in a list
+//! of them.
 
 ghost use Rattle.std.specs.Prelude.{◌≡◌, map, IfOk};
 ghost use Rattle.std.specs.List.{list_any};

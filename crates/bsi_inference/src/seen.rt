@@ -1,4 +1,5 @@
-//! What a candidate has seen of a column: whether each field fits it, and the least and the greatest number.
+//! What a candidate has seen of a column (`Seen`): no field, fields with numbers from a least to a greatest, or one
+//! that does not fit.
 
 ghost use Rattle.std.specs.Prelude.{◌≡◌, ◌^◌, ◌≤◌, ℤ, pos, ◌*ℤ◌, IfSome, IfNone};
 ghost use Rattle.bsi_inference.specs.Seen.{Covers, IsInSpan, IsScaled, IsSeenWith, IsSeenWithAll, IsSeenWithEnds};

@@ -1,4 +1,5 @@
-//! A span of numbers, from a least to a greatest one, that 63 bit slices tell apart (`Span`).
+//! A span of numbers, from a least to a greatest one, for which a column of at most 63 bit slices is wide enough
+//! (`Span`).
 
 ghost use Rattle.std.specs.Prelude.{◌≡◌, ◌^◌, ◌≤◌, pos, ◌-ℤ◌, ◌*ℤ◌, ◌<ℤ◌, ◌≤ℤ◌, IfSome, IfNone, FitsSigned};
 ghost use Rattle.std.specs.Int.{int_max, int_min, w64};

@@ -1,4 +1,5 @@
--- What the fields of a row file and the constants of a question mean in a column of a kind.
+-- What the fields of a row file and the constants of a question mean in a column of a kind; whether the values of two
+-- kinds are the same, and whether numbers may be summed.
 use Rattle.std.specs.Prelude.{◌≡◌, ℕ, Bool, true, false, not, ◌&&◌, ◌||◌, ◌==◌, List, length, Option, Some, None, ℤ}
 use Rattle.bsi_kinds.specs.Decimals.{Field}
 use Rattle.bsi_kinds.specs.Kinds.{value_of, IsSpelled, Value}

@@ -1,4 +1,4 @@
--- What a contract sees of a logical schema.
+-- What a contract sees of a logical schema (`Logical`), and which are valid (`IsLogical`).
 use Rattle.std.specs.Prelude.{◌≡◌, ℕ, ◌<◌, ◌≤◌, List, [], length, position, map, slice_index_or, All, Option, IsTrue}
 use Rattle.std.specs.Option.{option_or}
 use Rattle.std.specs.Str.{bytes_eq}

@@ -1,4 +1,4 @@
--- Row files of kinds: their headers, and the format of a logical schema.
+-- Row files by a logical schema: which headers they may have, and what their fields spell (`logical_format`).
 use Rattle.std.specs.Prelude.{ℕ, ◌+◌, ◌^◌, Bool, nat_eq, if◌then◌else◌, List, [], ◌∷◌, map, count_by, Option, Some, None, option_map, option_and_then, ℤ}
 use Rattle.std.specs.List.{list_all}
 use Rattle.std.specs.Str.{bytes_eq}

@@ -1,4 +1,4 @@
--- The text of a logical schema: what its records say, one after another.
+-- The text of a logical schema: what its records say, one after another, or why they say none (`IsLogicalFault`).
 use Rattle.std.specs.Prelude.{◌≡◌, ℕ, ◌+◌, ◌<◌, ◌≤◌, List, [], ◌∷◌, ◌++◌, length, Result, Ok, Err, IsOk}
 use Rattle.csv.specs.declared.parser.State.{State}
 use Rattle.bsi_kinds.specs.Decimals.{Field}

@@ -1,4 +1,5 @@
--- What the words of questions mean in a logical schema.
+-- What the words of questions mean in a logical schema (`logical_vocabulary`): columns by titles and names, and
+-- constants.
 use Rattle.std.specs.Prelude.{ℕ, ℤ, nat_lt, if◌then◌else◌, length, Option, None, option_map}
 use Rattle.bsi_digits.specs.declared.op.Op.{Op}
 use Rattle.bsi_schema.specs.Names.{is_word}

@@ -1,4 +1,4 @@
-//! Writes a logical schema as its text.
+//! Writes the text of a logical schema (`describe_logical`), which is read as the same schema.
 
 ghost use Rattle.std.specs.Prelude.{◌<◌, IfOk, length};
 ghost use Rattle.bsi_logical.specs.LogicalTexts.{IsLogicalText};

@@ -1,4 +1,5 @@
-//! How row files of kinds are read: the field of a column is that under its title, and spells a value of its kind.
+//! Reads row files by a logical schema (`LogicalFormat`): a column's field is that under its title, and spells a value
+//! of its kind.
 
 ghost use Rattle.std.specs.Prelude.{◌≡◌, ◌<◌, ◌≤◌, length, map, true, vec_capacity, IfOk, IsTrue};
 ghost use Rattle.csv.specs.Records.{fields_of};

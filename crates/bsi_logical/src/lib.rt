@@ -1,4 +1,5 @@
-//! Schemas of kinds: whole numbers as an index has them, what they stand for, and how row files write it.
+//! Logical schemas: columns of whole numbers as an index has them, the kind of value that these stand for, and how row
+//! files write it.
 #![tactic(auto)]
 
 mod describing;

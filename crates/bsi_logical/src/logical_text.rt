@@ -1,4 +1,4 @@
-//! Reads the text of a logical schema: the columns with their kinds, and how row files are written.
+//! Reads a logical schema from its text (`read_logical`), or says why the text is none (`LogicalFault`).
 
 ghost use Rattle.std.specs.Prelude.{◌≡◌, ◌<◌, ℕ, List, None, Some, IfErr, IfOk, IfSome, OnOk, length};
 ghost use Rattle.csv.specs.Reading.{reader_state, source_of};

@@ -1,4 +1,5 @@
-//! Why a record declares nothing of a logical schema.
+//! Why a record declares nothing of a logical schema (`Refusal`), also in words; or that memory was refused
+//! (`DeclareError`).
 
 ghost use Rattle.std.specs.Prelude.{◌≡◌};
 

@@ -1,4 +1,4 @@
-//! Encodes bitmaps of one length as words, one after another, and decodes them.
+//! Decodes bitmaps of one length from their words, one bitmap after another (`decode_bitmaps`).
 
 ghost use Rattle.std.specs.Prelude.{◌≡◌, Bool, List, ◌*◌, ◌≤◌, ◌<◌, length, IfNone, IfOk, IfSome};
 ghost use Rattle.std.specs.List.{flat_map};

@@ -1,4 +1,4 @@
-//! Packs bytes into words, eight to a word and 0 past the last, and unpacks them; `words` does the reverse.
+//! Packs bytes into words, eight to a word and 0 past the last, and unpacks them. (`words` turns words into bytes.)
 
 ghost use Rattle.std.specs.Prelude.{◌≡◌, ℕ, List, ◌+◌, ◌≤◌, ◌++◌, ◌==◌, length, vec_capacity, IfNone, IfOk, IfSome, OnErr, OnOk};
 ghost use Rattle.std.specs.Int.{div_ceil};

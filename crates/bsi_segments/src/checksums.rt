@@ -1,4 +1,4 @@
-//! The checksum of words: a step of 64 bits for each.
+//! Computes the checksum of words (`checksum`), a number of 64 bits, by one step for each word.
 
 ghost use Rattle.std.specs.Prelude.{◌≡◌};
 ghost use Rattle.bsi_segments.specs.Segments.{checksum_of, checksum_step};

@@ -1,4 +1,4 @@
-//! Encodes the columns of a schema as words, and decodes them.
+//! Encodes the name, the form and the offset of a schema's column as words, and decodes them.
 
 ghost use Rattle.std.specs.Prelude.{◌≡◌, ℕ, List, ◌∷◌, ◌++◌, ◌<◌, length, reverse, IfNone, IfOk, IfSome, OnOk};
 ghost use Rattle.bsi_digits.specs.Digits.{IsBaseList};

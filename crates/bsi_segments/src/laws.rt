@@ -1,4 +1,5 @@
-//! What follows for the bytes of a segment, its checksum and its schema, as contracts of functions that do nothing.
+//! Laws of saved words: a segment and a schema are read as they were written, and a changed word changes the checksum.
+//! Each is the contract of a function that does nothing.
 
 ghost use Rattle.std.specs.Prelude.{◌≡◌, ◌⊎◌, ℕ, ◌∷◌, ◌++◌, [], List, Option, Some};
 ghost use Rattle.std.specs.Io.KnownBytes.{Consumes};

@@ -1,4 +1,4 @@
-//! Reads a segment from a reader.
+//! Reads a segment from a reader (`read_segment`), or tests whether what it gives may begin one (`may_begin`).
 
 ghost use Rattle.std.specs.Prelude.{◌≡◌, ◌≢◌, ◌+◌, ◌*◌, ◌^◌, ◌<◌, ◌≤◌, ◌∷◌, [], true, false, length, take, IfErr, IfNone, IfOk, IfSome, OnOk};
 ghost use Rattle.std.specs.Io.KnownBytes.{Consumes, IsAtEnd};

@@ -1,4 +1,4 @@
-//! Carries out `bsi check`: it opens all files in the order of the words, and then checks them.
+//! Carries out `bsi check`: it opens the schema, the asks and the row files, in this order, and then checks them.
 ghost use Rattle.std.specs.Prelude.{IfErr, IfOk};
 ghost use Rattle.bsi_shell.specs.Checks.{HasReportedOver, LeavesCheck};
 ghost use Rattle.bsi_shell.specs.FileRuns.{IsOpenFault};

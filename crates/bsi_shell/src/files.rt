@@ -1,4 +1,5 @@
-//! Carries out `bsi files`: it opens all files in the order of the words, and then runs over them.
+//! Carries out `bsi files`: it opens the schema, the asks and the row files, in this order, and then runs over them; or
+//! says why it ended early (`RunFault`).
 ghost use Rattle.std.specs.Prelude.{◌≡◌, ◌<◌, IfErr, IfOk, OnOk, false, length};
 ghost use Rattle.bsi_shell.specs.FileRuns.{HasEndedEarly, HasFailedRunOver, HasRunOver, IsOpenFault};
 

@@ -1,4 +1,5 @@
--- The history of an index: the lists of rows that were stamped for publishing, each whole.
+-- The history of an index: the lists of rows that were stamped for publishing, each whole; a proof's token for one
+-- list, and a table with the token of its rows (`Version`).
 use Rattle.std.specs.Prelude.{◌≡◌, ℕ, true, List, [], ◌∷◌, length}
 use mathlib.Core.List.{IsPrefix}
 use Rattle.logbook.specs.Pages.{Book, Cell, Named, Step, View}

@@ -1,4 +1,5 @@
--- The published versions of an index, and the rows that are staged for the next one.
+-- The published versions of an index, the rows that are staged for the next one, and what contracts see of their
+-- publisher (`PublisherState`).
 use Rattle.std.specs.Prelude.{◌≡◌, ℕ, ◌+◌, List, [], ◌∷◌, ◌++◌, drop, fold, length}
 use mathlib.Core.List.{IsPrefix}
 use Rattle.left_right.specs.declared.Absorb.{Ghosts}

@@ -1,4 +1,4 @@
-//! An analyst: it asks the published index, and its answers never go back.
+//! An analyst (`Analyst`): it asks the published index, and no answer of it is over fewer rows than an earlier one.
 
 ghost use Rattle.std.specs.Prelude.{◌≡◌, ◌≢◌, ◌⊎◌, ◌↔◌, Err, IfErr, IfSome, IsTrue, OnErr, OnOk};
 ghost use mathlib.Core.List.{IsPrefix};

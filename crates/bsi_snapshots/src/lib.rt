@@ -1,5 +1,5 @@
-//! An index that grows by publishing: a publisher whose staged rows become visible at one step, and analysts who never
-//! go back.
+//! An index that grows by publishing: a publisher whose staged rows become visible at one step, and analysts whose
+//! answers never go back to fewer rows.
 #![tactic(auto)]
 
 mod analyst;

@@ -1,4 +1,5 @@
-//! A pending operation of the publisher (`Operation`), rows or a stamp in the history, and how a version takes it.
+//! A pending operation of the publisher (`Operation`), rows or a stamp in the history, and how it changes a copy of the
+//! index.
 
 use crate::NoMemory;
 use crate::history::VersionToken;

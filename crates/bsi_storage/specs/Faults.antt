@@ -1,4 +1,4 @@
--- Why an index file is not opened, or not to its end.
+-- Why an index file is not opened, or not to its end; and what is opened of it before that (`IsOpened`).
 use Rattle.std.specs.Prelude.{◌≡◌, ◌⊎◌, ℕ, ◌+◌, ◌≤◌, List, [], Option, Some, None, length}
 use Rattle.std.specs.Io.KnownBytes.{Consumes}
 use Rattle.bsi_rows.specs.Table.{Table}

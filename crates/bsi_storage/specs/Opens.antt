@@ -1,4 +1,4 @@
--- What is opened of an index file, whole or cut.
+-- What opening an index file gives if the file is whole, or cut short within a segment: which rows, and which fault.
 use Rattle.std.specs.Prelude.{◌≡◌, ◌⊎◌, ℕ, ◌<◌, List, [], ◌∷◌, ◌++◌, Option, Some, None, length}
 use Rattle.bsi_rows.specs.Rows.{SourcedRow}
 use Rattle.bsi_rows.specs.Table.{with_rows, Table}

@@ -1,4 +1,4 @@
-//! Encodes an index as the words of a segment's body.
+//! Encodes an index and its notes as the words of a segment's body.
 
 ghost use Rattle.std.specs.Prelude.{◌≡◌, ◌<◌, ◌≤◌, ◌++◌, IfOk, OnOk, length};
 ghost use Rattle.bsi_table.specs.Index.{table_of};

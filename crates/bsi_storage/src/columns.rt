@@ -1,4 +1,4 @@
-//! Encodes a column as the words of its bitmaps, which it lends one after another.
+//! Encodes a column as the words of its bitmaps: the not-null bitmap, and then each binary place.
 
 ghost use Rattle.std.specs.Prelude.{◌≡◌, ◌++◌, OnOk};
 ghost use Rattle.std.specs.List.{flat_map};

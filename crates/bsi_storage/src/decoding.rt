@@ -1,4 +1,4 @@
-//! Decodes an index from the words of a segment's body.
+//! Decodes an index and its notes from the words of a segment's body.
 
 ghost use Rattle.std.specs.Prelude.{◌≡◌, ◌<◌, ◌≤◌, ◌++◌, ℕ, List, None, All, IfNone, IfOk, IfSome, IsTrue, length};
 ghost use Rattle.std.specs.List.{flat_map};

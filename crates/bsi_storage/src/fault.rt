@@ -1,4 +1,4 @@
-//! Why an index is not written, or not opened.
+//! Why an index is not written (`SaveFault`), or why a file is not opened, or not to its end (`OpenFault`).
 
 ghost use Rattle.std.specs.Prelude.{◌≡◌};
 

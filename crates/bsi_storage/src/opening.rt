@@ -1,4 +1,4 @@
-//! Reads an index from a reader, segment by segment.
+//! Reads an index from a reader, segment by segment (`read_index`), and says which index accepts another one's rows.
 
 ghost use Rattle.std.specs.Prelude.{◌≡◌, [], ℕ, List, Option, false, true, IfErr, IfNone, IfOk, IfSome, OnErr, length};
 ghost use Rattle.std.specs.Io.KnownBytes.{Consumes};

@@ -1,4 +1,4 @@
-//! Writes an index to a writer, as one segment.
+//! Writes an index and its notes to a writer, as one segment (`write_index`).
 
 ghost use Rattle.std.specs.Prelude.{◌≡◌, ◌≤◌, IfErr, OnErr, OnOk, length};
 ghost use Rattle.std.specs.Io.KnownBytes.{Appends};

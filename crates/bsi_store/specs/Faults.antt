@@ -1,4 +1,4 @@
--- Why a command over a saved index ends early, and its lines.
+-- Why a command over a saved index ends early, and the line of each such fault (`store_fault_line`).
 use Rattle.std.specs.Prelude.{◌≡◌, ◌⊎◌, ℕ, List, ◌++◌, Some, codes, decimal, length}
 use Rattle.std.specs.Borrow.{Bor}
 use Rattle.bsi_answers.specs.FaultTexts.{fault_text}

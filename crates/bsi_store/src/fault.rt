@@ -1,4 +1,4 @@
-//! Why a command over a saved index ends early.
+//! Why a command over a saved index ends early (`StoreFault`), and the text of what is wrong with a file (`FileFault`).
 
 ghost use Rattle.std.specs.Prelude.{◌≡◌, ◌+◌, ◌≤◌, ◌++◌, [], decimal, length};
 ghost use Rattle.bsi_store.specs.Faults.{cut_off, file_fault_text, unopened, unsaved};

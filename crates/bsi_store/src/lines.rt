@@ -1,4 +1,5 @@
-//! Appends lines of numbers for `bsi show`: a word and a number, or the bytes of a column.
+//! Appends lines of numbers to what `bsi show`, `bsi save` and `bsi add` write: a word and a number, or the bytes of a
+//! column.
 
 ghost use Rattle.std.specs.Prelude.{◌≡◌, ◌≤◌, ◌++◌, length, OnErr, OnOk};
 ghost use Rattle.bsi_store.specs.Lines.{bytes_line, number_line};

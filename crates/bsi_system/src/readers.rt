@@ -1,4 +1,5 @@
-//! Looks at, lends and pops what is first in a feeder's ring, and settles its reader, in the loader's list of readers.
+//! Calls on one of the loader's ring readers, by its feeder's number: they look at, lend, copy and pop what is first in
+//! the ring, and settle the reader by a closing.
 
 ghost use Rattle.std.specs.Prelude.{◌≡◌, ◌≢◌, ◌<◌, ◌≤◌, Some, IfErr, IfOk, IfSome, OnErr, OnOk, length, slice_get};
 ghost use Rattle.std.specs.Option.{option_copied};

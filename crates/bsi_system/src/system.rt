@@ -1,4 +1,4 @@
-//! The ends of a running system, and how all but the analysts are made.
+//! The ends of a running system (`System`), how all but the analysts are made, and why none is opened (`OpenRefused`).
 
 ghost use Rattle.std.specs.Prelude.{◌≡◌, ◌≤◌, [], All, IfErr, IfOk, None, OnOk, length};
 ghost use Rattle.bsi_rows.specs.Refusals.{IsFirstOr};

@@ -1,4 +1,5 @@
-//! Gates that tests put between a feeder and its rows: `Meeting` holds two feeders, `Patience` counts calls.
+//! Gates that tests put between a feeder and its rows: `Meeting` has two feeders wait for each other, `Patience` counts
+//! calls and stops a feeder after so many tries.
 
 use bsi_files::{Gate, Stopping};
 use std::sync::Wait;

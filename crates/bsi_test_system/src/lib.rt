@@ -1,4 +1,4 @@
-//! Tests of the running system, on worked rows and on threads.
+//! Tests of the running system, on worked rows and on threads, and of many questions that several threads answer.
 #![tactic(auto)]
 
 #[cfg(test)]

@@ -1,4 +1,5 @@
-//! Tests of indexes, blocks, batches and the step machine, on worked rows and runs. No crate uses it.
+//! Tests of indexes, blocks, batches and the step machine: worked rows, their groups, ranks and first rows, and runs.
+//! No crate uses it.
 #![tactic(auto)]
 
 #[cfg(test)]

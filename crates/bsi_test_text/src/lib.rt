@@ -1,4 +1,5 @@
-//! Tests of calls on texts, schemas, row files and their faults, and scripts that come in chunks. No crate uses it.
+//! Tests of calls on texts, schemas, row files, kinds and their inference, scripts in chunks, faults and moves between
+//! threads. No crate uses it.
 #![tactic(auto)]
 
 #[cfg(test)]

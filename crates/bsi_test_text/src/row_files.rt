@@ -1,4 +1,4 @@
-//! Tests of the rows that a source reads from a row file, and that its end or its fault stays.
+//! Tests of the rows that a source reads from a row file, and that it stays at its end or its fault.
 
 use crate::ends::{broken, whole};
 use bsi_fixtures::TextReader;

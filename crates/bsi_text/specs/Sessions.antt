@@ -1,4 +1,4 @@
--- The phase that a session is in, as specifications of scripts have it (`phase_of`).
+-- A script (`Session`) as its specification sees it (`phase_of`): its setup goes on, or its machine runs.
 use Rattle.bsi_text.specs.declared.session.Session.{Session}
 use Rattle.bsi_text.specs.declared.session.Session.TheVariants as session
 use Rattle.bsi_input.specs.Scripts.{Phase, Declaring, Running}

@@ -1,4 +1,4 @@
-//! A script: records from a reader, and one line for each record to a writer.
+//! Runs a script (`run_script`): reads its records, and writes one line for each; or ends by a fault (`ScriptFault`).
 
 ghost use Rattle.std.specs.Prelude.{◌≡◌, ◌≢◌, ◌++◌, [], Err, OnOk, OnErr, IfErr};
 ghost use Rattle.std.specs.Io.KnownBytes.{Appends};

@@ -1,4 +1,5 @@
-//! The state of a script: its setup, and from `begin` on its machine.
+//! The state of a script (`Session`): its setup, and from `begin` on its machine. It makes the line that answers each
+//! record.
 
 ghost use Rattle.std.specs.Prelude.{◌≡◌, ◌++◌, [], IfOk, IsTrue, OnOk};
 ghost use Rattle.csv.specs.Records.{fields_of};

@@ -1,4 +1,4 @@
-//! Quotes what is wrong with a record, cut short and on one line.
+//! Quotes a field or a record in a reason, cut short and on one line, and adds how many line ends a field takes in.
 
 use crate::NoMemory;
 use bsi_syntax::field;

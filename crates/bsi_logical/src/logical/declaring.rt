@@ -1,4 +1,5 @@
-//! Carries out a record on a logical schema (`declare`): a column, limit, dialect, null word, title, kind or text.
+//! Declares a column, limit, dialect, null word, title, kind or text of a logical schema: by a record (`declare`), and
+//! the last five also by calls.
 
 ghost use Rattle.std.specs.Prelude.{◌≡◌, ◌<◌, [], Some, get_or, length, option_map};
 ghost use Rattle.csv.specs.Records.{fields_of};

@@ -1,4 +1,5 @@
-//! What the fields of row files, the constants of questions and the numbers of answers mean in a column.
+//! What the fields of row files, the constants of questions and the numbers of answers mean in a column; and which
+//! columns compare with each other, or may be summed.
 
 ghost use Rattle.std.specs.Prelude.{◌≡◌, ◌<◌, ◌↔◌, ℤ, length, true, IfNone, IfSome, IsTrue, MatchOption, None, OnOk, Option};
 ghost use Rattle.std.specs.List.{list_any};
