@@ -1,4 +1,4 @@
--- Tallies of the selected rows by their entries in a column.
+-- Tallies, each the count, sum, least and greatest number of the selected rows with one entry in a column (`IsTally`).
 use Rattle.std.specs.Prelude.{◌≡◌, ◌<◌, ◌+◌, ◌*◌, ◌^◌, ◌≤ℤ◌, ◌+ℤ◌, ℕ, ℤ, pos, Bool, List, Option, Some, None, length, map, nat_lt, slice_index_or, take, if◌then◌else◌}
 use Rattle.std.specs.List.{filter_map, items_where_true}
 use Rattle.bsi_digits.specs.Offsets.{number_of}

@@ -1,4 +1,5 @@
-//! Answers a question of an index (`answer`): a total, groups, first rows, different numbers or a quantile.
+//! Answers a question of an index (`answer`): a total, groups, first rows, different numbers or a quantile; and sorts
+//! the rows of an answer by feeder (`arrange_answer`).
 
 ghost use Rattle.std.specs.Prelude.{List};
 ghost use Rattle.bsi_rows.specs.Answers.{IsAnswer};

@@ -1,4 +1,4 @@
-//! Puts rows into groups, and answers the total of a query over each.
+//! Puts the rows that a query selects into groups, and answers the total of the query over each (`group_by`).
 
 ghost use Rattle.std.specs.Prelude.{◌≡◌, ◌<◌, ◌≤◌, ◌∷◌, [], None, length, IfErr, IfOk, OnOk};
 ghost use Rattle.bsi_rows.specs.Answers.{columns_of_total, missing_of};

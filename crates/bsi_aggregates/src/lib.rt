@@ -1,4 +1,5 @@
-//! What reports ask of the rows that a query selects: groups (O'Neil and Quass 1997), ranks, quantiles, different numbers, and the first rows.
+//! What reports ask of the rows that a query selects: groups (O'Neil and Quass 1997), ranks, quantiles, different
+//! numbers, and the first rows.
 #![tactic(auto)]
 
 mod answering;

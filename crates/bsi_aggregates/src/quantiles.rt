@@ -1,4 +1,4 @@
-//! The number at the end of a share of the numbers: a quantile, the lower one.
+//! The number at the end of a share of the numbers, as a half or nine tenths: a quantile, the lower one (`quantile`).
 
 ghost use Rattle.std.specs.Prelude.{◌≡◌, length, IfOk};
 ghost use Rattle.bsi_digits.specs.Orders.{values_at};

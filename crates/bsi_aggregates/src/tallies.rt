@@ -1,4 +1,5 @@
-//! Groups of rows by one pass over a selection, with a tally for each entry that the column of the groups may have.
+//! Groups of rows by one pass over a selection, with a tally (count, sum, least and greatest) for each entry that the
+//! column of the groups may have.
 
 ghost use Rattle.std.specs.Prelude.{◌≡◌, pos, ◌+ℤ◌, ◌≤ℤ◌, ◌<◌, ◌≤◌, ◌+◌, ◌*◌, ◌^◌, ℕ, Bool, List, None, length, slice_index_or, IfErr, IfOk, IfSome};
 ghost use Rattle.bsi_bits.specs.BitList.{max_block, word_count};

@@ -1,4 +1,5 @@
-//! The tally of rows that have the same entry in a column, from which their total is answered.
+//! The tally of rows that have the same entry in a column (`Tally`): count, sum, least and greatest, by which their
+//! total is answered.
 
 ghost use Rattle.std.specs.Prelude.{◌≡◌, ℕ, ℤ, ◌<◌, ◌++◌, ◌∷◌, [], List, Option, nat_lt};
 ghost use Rattle.bsi_bits.specs.BitList.{max_len};

@@ -1,5 +1,5 @@
-//! The rows with the greatest or the least numbers of a column. A bound, from a sample or else from a rank, leaves
-//! few rows to list (Rinfret, O'Neil and O'Neil 2001).
+//! The rows with the greatest or the least numbers of a column (`top`). A bound, from a sample or else from a rank,
+//! leaves few rows to list (Rinfret, O'Neil and O'Neil 2001).
 
 ghost use Rattle.std.specs.Prelude.{◌≡◌, ◌<◌, ◌≤◌, ◌-◌, ◌++◌, count_by, length, take, slice_index_or, None, IfOk, IfSome, OnOk};
 ghost use Rattle.std.specs.Ordering.{is_lt};

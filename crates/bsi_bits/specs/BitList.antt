@@ -1,4 +1,5 @@
--- What a contract sees of a `Bits`: its bits and its room (`BitList`); then what it says of bits, as the set positions.
+-- What a contract sees of a `Bits`: its bits and its room for more (`BitList`); how many bits there may be, which are
+-- set (`set_positions`), and which are in some words.
 use Rattle.std.specs.Prelude.{ℕ, ◌+◌, ◌-◌, ◌*◌, ◌/◌, ◌^◌, Bool, false, List, length, filter, slice_index_or, not, ◌&&◌, if◌then◌else◌}
 use Rattle.std.specs.List.{range_with_len}
 use Rattle.std.specs.Simd.Lanes.{chunk}

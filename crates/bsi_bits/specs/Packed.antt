@@ -1,4 +1,4 @@
--- A list of bits, packed in words of 64.
+-- Bits that are packed into words of 64 (`IsPacked`): which bits the words have, and for how many more there is room.
 use Rattle.std.specs.Prelude.{◌≡◌, ℕ, ◌-◌, ◌*◌, ◌/◌, ◌%◌, ◌^◌, ◌≤◌, ◌==◌, Bool, false, List, length, map, filter, min, slice_index}
 use Rattle.std.specs.Int.{bit_at}
 use Rattle.std.specs.List.{range_with_len}

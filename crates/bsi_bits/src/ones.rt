@@ -1,4 +1,4 @@
-//! The iterator over the places of the bits that are set.
+//! The iterator over the positions of the bits that are set, in rising order (`Ones`).
 //!
 //! The next place is read from the words as they are, so no half-used word is saved. Words with no bit are passed over,
 //! a cache line at a time where it has none.

@@ -1,4 +1,4 @@
-//! Appends bits and words to packed words, and clears the places past the last bit.
+//! Appends bits and words to packed words, and clears the bits past the last one.
 
 ghost use Rattle.std.specs.Prelude.{◌≡◌, ℕ, List, Bool, true, ◌+◌, ◌*◌, ◌%◌, ◌^◌, ◌≤◌, ◌<◌, [], ◌∷◌, ◌++◌, length, slice_index, vec_len, vec_capacity};
 ghost use Rattle.bsi_bits.specs.BitList.{max_block, max_len, word_count};

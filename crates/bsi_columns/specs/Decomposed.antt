@@ -1,4 +1,4 @@
--- A column of numbers that stores the digits of each number under its bases.
+-- A column of numbers that stores the digits of each number under its bases (`Decomposes`).
 use Rattle.std.specs.Prelude.{◌≡◌, ℕ, ◌+◌, ◌/◌, ◌<◌, ◌≤◌, Bool, false, List, [], Option, Some, None, length, map, is_some, slice_index, slice_index_or, All, if◌then◌else◌}
 use Rattle.std.specs.List.{range_with_len}
 use Rattle.bsi_bits.specs.BitList.{max_len}

@@ -1,4 +1,4 @@
--- The numbers of a block of rows by their binary places: for each place words with a bit for each row.
+-- The numbers of a block of rows by their binary places: for each place words with a bit for each row (`IsNumberAt`).
 use Rattle.std.specs.Prelude.{◌≡◌, ℕ, ◌<◌, List, [], length, slice_index_or}
 use Rattle.bsi_bits.specs.Packed.{bit_of}
 use Rattle.bsi_kernels.specs.Places.{has_place}

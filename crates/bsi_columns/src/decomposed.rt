@@ -1,5 +1,5 @@
-//! A column of numbers that keeps the digits of each number under a list of bases, a component a digit (Chan and
-//! Ioannidis 1998).
+//! A column of numbers that stores the digits of each number under a list of bases, a component a digit (`Decomposed`;
+//! Chan and Ioannidis 1998).
 
 ghost use Rattle.std.specs.Prelude.{◌≡◌, ℕ, ◌<◌, List, [], All, length, map, replicate, slice_index, IfOk, IsOk, IsTrue};
 ghost use Rattle.bsi_digits.specs.Digits.{digit_of, product};

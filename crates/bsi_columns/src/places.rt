@@ -1,5 +1,5 @@
-//! The numbers of a block of rows by their binary places, each place the words of a bit for each row: how they are added
-//! and compared.
+//! The numbers of a block of rows by their binary places, for each place words with a bit for each row: how they are
+//! read from slices, added and compared.
 //!
 //! An addition goes over the places from the least on, with a carry for each row (Rinfret, O'Neil and O'Neil 2001).
 

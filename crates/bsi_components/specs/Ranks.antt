@@ -1,4 +1,4 @@
--- The state of the search for the digit of a rank: between which digits it is (`IsBetween`).
+-- The state of the search for the digit of the row of a given rank: between which digits it is (`IsBetween`).
 use Rattle.std.specs.Prelude.{◌≡◌, ℕ, ◌<◌, ◌≤◌, Bool, List, nat_lt, nat_le}
 use Rattle.bsi_components.specs.Component.{count_where}
 

@@ -1,4 +1,4 @@
-//! A list of digits, kept as bitmaps, equality or range encoded: one digit of each number of a column.
+//! A list of digits, stored as bitmaps, equality or range encoded: one digit of each number of a column.
 #![tactic(auto)]
 
 mod binary_places;

@@ -1,4 +1,5 @@
-//! The trait `Reads`: what each encoding reads from its bitmaps in its own way, as comparisons, sums and extremes.
+//! The trait `Reads`: what each encoding reads from its bitmaps in its own way, for comparisons, sums, ranks and
+//! extremes.
 
 ghost use Rattle.std.specs.Prelude.{◌≡◌, ℕ, ◌+◌, ◌*◌, ◌<◌, ◌≤◌, ◌==◌, ◌&&◌, true, length, map, nat_le, slice_index, sum, count_by};
 ghost use Rattle.std.specs.List.{items_where_true};

@@ -1,4 +1,4 @@
--- The reciprocal that is stored with a divisor.
+-- The reciprocal that is stored with a divisor, so that a quotient is a multiplication and a shift (`IsDivisor`).
 use Rattle.std.specs.Prelude.{◌≡◌, ℕ, ◌+◌, ◌-◌, ◌/◌, ◌^◌, ◌≤◌}
 use Rattle.std.specs.Int.{w64, leading_zeros}
 

@@ -1,4 +1,5 @@
--- Comparisons and totals over any order, which is given by its tests of two values.
+-- Orders of any values, given by the tests of two values (`Order`), and by them comparisons, the least, the greatest
+-- and the lower median.
 use Rattle.std.specs.Prelude.{◌≡◌, ◌*◌, ◌<◌, ◌≤◌, Bool, false, not, List, [], Option, Some, None, MatchOption, All, Contains, IsTrue, length, count_by}
 use Rattle.std.specs.List.{filter_map, items_where_true}
 use Rattle.bsi_digits.specs.declared.op.Op.{Op}

@@ -1,4 +1,4 @@
--- The number of a rank among whole numbers.
+-- Which of some whole numbers has a given rank: its position in rising order, from 0 (`IsSignedRanked`).
 use Rattle.std.specs.Prelude.{ℕ, ℤ, ◌<◌, ◌≤◌, List, Option, MatchOption, count_by, int_le, int_lt, length}
 
 -- m is the number of a rank, from 0: no more numbers than the rank are below m, and more are at most m

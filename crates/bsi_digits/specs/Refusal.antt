@@ -1,4 +1,4 @@
--- Which refusal a list of bases meets first.
+-- For which of several reasons a list of bases is refused: the first that applies (`refusal`).
 use Rattle.std.specs.Prelude.{◌≡◌, ℕ, Bool, ◌||◌, List, length, Option, Some, None, position, sum, nat_eq, nat_lt, if◌then◌else◌}
 use Rattle.bsi_digits.specs.declared.bases_error.BasesError.{BasesError}
 use Rattle.bsi_digits.specs.declared.bases_error.BasesError.TheVariants.{Empty, TooMany, BaseOutOfRange, TooWide, ProductTooLarge}

@@ -1,4 +1,5 @@
--- The least, the greatest and the lower median of natural numbers, and the number of a rank among them (`IsRanked`).
+-- The least, the greatest and the lower median of natural numbers, and the number of a given rank, its position in
+-- rising order from 0 (`IsRanked`).
 use Rattle.std.specs.Prelude.{ℕ, ◌<◌, ◌≤◌, List, Option, count_by, nat_lt, nat_le}
 use Rattle.bsi_digits.specs.Orders.{IsLeastBy, IsGreatestBy, IsLowerMedianBy, IsNoneOr}
 use Rattle.bsi_digits.specs.Comparisons.{number_order}

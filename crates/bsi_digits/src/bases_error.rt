@@ -1,4 +1,4 @@
-//! Why a list of bases is refused.
+//! Why a list of bases is refused (`BasesError`).
 ghost use Rattle.std.specs.Prelude.{◌≡◌};
 
 use std::alloc::AllocError;

@@ -1,5 +1,5 @@
-//! The arithmetic below bitmaps: a number as digits under a list of bases, and what comparisons and totals say of numbers
-//! in an order.
+//! The arithmetic below bitmaps: a number as digits under a list of bases, and what comparisons and totals say of
+//! numbers in an order.
 #![tactic(auto)]
 
 mod bases;

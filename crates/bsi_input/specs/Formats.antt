@@ -1,4 +1,5 @@
--- What turns the records of a row file into rows.
+-- What turns the records of a row file into rows (`Format`), and which records are good: those that give a row that
+-- fits.
 use Rattle.std.specs.Prelude.{ℕ, Bool, nat_eq, if◌then◌else◌, List, [], length, map, get_or, count_by, filter_map, Option, Some, None, option_and_then}
 use Rattle.std.specs.Option.{is_none}
 use Rattle.bsi_schema.specs.Columns.{Declared, fits}

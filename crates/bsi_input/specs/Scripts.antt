@@ -1,4 +1,4 @@
--- The script run of records: each is answered by a line.
+-- The run of a script (`IsScriptRun`): each of its records is answered by a line, before and after `begin`.
 use Rattle.std.specs.Prelude.{◌≡◌, ℕ, if◌then◌else◌, List, [], ◌∷◌, Option, Some, None, option_map, MatchOption, ◌⊎◌}
 use Rattle.bsi_rows.specs.declared.event.Event.{Event}
 use Rattle.bsi_rows.specs.declared.event.Reply.{Reply}

@@ -1,4 +1,4 @@
--- Buffered output: bytes that are not written yet.
+-- Buffered output: bytes that are not written yet, and what the output is after some or all of them are.
 use Rattle.std.specs.Prelude.{◌≡◌, ℕ, List, ◌++◌, take}
 use Rattle.std.specs.Io.KnownBytes.{Appends}
 use Rattle.bsi_syntax.specs.Bytes.{Bytes, KnownBytes}

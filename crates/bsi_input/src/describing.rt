@@ -1,4 +1,4 @@
-//! Writes a schema as the text of a schema file.
+//! Writes a schema as the text of a schema file (`describe_schema`).
 
 ghost use Rattle.std.specs.Prelude.{◌<◌, IfOk, length};
 ghost use Rattle.bsi_input.specs.SchemaTexts.{IsSchemaText};

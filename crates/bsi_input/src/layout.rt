@@ -1,4 +1,4 @@
-//! The header of a row file, and the rows that its records give.
+//! The header of a row file (`Layout`), and the rows that its records give.
 
 ghost use Rattle.std.specs.Prelude.{◌≡◌, ◌<◌, ◌≤◌, if◌then◌else◌, length, vec_capacity, Some, None, true, false, IfOk, IsOk, IsTrue, OnOk};
 ghost use Rattle.csv.specs.Records.{fields_of};

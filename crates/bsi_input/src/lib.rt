@@ -1,4 +1,4 @@
-//! From bytes to records and rows, and what the lines of a script are.
+//! From bytes to records and rows, and what the lines of a script are; the text of a schema, read and written.
 #![tactic(auto)]
 
 mod describing;

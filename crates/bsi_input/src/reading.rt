@@ -1,4 +1,5 @@
-//! Reads the next record of a text by the reader of `csv`, if it is one of the first 1,000,000 (`read_record`).
+//! Makes the reader of a text's records (`plain_reader`), by `csv`, and reads the next one if it is among the first
+//! 1,000,000 (`read_next`).
 
 ghost use Rattle.std.specs.Prelude.{◌≡◌, ◌≤◌, Err, IfErr, IfOk, OnOk, Some, option_map};
 ghost use Rattle.csv.specs.Reading.{ReadRecord, error_kind, reader_state, source_of, strip_bom};

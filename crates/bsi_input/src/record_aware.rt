@@ -1,4 +1,5 @@
-//! A reader that knows whether a whole record was read that is still in the buffer.
+//! A reader that knows whether the next record is in its buffer as a whole, so needs no further read
+//! (`RecordAwareReader`).
 //!
 //! If the text of a read has no quote, the end of a line that is not empty ends a record. If it has one, a record may
 //! go on past the end of a line, so each answer is written at once. So no text is parsed twice. A reader that writes

@@ -1,4 +1,4 @@
-//! Reads the text of a schema: the columns and the limit of rows that its records declare.
+//! Reads the text of a schema (`read_schema`): the columns and the limit of rows that its records declare.
 
 ghost use Rattle.std.specs.Prelude.{◌≡◌, ◌<◌, None, IfErr, IfOk, IfSome, OnOk, length};
 ghost use Rattle.csv.specs.Reading.{reader_state, source_of};

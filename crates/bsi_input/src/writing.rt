@@ -1,4 +1,4 @@
-//! Writes all bytes of a text to a writer.
+//! Writes all bytes of a text to a writer (`write_bytes`).
 
 ghost use Rattle.std.specs.Prelude.{OnErr, OnOk};
 ghost use Rattle.std.specs.Io.KnownBytes.{Appends};

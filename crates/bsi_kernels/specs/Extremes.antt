@@ -1,4 +1,5 @@
--- The extreme of the numbers of some rows, and which numbers improve the best one so far.
+-- The extreme, which is the least or the greatest, of the numbers of some rows (`IsExtremeAmong`), and which numbers
+-- improve the best one so far (`improves`).
 use Rattle.std.specs.Prelude.{◌≡◌, ℕ, ◌<◌, ◌≤◌, Bool, true, false, not, Option, Some, None, MatchOption}
 use Rattle.bsi_bits.specs.SetRows.{HasValue}
 use Rattle.bsi_kernels.specs.Places.{bit_value}

@@ -1,4 +1,4 @@
--- The indices of some words, among them all words that have a row.
+-- Rising indices of words of a bitmap; every word that is not 0 is among them (`AreListed`).
 use Rattle.std.specs.Prelude.{◌≢◌, ℕ, ◌+◌, ◌<◌, ◌≤◌, Contains, List, length, slice_index, take}
 
 -- the first `count` indices list some of the first n words

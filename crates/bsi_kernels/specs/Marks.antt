@@ -1,4 +1,4 @@
--- Words with a bit for each digit of a block: whether it satisfies the predicate of the word.
+-- Words with a bit for each digit of a block: whether it satisfies the predicate of the word (`AreDigitMarks`).
 use Rattle.std.specs.Prelude.{◌≡◌, ℕ, zero, suc, ◌+◌, ◌*◌, ◌<◌, ◌^◌, Bool, List, [], ◌∷◌, length, map, bit_or, slice_index}
 use Rattle.std.specs.Int.{bit_at}
 use Rattle.bsi_bits.specs.Packed.{bits_of}

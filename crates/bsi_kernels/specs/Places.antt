@@ -1,4 +1,5 @@
--- Numbers in binary: a bitmap for each place, alone or after the bitmaps of an encoding.
+-- Numbers in binary: a bitmap for each place, alone or after the bitmaps of an encoding; and one step of a comparison
+-- of numbers digit by digit, from the least significant up (`at_most_step`).
 use Rattle.std.specs.Prelude.{◌≡◌, ℕ, ◌+◌, ◌-◌, ◌^◌, ◌<◌, ◌≤◌, ◌==◌, ◌&&◌, ◌||◌, Bool, List, length, map, nat_eq, nat_lt, if◌then◌else◌}
 use Rattle.std.specs.Int.{bit_at}
 use Rattle.bsi_bits.specs.BitList.{BitList}

@@ -1,4 +1,5 @@
--- Which rows of a selection have the number of a rank (`IsRankedRows`).
+-- Which number has a given rank, from 0 in rising order, among the rows of a selection, and which of these rows have
+-- that number (`IsRankedRows`).
 use Rattle.std.specs.Prelude.{◌≡◌, ℕ, ◌+◌, ◌<◌, Bool, true, false, List, ◌&&◌, count_by, nat_eq, nat_lt, bit_and}
 use Rattle.std.specs.Int.{bit_not, w64}
 use Rattle.std.specs.Simd.Lanes.{zip2}

@@ -1,4 +1,5 @@
-//! The extreme of the numbers of some rows of a span, by binary places from the most significant down.
+//! The least or the greatest number of some rows of a span, by binary places from the most significant down; and
+//! whether a number can still improve the best one so far (`cannot_improve`).
 //!
 //! The search leaves a span as soon as none of its rows can improve the best number so far. The test is one
 //! product and one comparison, on the number and not on its digits, so a tie needs no state. This search is this

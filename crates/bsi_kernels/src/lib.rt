@@ -1,4 +1,5 @@
-//! Kernels of the column forms: Boolean steps on spans of words, words of digits, and sum, extreme and rank of numbers.
+//! Kernels of the column forms: loops over words of bitmaps that combine them, compare, sum and rank the numbers of
+//! rows, find the least or the greatest, turn digits into words, and test nulls.
 #![tactic(auto)]
 
 mod comparisons;

@@ -1,4 +1,5 @@
-//! Turns up to 64 digits into words: bit `k` of word `j` says whether digit `k` is `j`. Words of binary places follow.
+//! Turns up to 64 digits into words: bit `k` of word `j` says whether digit `k` is `j` (`one_hot_digits`) or below `j`
+//! (`mark_below`). Behind those words are words of the digits' binary places.
 //!
 //! Digits below a base from 4 to 64 are turned into the words of their binary places first, which are scattered over
 //! those of the digits. Under another base each digit is marked. Bases 2 and 3 store no places. From base 65 on the

@@ -1,4 +1,5 @@
-//! The number of a rank at the rows of a selection, by its binary places from the most significant down.
+//! Finds the number of the row of a given rank in a selection, and all rows of this number (`rows_of_rank`), by binary
+//! places from the most significant down.
 //!
 //! A step narrows the rows by the place of the step before, and at once counts those that are clear in its own. Where few
 //! words have a row, it goes over these alone. Otherwise it passes over cache lines that have no row any more, and reads

@@ -1,4 +1,5 @@
-//! Boolean steps on a span, some words that stand for rows, by the words of a bitmap that stand for the same rows.
+//! Boolean operations on a span, some words with a bit for each row, by the words of a bitmap for the same rows; and
+//! tests whether a row of the span is in the bitmap, or is not.
 //!
 //! Each step passes over the span once. A caller takes a span through all the bitmaps that it needs, so these are read
 //! side by side.

@@ -1,4 +1,4 @@
--- Clocks and zones: what the bytes of a field spell.
+-- Times of day (`clock_of`) and zones (`zone_of`): what the bytes of a field spell, in seconds.
 use Rattle.std.specs.Prelude.{ℕ, ◌+◌, ◌*◌, ◌<◌, ◌^◌, Bool, true, false, ◌==◌, nat_lt, if◌then◌else◌, [], ◌∷◌, take, drop, Option, Some, None, option_map, option_and_then, ℤ, pos, neg_ℤ, ◌+ℤ◌, ◌*ℤ◌}
 use Rattle.std.specs.List.{after_first, before_first}
 use Rattle.std.specs.Str.{bytes_eq}

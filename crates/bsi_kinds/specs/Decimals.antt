@@ -1,4 +1,4 @@
--- Decimals: what the bytes of a field spell, their order, and the number that stands for one at some places.
+-- Decimals: what the bytes of a field spell, their order, and the number that stands for one at so many decimal places.
 use Rattle.std.specs.Prelude.{◌≡◌, ℕ, ◌+◌, ◌-◌, ◌*◌, ◌/◌, ◌%◌, ◌^◌, suc, Bool, false, not, ◌&&◌, ◌||◌, ◌==◌, nat_le, nat_lt, min, if◌then◌else◌, List, [], ◌∷◌, ◌++◌, length, Option, Some, None, option_map, option_and_then, ℤ, pos, negsuc, neg_ℤ, ◌*ℤ◌, int_le, int_lt}
 use Rattle.std.specs.Char.{is_ascii_digit}
 use Rattle.std.specs.List.{after_first, before_first, list_all}

@@ -1,4 +1,4 @@
--- How many places the digits of a decimal need.
+-- How many digits the text of a decimal has behind the point, once its exponent has moved the point (`places_written`).
 use Rattle.std.specs.Prelude.{ℕ, ◌+◌, ◌-◌, suc, length, unwrap_or, ℤ, pos, negsuc}
 use Rattle.std.specs.List.{after_first, before_first}
 use Rattle.bsi_kinds.specs.Decimals.{exponent_of, fraction, is_exponent_sign, Field}

@@ -1,4 +1,5 @@
-//! Scans a clock as seconds and what follows their point (`ScannedTime`), and a zone as the seconds to subtract.
+//! Reads a time of day as seconds and the digits behind their point (`ScannedTime`), and a zone as the seconds to
+//! subtract.
 
 ghost use Rattle.std.specs.Prelude.{◌≡◌, ℕ, ◌<◌, ◌≤◌, ◌^◌, option_map, IfSome};
 ghost use Rattle.jiff_core.specs.Calendar.{IsWithin};

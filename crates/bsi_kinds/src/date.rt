@@ -1,4 +1,4 @@
-//! Dates: from the bytes of a field to days since 1970-01-01, and back.
+//! Reads dates as days since 1970-01-01, in the order and with the sign of a form (`DateForm`), and writes them.
 
 ghost use Rattle.std.specs.Prelude.{◌≡◌, ◌++◌, ℤ, pos, ◌≤ℤ◌, Some, OnOk, IfSome, option_and_then};
 ghost use Rattle.jiff_core.specs.Calendar.{IsEpochDay};

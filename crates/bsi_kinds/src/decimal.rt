@@ -1,4 +1,5 @@
-//! Decimals: from the bytes of a field to whole units of so many places.
+//! Reads decimals as whole units of so many decimal places (`read_decimal`), and brings comparisons with decimals down
+//! to comparisons of such units (`compare_decimal`).
 
 ghost use Rattle.std.specs.Prelude.{◌≡◌, ⊤, ℕ, ℤ, pos, neg_ℤ, ◌≤ℤ◌, List, ◌+◌, ◌<◌, ◌≤◌, ◌^◌, ◌&&◌, ◌==◌, ◌++◌, length, min, if◌then◌else◌, Some, None, option_map, MatchOption, IfNone, IfSome};
 ghost use Rattle.std.specs.Char.{is_ascii_digit};

@@ -1,5 +1,5 @@
-//! What the numbers of a column stand for, and how fields spell it: kinds. Decimals, days, times, booleans and texts keep
-//! their order as whole numbers, so an index answers questions about them.
+//! What the numbers of a column stand for, and how fields spell it: kinds. Decimals, days, times, booleans and texts
+//! keep their order as whole numbers, so an index answers questions about them.
 #![tactic(auto)]
 
 mod boolean;

@@ -1,4 +1,5 @@
-//! Times: from the bytes of a field to units since 1970-01-01T00:00:00.
+//! Reads fields as units since 1970-01-01T00:00:00 (`read_time`), and brings comparisons with times down to comparisons
+//! of such units (`compare_time`).
 
 ghost use Rattle.std.specs.Prelude.{◌≡◌, ℤ, pos, ◌<ℤ◌, ◌≤ℤ◌, ◌≤◌, ◌^◌, ◌↔◌, None, option_map, MatchOption, IfNone, IfSome, IsTrue};
 ghost use Rattle.std.specs.Int.{int_div_euclid};

@@ -1,4 +1,4 @@
-//! Times as text: from numbers to the bytes of an answer.
+//! Writes times as text, from the numbers that stand for them (`write_time`).
 
 ghost use Rattle.std.specs.Prelude.{◌≡◌, ℤ, pos, ◌≤ℤ◌, ◌<◌, ◌^◌, ◌++◌, [], List, ℕ, OnOk};
 ghost use Rattle.jiff_core.specs.declared.civil.date.Date.{Date};

@@ -1,4 +1,5 @@
-//! The feeder of each row, and a row's number among its feeder's: the rows of a selection by both.
+//! The feeder of each row, and a row's number among its feeder's rows: where each row of an index, or of a selection,
+//! came from.
 #![tactic(auto)]
 
 mod numbering;

@@ -1,4 +1,4 @@
-//! The rows of a selection, each by its feeder and its number among the rows of that feeder.
+//! The rows of a selection, each by its feeder and its number among the rows of that feeder (`number_rows`).
 //!
 //! It counts forward and keeps the counts of all feeders as it goes, so no chunk is read twice. Where more than an
 //! eighth of the rows is selected it tests each row's bit in one pass, which costs less than looking for the next set

@@ -1,4 +1,4 @@
-//! The feeder of each row, and the counts that give a row's number among its feeder's rows.
+//! The feeder of each row (`Origins`), and the counts that give a row's number among its feeder's rows.
 //!
 //! A feeder is a byte. Where there are several, a tally stands before each 512th row: for each feeder, how many of the
 //! rows before came from it, in 4 bytes, as a rank directory has counts of the set bits before (Jacobson 1989). The

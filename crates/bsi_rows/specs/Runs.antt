@@ -1,5 +1,5 @@
--- A run of events: the accepted, indexed and waiting rows, and the closed feeders, by the events and their replies
--- alone.
+-- A run of the step machine: its accepted, indexed and waiting rows and its closed feeders, by the events and their
+-- replies alone; and that no row is lost (`IsConserved`).
 use Rattle.std.specs.Prelude.{◌≡◌, ℕ, ◌+◌, Bool, true, false, ◌||◌, List, [], ◌∷◌, ◌++◌, Some, None, Ok, length, map, take, drop, filter_map, nat_eq, if◌then◌else◌, slice_get, ⊤}
 use Rattle.std.specs.List.{range_with_len}
 use Rattle.std.specs.Option.{option_map, option_to_list}

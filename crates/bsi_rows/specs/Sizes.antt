@@ -1,4 +1,5 @@
--- The valid sizes of a machine, and a new machine.
+-- Which sizes of a step machine are refused, its feeders' capacities or its limit of rows, and a new machine
+-- (`new_machine`).
 use Rattle.std.specs.Prelude.{ℕ, Bool, false, ◌||◌, List, [], Option, Some, length, map, position, nat_eq, nat_lt, option_map, if◌then◌else◌}
 use Rattle.std.specs.Option.{option_or}
 use Rattle.bsi_rows.specs.declared.errors.IndexError.{IndexError}

@@ -1,4 +1,4 @@
--- A table: the rows of a schema that came from feeders.
+-- A table (`Table`): the rows of a schema that came from feeders, and the most that there may be.
 use Rattle.std.specs.Prelude.{◌≡◌, ℕ, ◌^◌, ◌<◌, List, [], ◌∷◌, ◌++◌, All, map, ℤ, IsTrue}
 use Rattle.bsi_schema.specs.declared.form.Form.{Form}
 use Rattle.bsi_schema.specs.Columns.{fits, Declared, NamedColumn}

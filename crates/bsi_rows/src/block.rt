@@ -1,4 +1,4 @@
-//! A block of rows of one schema, stored column by column.
+//! A block of up to 64 rows of one schema, stored column by column (`Block`).
 //!
 //! The numbers of column `c` are in 64 slots from slot `64 * c` on, so a row is written without moving another, and
 //! a column is written and lent as one slice.

@@ -1,6 +1,7 @@
-//! Writes and reads the entries of a block, row by row or column by column. The numbers of column `c` are in 64 slots
-//! from slot `64 * c` on, each less the least number that the column accepts, and bit `r` of word `c` tells whether
-//! entry `r` is one.
+//! Writes and reads the entries of a block, row by row or column by column.
+//!
+//! The numbers of column `c` are in 64 slots from slot `64 * c` on, each less the least number that the column accepts,
+//! and bit `r` of word `c` tells whether entry `r` is one.
 
 ghost use Rattle.std.specs.Prelude.{◌≡◌, ◌≢◌, ◌↔◌, ℕ, ◌+◌, ◌*◌, ◌^◌, ◌<◌, ◌≤◌, All, IfOk, IsTrue, Some, length, slice_index, true, false};
 ghost use Rattle.bsi_digits.specs.Blocks.{value_entries, value_entry};

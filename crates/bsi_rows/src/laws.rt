@@ -1,5 +1,5 @@
-//! Laws of lawful runs: nothing is lost, runs compose, and a closed feeder stays closed; and the rank of a median. Each
-//! is the contract of a function that does nothing, so that it is checked as any contract is.
+//! Laws of lawful runs of the step machine: nothing is lost, runs compose, and a closed feeder stays closed; and the
+//! rank of a median. Each is the contract of a function that does nothing, so that it is checked as any contract is.
 
 ghost use Rattle.std.specs.Prelude.{◌≡◌, ◌↔◌, ◌-◌, ◌/◌, ℤ, List, [], ◌∷◌, Option, length};
 ghost use Rattle.bsi_digits.specs.WholeNumbers.{IsSignedMedianOf};

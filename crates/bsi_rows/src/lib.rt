@@ -1,4 +1,5 @@
-//! Rows from feeders, blocks of them, queries over them, and lawful runs: what an index and a machine speak of.
+//! Rows from feeders, blocks of them, questions over them, and events of the step machine with lawful replies: what an
+//! index and the machine have in common.
 #![tactic(auto)]
 
 mod arranging;

@@ -1,4 +1,4 @@
--- The names that columns may have, as lists of bytes.
+-- Which texts may be names of columns, as lists of bytes (`is_name`): no word of predicates is one (`is_word`).
 use Rattle.std.specs.Prelude.{ℕ, Bool, false, ◌&&◌, ◌||◌, ◌==◌, not, nat_le, List, [], ◌∷◌, length, codes}
 use Rattle.std.specs.Char.{is_ascii_digit, is_ascii_lowercase}
 use Rattle.std.specs.List.{list_all}

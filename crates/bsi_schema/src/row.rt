@@ -1,4 +1,4 @@
-//! A row: an entry for each column.
+//! A row (`Row`): an entry, a whole number or a null, for each column.
 
 ghost use Rattle.std.specs.Prelude.{◌≡◌, IfOk};
 

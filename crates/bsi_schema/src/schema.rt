@@ -1,4 +1,4 @@
-//! The columns of an index: their names in order of declaration, their forms and offsets.
+//! The columns of an index (`Schema`): their names in order of declaration, their forms and offsets.
 
 ghost use Rattle.std.specs.Prelude.{◌≡◌, ◌↔◌, ◌<◌, ◌≤◌, None, true, false, All, length, map, pos, ◌+ℤ◌, ◌≤ℤ◌, IfOk, IfErr, OnOk, OnErr, IsTrue};
 ghost use Rattle.std.specs.Result.{result_err};

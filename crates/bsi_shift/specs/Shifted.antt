@@ -1,4 +1,4 @@
--- A column of whole numbers, each of which is stored less an offset.
+-- A column of whole numbers, each of which is stored less an offset (`IsShifted`).
 use Rattle.std.specs.Prelude.{◌≡◌, ℕ, ◌<◌, ◌≤◌, All, ℤ, pos, ◌+ℤ◌, ◌≤ℤ◌, List, Option, map}
 use Rattle.std.specs.Option.{option_map}
 use Rattle.bsi_digits.specs.Digits.{max_end, max_size}

@@ -1,4 +1,4 @@
-//! A column of whole numbers from an offset on, stored as the column of the numbers less the offset.
+//! A column of whole numbers from an offset on (`Shifted`), stored as the column of the numbers less the offset.
 
 ghost use Rattle.std.specs.Prelude.{◌≡◌, ℕ, pos, ◌+ℤ◌, ◌≤ℤ◌, ◌+◌, ◌<◌, ◌≤◌, [], ◌∷◌, ◌++◌, All, length, map, Some, is_some, nat_lt, ◌↔◌, IsOk, IsTrue, IfOk, OnOk, OnErr};
 ghost use Rattle.std.specs.Option.{option_map};

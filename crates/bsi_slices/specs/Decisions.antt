@@ -1,4 +1,5 @@
--- Which numbers a comparison with a constant selects, as a test of each.
+-- What a comparison with a constant comes down to (`decides`): it selects no number, each number, or those that pass a
+-- test (`passes`).
 use Rattle.std.specs.Prelude.{ℕ, ◌<◌, Bool, true, false, not, if◌then◌else◌, nat_eq, nat_le}
 use Rattle.bsi_slices.specs.declared.decision.Decision.{Decision}
 use Rattle.bsi_slices.specs.declared.decision.Decision.TheVariants.{Nothing, Everything, Tested}

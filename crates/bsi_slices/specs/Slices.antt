@@ -1,4 +1,5 @@
--- A column as slices: bit r of slice k is binary place k of the number of row r.
+-- A column as slices (`IsSliced`): bit r of slice k is binary place k of the number of row r. A not-null bitmap says
+-- which rows have a number.
 use Rattle.std.specs.Prelude.{◌≡◌, ℕ, ◌+◌, ◌*◌, ◌<◌, ◌≤◌, Bool, false, if◌then◌else◌, List, [], ◌∷◌, length, map, Option, Some, None, slice_index_or}
 use Rattle.std.specs.List.{range_with_len}
 pub use Rattle.bsi_kernels.specs.Places.{bit_value}

@@ -1,4 +1,5 @@
-//! The trait of a column (`Column`): a list of optional numbers below its size that grows, and is compared and summed.
+//! The trait of a column (`Column`): a list of optional numbers below its size that grows, is compared with constants,
+//! and gives sums, extremes and the numbers of given ranks.
 //!
 //! Least, greatest and median are provided calls over one required call, `ranked`; forms have their own least and
 //! greatest. The form is the column's own type, because the trait can't name the encoding of a decomposed one.

@@ -1,5 +1,5 @@
-//! A list of optional numbers, kept as a bit vector for each binary place, with every comparison and total; and what a
-//! column is to an index.
+//! A list of optional numbers, stored as a bit vector for each binary place, with every comparison and total; and the
+//! trait of a column of any form (`Column`).
 #![tactic(auto)]
 
 mod column;

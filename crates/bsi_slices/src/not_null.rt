@@ -1,5 +1,6 @@
-//! The not-null bitmap of a column, and whether any row is null. That flag is set by the first null, and cleared with
-//! all rows, since a single row is never removed.
+//! The not-null bitmap of a column, which says which rows have a number, and whether any row is null (`NotNull`).
+//!
+//! The flag for nulls is set by the first null, and cleared with all rows, since a single row is never removed.
 
 ghost use Rattle.std.specs.Prelude.{◌≡◌, ◌↔◌, ℕ, ◌+◌, ◌*◌, ◌^◌, ◌≤◌, ◌<◌, ◌&&◌, [], ◌∷◌, ◌++◌, length, false, slice_index_or, IsTrue, IfOk, IsOk, OnOk, OnErr};
 ghost use Rattle.std.specs.Int.{bit_at};

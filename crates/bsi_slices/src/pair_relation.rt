@@ -1,4 +1,5 @@
-//! Relations of the numbers of two columns, decided by one binary place after the other, the least significant first.
+//! Relations of the numbers of two columns (`PairRelation`), decided by one binary place after the other, the least
+//! significant first; and sums of numbers, place by place (`add_place`).
 //!
 //! The words of a state have a bit for each row. Where two numbers differ at a place, that place decides over those below
 //! it, so one state is enough, and a place is one pass over the words.

@@ -1,4 +1,4 @@
--- The lines that answer records, each with its line feed.
+-- The lines that answer records, each with its line feed (`reply_line`).
 use Rattle.std.specs.Prelude.{◌≡◌, ℕ, List, [], ◌∷◌, ◌++◌, Some, None, Result, Ok, Err, OnOk, codes, decimal}
 use Rattle.std.specs.Fmt.{signed_decimal}
 use Rattle.std.specs.Io.{StartsWith}

@@ -1,4 +1,4 @@
--- Numbers and values, as lists of bytes.
+-- Which numbers, entries of rows, bases, feeders and offsets the bytes of fields spell.
 use Rattle.std.specs.Prelude.{ℕ, Bool, ◌&&◌, ◌==◌, nat_lt, nat_le, min, if◌then◌else◌, List, [], ◌∷◌, length, Option, Some, None, option_map, option_and_then, ℤ, pos, neg_ℤ, int_le, int_lt}
 use Rattle.std.specs.Char.{is_ascii_digit}
 use Rattle.std.specs.List.{list_all, slice_split}

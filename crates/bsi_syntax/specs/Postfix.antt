@@ -1,4 +1,5 @@
--- A parser of predicates in postfix order, one field at a time.
+-- A parser of predicates, one field at a time: a comparison is `name sign constant`, and `and`, `or` and `not` follow
+-- their operands (`after_field`).
 use Rattle.std.specs.Prelude.{◌≡◌, ℕ, Bool, true, false, if◌then◌else◌, List, [], ◌∷◌, map, reverse, Option, Some, None, option_map, option_and_then, Result, Ok, Err, codes, Box}
 use Rattle.std.specs.Option.{option_or}
 use Rattle.std.specs.Ptr.{null_ptr}

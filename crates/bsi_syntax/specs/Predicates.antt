@@ -1,4 +1,5 @@
--- Which fields spell a predicate, in postfix order.
+-- Which fields spell a predicate (`IsPredicate`): a comparison is `name sign constant`, and `and`, `or` and `not`
+-- follow their operands.
 use Rattle.std.specs.Prelude.{◌≡◌, ℕ, ◌≤◌, Bool, true, false, ◌||◌, List, [], ◌∷◌, ◌++◌, length, Some, None, codes}
 use Rattle.bsi_digits.specs.declared.op.Op.{Op}
 use Rattle.bsi_digits.specs.declared.op.Op.TheVariants.{Eq, Ne, Lt, Le, Gt, Ge}

@@ -1,4 +1,4 @@
-//! Reads the record that declares a column.
+//! Reads the record that declares a column: `column,NAME,FORM,SIZES`, with an offset or without.
 //!
 //! A list of bases is read before the schema looks at the name and the bases, which takes memory. So where memory is
 //! refused, that may be the answer to a record that would do nothing: to know sooner, the schema would have to look

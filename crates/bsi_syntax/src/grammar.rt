@@ -1,4 +1,4 @@
-//! The grammars of questions, and where a record goes wrong.
+//! The grammars of questions, those of scripts or of an index (`Grammar`), and where a record goes wrong (`Stop`).
 
 ghost use Rattle.std.specs.Prelude.{◌≡◌, length};
 

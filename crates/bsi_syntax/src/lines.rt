@@ -1,4 +1,4 @@
-//! Writes a reply as the line that answers a record.
+//! Writes the lines that answer records: that of a reply, that of a bad record, and that of a feeder that read a file.
 
 ghost use Rattle.std.specs.Prelude.{◌≡◌, ◌++◌, OnErr, OnOk, codes, decimal};
 ghost use Rattle.bsi_syntax.specs.Lines.{answer_line, bad_line, close_line, fed_line, load_line, reply_line, rows_text, submit_line, IsAppended};

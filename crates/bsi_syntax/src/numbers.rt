@@ -1,4 +1,4 @@
-//! Numbers and values: what the bytes of a field spell.
+//! Reads fields as numbers, values and entries of rows, offsets, numbers of feeders and lists of bases.
 //!
 //! A `u64` holds whatever fewer than twenty digits spell, so each takes one test. Only the last digits of very great
 //! numbers take the checked multiplication.

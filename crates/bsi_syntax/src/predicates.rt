@@ -1,4 +1,5 @@
-//! Reads fields as a predicate, whose operators follow their operands.
+//! Reads fields as a predicate (`read_predicate`): comparisons are written `name sign constant`, and `and`, `or` and
+//! `not` follow their operands.
 //!
 //! A stack replaces recursion: it has the predicates that the fields so far spell, which are at most 1,000 fields.
 //! Which fields spell a predicate is a relation by cases on the predicate (`IsPredicate`). The parser is proved

@@ -1,4 +1,4 @@
-//! Reads the records that declare columns, feeders and the limit of rows.
+//! Reads the records that declare columns, feeders and the limit of rows (`Setup`).
 
 ghost use Rattle.std.specs.Prelude.{◌≡◌, ◌≤◌, drop, IfOk, IfSome, OnErr};
 ghost use Rattle.csv.specs.Records.{fields_of};

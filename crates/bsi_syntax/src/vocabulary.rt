@@ -1,4 +1,5 @@
-//! What the words of questions stand for: columns by their names, and comparisons by their constants.
+//! The trait of what the words of questions stand for (`Vocabulary`): columns by their names, and comparisons by their
+//! constants.
 
 ghost use Rattle.std.specs.Prelude.{◌≡◌};
 ghost use Rattle.bsi_syntax.specs.Vocabularies.{schema_vocabulary, NameNoWord, Words};

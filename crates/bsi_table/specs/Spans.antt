@@ -1,4 +1,5 @@
--- Spans of words that a predicate narrows.
+-- Spans of words that are intersected with the rows of which a predicate holds (`AreNarrowed`), or set at just these
+-- (`AreSelected`).
 use Rattle.std.specs.Prelude.{◌≡◌, ℕ, ◌+◌, ◌*◌, ◌<◌, ◌&&◌, List, length}
 use Rattle.bsi_bits.specs.Packed.{bit_of}
 use Rattle.bsi_shift.specs.Shifted.{OffsetColumn}

@@ -1,4 +1,4 @@
--- The totals of the rows of a selection (`IsTotalAt`).
+-- The right total of the rows of a selection (`IsTotalAt`), and which totals need no memory.
 use Rattle.std.specs.Prelude.{◌≡◌, ℕ, ℤ, Bool, List, count_by}
 use Rattle.bsi_bits.specs.BitList.{set_positions}
 use Rattle.bsi_digits.specs.Orders.{values_at}

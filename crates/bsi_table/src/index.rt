@@ -1,7 +1,7 @@
-//! The index: rows from feeders, stored column by column, and the answers to queries over them.
+//! The index (`Index`): rows from feeders, stored column by column, and the answers to queries over them.
 //!
-//! A contract sees one list of rows, each with its feeder: what the columns hold (`sourced_rows`). So answers are
-//! stated over rows, and no second promise says that the rows went into the columns.
+//! A contract sees one list of rows, each with its feeder, read from the columns (`sourced_rows`). So answers are
+//! stated over rows, and no further clause need say that the rows went into the columns.
 
 ghost use Rattle.std.specs.Prelude.{◌≡◌, ◌≢◌, ◌↔◌, [], ◌+◌, ◌<◌, ◌≤◌, None, Some, length, map, slice_get, IfErr, IfOk, IsOk, IsTrue, true, OnErr, OnOk};
 ghost use Rattle.std.specs.Result.{result_err};

@@ -1,4 +1,4 @@
-//! Boolean operations in place, and population counts.
+//! Boolean operations on `Bits` in place, and counts of the bits that are set.
 //!
 //! Each call passes over its words once and allocates no memory. No operation in place changes the room for more bits.
 

@@ -1,5 +1,5 @@
-//! The totals of a selection: the sum, by the sums of the digits, and the number of a rank, by narrowing the selection
-//! from the most significant component down.
+//! The sum of the numbers of a selection, by the sums of the digits, and the number of a given rank, by narrowing the
+//! selection from the most significant component down.
 //!
 //! Each component goes over the rows by itself: one pass for all would need a further call of `Encoding`, and would
 //! read the selection once in place of once a component.

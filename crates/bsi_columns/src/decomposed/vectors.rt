@@ -1,4 +1,5 @@
-//! Comparisons by whole vectors, for an encoding of a caller that does not work on a span of words: both of ours do.
+//! Comparisons by whole bit vectors, for an encoding of a caller that has no calls on spans of words. Equality and
+//! range encoding have them.
 
 ghost use Rattle.std.specs.Prelude.{◌≡◌, ◌<◌, ◌&&◌, length, map, IfOk};
 ghost use Rattle.std.specs.Simd.Lanes.{zip2};

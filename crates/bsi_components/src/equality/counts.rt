@@ -1,5 +1,5 @@
-//! Counts of selected rows by digit in an equality encoded component, and what follows from them: the digit of a rank,
-//! and the sum where no binary places are stored.
+//! Counts of selected rows by digit in an equality encoded component, and what follows from them: the digit of the row
+//! of a given rank, and the sum where no binary places are stored.
 
 ghost use Rattle.std.specs.Prelude.{◌≡◌, ◌<◌, ◌≤◌, ◌==◌, ◌&&◌, length, count_by, nat_eq};
 ghost use Rattle.std.specs.Simd.Lanes.{zip2};

@@ -1,5 +1,7 @@
-//! The digit of a rank in a range encoded component. A sample of the rows tells near which digit it is likely to be,
-//! and the search by halves is over after two counts where that is right. This search is this project's own.
+//! The digit, in a range encoded component, of the selected row of a given rank (from 0, in rising order).
+//!
+//! A sample of the rows tells near which digit it is likely to be, and the search by halves is over after two counts
+//! where that is right. This search is this project's own.
 
 ghost use Rattle.std.specs.Prelude.{◌≡◌, ◌+◌, ◌-◌, ◌≤◌, ◌<◌, ◌&&◌, length, count_by, nat_eq, IfSome};
 ghost use Rattle.std.specs.Simd.Lanes.{zip2};

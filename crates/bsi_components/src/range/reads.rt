@@ -1,4 +1,5 @@
-//! Implements `Reads` for range encoding: comparisons, sums, ranks, extremes, by bitmaps of rows with at most a digit.
+//! Implements `Reads` for range encoding: comparisons, sums, ranks and extremes, by bitmaps that say of each row
+//! whether its digit is at most theirs.
 
 use crate::range::{Range, RangeComponent};
 use crate::reads::Reads;

@@ -1,4 +1,4 @@
-//! The words of a selection that have a row, by their indices, where they are few.
+//! Lists the indices of words of a selection, among them all words that are not 0, where these are few (`Listed`).
 //!
 //! A pass over these words alone reads no more of the set and of a bit vector than they are.
 

@@ -1,4 +1,4 @@
-//! Comparisons of whole numbers with a constant, as comparisons of the stored numbers.
+//! Comparisons of whole numbers with a constant, as comparisons of the stored numbers; and which rows are null.
 //!
 //! A constant less the offset is below 0, or a number of 64 bits, or past them. Below 0, `=`, `<` and `<=` ask the
 //! stored column for `< 0` and the others for `>= 0`. Past 64 bits the greatest constant stands for it, because each

@@ -1,6 +1,8 @@
 //! The least and the greatest number of a selection in one pass over the column, span by span and from the most
-//! significant slice down. Most spans show at their first slices that none of their rows improves the best number so
-//! far. No set is copied, so it takes no memory.
+//! significant slice down.
+//!
+//! Most spans show at their first slices that none of their rows improves the best number so far. No set is copied, so
+//! it takes no memory.
 
 ghost use Rattle.std.specs.Prelude.{◌≡◌, ℕ, ◌+◌, ◌*◌, ◌-◌, ◌/◌, ◌≤◌, length};
 ghost use Rattle.bsi_bits.specs.BitList.{word_count};

@@ -1,4 +1,4 @@
-//! The totals of a selection: the sum, by its counts in the slices, and the number of a rank, by narrowing the
+//! The sum of the numbers of a selection, by counts in the slices, and the number of a given rank, by narrowing the
 //! selection from the most significant slice down.
 
 ghost use Rattle.std.specs.Prelude.{◌≡◌, ◌<◌, length, sum, IfOk};
