@@ -18,7 +18,7 @@ use Rattle.bsi_input.specs.Formats.{max_records}
 use Rattle.bsi_input.specs.Sources.{HasNext, HasReadRecords, IsOver}
 use Rattle.bsi_input.specs.declared.rows.SourceFault.{SourceFault}
 use Rattle.bsi_input.specs.declared.rows.SourceFault.TheVariants as source
-use Rattle.bsi_input.specs.Waiting.{AppendsPrefix}
+use Rattle.bsi_input.specs.BufferedOutput.{AppendsPrefix}
 use Rattle.bsi_input.proofs.Waiting.{cut_all, cut_whole}
 use Rattle.bsi_input.proofs.FirstRecords.{first_all, first_more, first_none, HasReadFirst}
 use Rattle.bsi_schema.specs.Columns.{Declared}

@@ -19,7 +19,7 @@ use Rattle.bsi_input.proofs.Waiting.{cut_whole}
 use Rattle.bsi_input.specs.RecordSources.{RecordSource}
 use Rattle.bsi_input.specs.Formats.{max_records}
 use Rattle.bsi_input.specs.Sources.{HasReadRecords}
-use Rattle.bsi_input.specs.Waiting.{AppendsPrefix}
+use Rattle.bsi_input.specs.BufferedOutput.{AppendsPrefix}
 use Rattle.bsi_rows.specs.Rows.{SourcedRow}
 use Rattle.bsi_rows.specs.declared.question.Question.{Question}
 use Rattle.bsi_schema.specs.Columns.{Declared}

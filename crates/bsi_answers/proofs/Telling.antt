@@ -7,7 +7,7 @@ use Rattle.std.proofs.lemmas.List.Folds.{concat-append}
 use Rattle.csv.proofs.WriteFacts.{appends-more, appends-none}
 use Rattle.bsi_syntax.specs.Bytes.{KnownBytes}
 use Rattle.bsi_syntax.specs.Lines.{fed_line}
-use Rattle.bsi_input.specs.Waiting.{AppendsPrefix}
+use Rattle.bsi_input.specs.BufferedOutput.{AppendsPrefix}
 use Rattle.bsi_answers.specs.RowFiles.{fed_counts, FedCounts}
 use Rattle.bsi_answers.specs.Runs.{fed_lines}
 use Rattle.bsi_answers.specs.declared.fed.Fed.{Fed}

@@ -7,7 +7,7 @@ use Rattle.bsi_syntax.specs.Bytes.{Bytes, KnownBytes}
 use Rattle.bsi_syntax.specs.Numbers.{Field}
 use Rattle.bsi_input.specs.Formats.{max_records}
 use Rattle.bsi_input.specs.Texts.{AreAllRecords, AreFirstRecords, AreTooMany}
-use Rattle.bsi_input.specs.Waiting.{AppendsPrefix}
+use Rattle.bsi_input.specs.BufferedOutput.{AppendsPrefix}
 use Rattle.bsi_answers.specs.declared.faults.FilesFault.{FilesFault}
 use Rattle.bsi_answers.specs.declared.faults.FilesFault.TheVariants.{Read, TooLong, NoMemory, Write}
 use Rattle.bsi_answers.specs.declared.faults.Which.TheVariants.{AsksFile}

@@ -6,7 +6,7 @@ use Rattle.bsi_syntax.specs.Bytes.{KnownBytes}
 use Rattle.bsi_syntax.specs.Lines.{fed_line}
 use Rattle.bsi_syntax.specs.declared.setups.DeclaredTable.{DeclaredTable}
 use Rattle.bsi_input.specs.SchemaTexts.{IsSchemaText}
-use Rattle.bsi_input.specs.Waiting.{AppendsPrefix}
+use Rattle.bsi_input.specs.BufferedOutput.{AppendsPrefix}
 use Rattle.bsi_rows.specs.Table.{max_feeders}
 use Rattle.bsi_schema.specs.Columns.{Declared}
 use Rattle.bsi_check.specs.Checks.{has_good_asks, is_clean, IsAsksFinding, IsFileFinding}

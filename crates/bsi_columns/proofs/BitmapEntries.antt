@@ -14,7 +14,7 @@ use Rattle.bsi_digits.specs.Digits.{components, digit_of, digits_of, product, we
 use Rattle.bsi_digits.proofs.CallerLemmas.{weighted_sum-digits_of}
 use Rattle.bsi_digits.specs.Comparisons.{number_or_zero}
 use Rattle.bsi_kernels.specs.Places.{has_place}
-use Rattle.bsi_columns.specs.Places.{bitmaps_by, digit_places, places_under, slice_places}
+use Rattle.bsi_columns.specs.StoredBitmaps.{bitmaps_by, digit_places, places_under, slice_places}
 use Rattle.bsi_columns.proofs.ColumnPlaces.{length-slice_places, rows_of_test}
 use Rattle.bsi_columns.proofs.FromBitmaps.{place_within, tests_long}
 use Rattle.bsi_columns.proofs.PieceLists.{piece_at}

@@ -9,7 +9,7 @@ use Rattle.bsi_digits.specs.Digits.{digit_of}
 use Rattle.bsi_digits.specs.Comparisons.{number_or_zero}
 use Rattle.bsi_kernels.specs.Places.{has_place}
 use Rattle.bsi_columns.specs.ComponentPlaces.{component_bitmaps, digit_bitmaps}
-use Rattle.bsi_columns.specs.Places.{bitmaps_by, digit_places, places_under, slice_places}
+use Rattle.bsi_columns.specs.StoredBitmaps.{bitmaps_by, digit_places, places_under, slice_places}
 use Rattle.bsi_columns.proofs.PieceLists.{map-pieces, pieces_more, pieces_same}
 
 -- of which entries a test holds

@@ -20,7 +20,7 @@ use Rattle.bsi_kernels.specs.Nulls.{AreClearAtNulls, HasBitOfNull}
 use Rattle.bsi_kernels.specs.Places.{has_place, IsEncoded}
 use Rattle.bsi_columns.specs.ComponentPlaces.{component_bitmaps, digit_bitmaps}
 use Rattle.bsi_columns.specs.Decomposed.{AreDigitsBelow, Decomposes}
-use Rattle.bsi_columns.specs.Places.{bits_each, bitmaps_by, digit_places, places_under, slice_places, HaveNoEntriesBelow}
+use Rattle.bsi_columns.specs.StoredBitmaps.{bits_each, bitmaps_by, digit_places, places_under, slice_places, HaveNoEntriesBelow}
 use Rattle.bsi_columns.proofs.ColumnPlaces.{component_bitmaps_of, digits_in, maps_twice, rows_of_test}
 use Rattle.bsi_columns.proofs.PieceLists.{piece_at, pieces_long, pieces_more, pieces_same, pieces_within}
 

@@ -4,7 +4,7 @@ pub mod ComponentPlaces
 pub mod Decomposed
 pub mod DigitTests
 pub mod NumberPlaces
-pub mod Places
+pub mod StoredBitmaps
 pub mod PairRelations
 pub use Rattle.bsi_slices.specs.Extremes
 pub use Rattle.bsi_digits.specs.Blocks

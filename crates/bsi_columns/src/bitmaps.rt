@@ -6,7 +6,7 @@ ghost use Rattle.bsi_digits.specs.Digits.{max_bases, product, IsBaseList};
 ghost use Rattle.bsi_kernels.specs.Places.{max_digit_places, max_places};
 ghost use Rattle.bsi_columns.specs.ComponentPlaces.{component_bitmaps};
 ghost use Rattle.bsi_columns.specs.Decomposed.{AreDigitsBelow};
-ghost use Rattle.bsi_columns.specs.Places.{bits_each, bitmaps_by, places_under, slice_places, HaveNoEntriesBelow};
+ghost use Rattle.bsi_columns.specs.StoredBitmaps.{bits_each, bitmaps_by, places_under, slice_places, HaveNoEntriesBelow};
 
 use crate::{BinaryPlaces, Decomposed, NoMemory, Slices};
 use bsi_bits::Bits;

@@ -6,7 +6,7 @@ mod any;
 mod bitmaps;
 mod decomposed;
 mod growth;
-mod places;
+mod number_places;
 
 pub use any::AnyColumn;
 pub use bitmaps::{count_places, slices_from_bitmaps};

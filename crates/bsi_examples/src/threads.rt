@@ -2,7 +2,7 @@
 
 ghost use Rattle.std.specs.Prelude.{◌≡◌, [], All, IfSome, length};
 ghost use Rattle.bsi_library.specs.Table.{no_rows};
-ghost use Rattle.bsi_library.specs.Running.{IsFeederOf};
+ghost use Rattle.bsi_library.specs.LoaderSteps.{IsFeederOf};
 
 use bsi_library::running::{
     Analyst, Closing, Feeder, History, Loader, OpenRefused, System, SystemTag, Told, open,

@@ -9,7 +9,7 @@ use Rattle.csv.specs.Reading.{Reached, default_config, reader_state, source_of, 
 use Rattle.csv.specs.declared.parser.State.TheVariants as st
 use Rattle.bsi_rows.specs.Table.{max_feeders}
 use Rattle.bsi_system.specs.Rings.{FeederState}
-use Rattle.bsi_system.specs.Running.{FeederProgress}
+use Rattle.bsi_system.specs.LoaderSteps.{FeederProgress}
 use Rattle.bsi_syntax.specs.Bytes.{KnownBytes}
 use Rattle.bsi_syntax.specs.Numbers.{Field}
 use Rattle.bsi_schema.specs.Columns.{Declared}

@@ -7,7 +7,7 @@ use Rattle.std.proofs.lemmas.List.Elements.{All-head, All-tail}
 use Rattle.std.proofs.lemmas.List.Sums.{sum_by-cons}
 use Rattle.bsi_rows.specs.Runs.{rows_from}
 use Rattle.bsi_system.specs.Rings.{FeederState, Sent}
-use Rattle.bsi_system.specs.Running.{progress_at, AlwaysHolds, FeederProgress, LoaderState, SystemName}
+use Rattle.bsi_system.specs.LoaderSteps.{progress_at, AlwaysHolds, FeederProgress, LoaderState, SystemName}
 use Rattle.bsi_rows.specs.Rows.{Entries, SourcedRow}
 use Rattle.bsi_schema.specs.Columns.{Declared}
 use Rattle.bsi_input.specs.Sources.{SourceOf}

@@ -7,7 +7,7 @@ use Rattle.std.proofs.lemmas.List.{append-nil}
 use Rattle.std.proofs.lemmas.List.Elements.{All-head, All-tail}
 use Rattle.bsi_rows.specs.Runs.{rows_from}
 use Rattle.bsi_system.specs.Rings.{new_feeder_state, new_feeders, ChannelName, FeederState, Sent}
-use Rattle.bsi_system.specs.Running.{progress_at, settled_as, with_popped, AlwaysHolds, ChangesOnlySeen, FeederProgress, IsClosingOf, IsFeederOf, IsLoaderReply, LoaderState, LoadsOne, MayLoad, SystemName}
+use Rattle.bsi_system.specs.LoaderSteps.{progress_at, settled_as, with_popped, AlwaysHolds, ChangesOnlySeen, FeederProgress, IsClosingOf, IsFeederOf, IsLoaderReply, LoaderState, LoadsOne, MayLoad, SystemName}
 use Rattle.bsi_rows.specs.Rows.{Entries, SourcedRow}
 use Rattle.bsi_schema.specs.Columns.{Declared}
 use Rattle.bsi_input.specs.Sources.{SourceOf}

@@ -1,7 +1,7 @@
 -- How feeders end (`IsFeedEnd`): closing, rows, bad records, fault; and what a run starts with (`AreReady`).
 use Rattle.std.specs.Prelude.{◌≡◌, ◌≤◌, ⊤, ℕ, suc, List, [], ◌∷◌, length, IfSome}
 use Rattle.bsi_system.specs.Rings.{FeederState}
-use Rattle.bsi_system.specs.Running.{IsClosingOf, IsFeederOf, SystemName}
+use Rattle.bsi_system.specs.LoaderSteps.{IsClosingOf, IsFeederOf, SystemName}
 use Rattle.bsi_schema.specs.Columns.{Declared}
 use Rattle.bsi_input.specs.Sources.{SourceOf}
 use Rattle.bsi_files.specs.Feeding.{HasFailed, HasFed}

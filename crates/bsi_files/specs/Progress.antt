@@ -3,7 +3,7 @@
 use Rattle.std.specs.Prelude.{◌≡◌, ⊤, All, ℕ, suc, ◌+◌, ◌<◌, true, List, [], ◌∷◌, None, Some, ◌≢◌, Bool, false, IfSome, is_some, length}
 use Rattle.std.specs.List.{list_all}
 use Rattle.bsi_rows.specs.Rows.{Entries}
-use Rattle.bsi_system.specs.Running.{progress_at, AlwaysHolds, FeederProgress, LoaderState, MayLoad}
+use Rattle.bsi_system.specs.LoaderSteps.{progress_at, AlwaysHolds, FeederProgress, LoaderState, MayLoad}
 use Rattle.bsi_files.specs.declared.feeding.FeedEnd.{FeedEnd}
 use Rattle.bsi_answers.specs.declared.fed.Fed.{Fed}
 

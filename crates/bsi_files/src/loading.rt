@@ -5,7 +5,7 @@
 //! hands over its table.
 
 ghost use Rattle.std.specs.Prelude.{◌≡◌, ◌≢◌, ◌<◌, ◌≤◌, ℕ, [], All, Err, IfErr, IfSome, None, OnErr, OnOk, Ok, Some, false, length, true};
-ghost use Rattle.bsi_system.specs.Running.{progress_at, IsClosingOf};
+ghost use Rattle.bsi_system.specs.LoaderSteps.{progress_at, IsClosingOf};
 ghost use Rattle.bsi_files.specs.Ends.{AreClosings};
 ghost use Rattle.bsi_files.specs.Progress.{all_closed, AreClosingsSettled, EndedWell, IsDrained, IsFedOf, IsFullAt, IsFullWithRowsLeft, NoneStopped, OthersUnchanged, PopsOnlyOf, SettledUnchanged};
 ghost use Rattle.bsi_answers.specs.Faults.{raised_while_loading};

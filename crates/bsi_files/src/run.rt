@@ -17,7 +17,7 @@ ghost use Rattle.bsi_files.specs.Prefixes.{HasLoadedPrefixes, IsPrefixRun};
 ghost use Rattle.bsi_files.specs.RunFaults.{is_of_loading, IsFaultOf, IsFaultOver, IsLoadFault};
 ghost use Rattle.bsi_answers.specs.Runs.{HasLoaded, IsRun};
 ghost use Rattle.bsi_answers.specs.Writing.{Leaves, WhereFilesKnown, WhereKnown, WritesAll};
-ghost use Rattle.bsi_system.specs.Running.{AlwaysHolds};
+ghost use Rattle.bsi_system.specs.LoaderSteps.{AlwaysHolds};
 
 use crate::headers::{begin_all, capacities};
 use crate::loading::{check_all, load_rest, load_until_ended, settle_all};

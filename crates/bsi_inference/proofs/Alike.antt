@@ -1,6 +1,6 @@
 -- Parts of a column that began alike, for callers of `Candidates::join`.
 use Rattle.std.proofs.Common.{ℕ, sym, ◌∙◌}
-use Rattle.bsi_inference.specs.Columns.{HaveSameForms, LooksFor}
+use Rattle.bsi_inference.specs.ColumnCandidates.{HaveSameForms, LooksFor}
 use Rattle.bsi_inference.specs.declared.candidates.Candidates.{Candidates}
 
 -- two parts that look for the same are alike

@@ -6,7 +6,7 @@ use Rattle.std.specs.List.{Contains}
 use Rattle.bsi_kinds.specs.Kinds.{IsSpelled}
 use Rattle.bsi_kinds.specs.declared.kind.Kind.{Kind}
 use Rattle.bsi_inference.specs.Choices.{HasNumberIn}
-use Rattle.bsi_inference.specs.Columns.{Accepts, AcceptsValue}
+use Rattle.bsi_inference.specs.ColumnCandidates.{Accepts, AcceptsValue}
 use Rattle.bsi_inference.specs.Decisions.{DecidesChoice, DecidesTexts, HasNumber, HasTexts, IsColumnOf, IsDecidedFor, IsTextColumn}
 use Rattle.bsi_inference.specs.Forms.{IsOfForm}
 use Rattle.bsi_inference.specs.Gatherings.{HasTextIn}

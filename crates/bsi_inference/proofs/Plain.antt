@@ -2,7 +2,7 @@
 use Rattle.std.proofs.Common.{◌≡◌, ℕ, Bool, true, false, not, ◌&&◌, List, ℤ, Some, is_some, max, arith, refl, sym, ap, ◌∙◌}
 use Rattle.std.proofs.lemmas.Bool.{and_parts}
 use Rattle.bsi_kinds.specs.Decimals.{decimal_entry, decimal_of}
-use Rattle.bsi_kinds.specs.Places.{places_written}
+use Rattle.bsi_kinds.specs.DecimalPlaces.{places_written}
 use Rattle.bsi_inference.specs.Codes.{is_code}
 use Rattle.bsi_inference.specs.Decimals.{is_plain_decimal, AreJoinedDecimals, IsBroughtTo, IsNextDecimals, IsSeenAt}
 use Rattle.bsi_inference.specs.Seen.{Covers, CoversSome, IsSeenWithAll}

@@ -3,7 +3,7 @@ use Rattle.std.proofs.Common.{◌≡◌, ◌⊎◌, inl, inr, ℕ, Bool, true, f
 use Rattle.std.specs.List.{list_any, Contains}
 use Rattle.std.specs.Str.{bytes_eq}
 use Rattle.bsi_inference.specs.Candidates.{AreJoined, AreNext, EachAccepts}
-use Rattle.bsi_inference.specs.Columns.{Accepts, AcceptsValue, HasNextKinds, HaveSameForms, IsNull}
+use Rattle.bsi_inference.specs.ColumnCandidates.{Accepts, AcceptsValue, HasNextKinds, HaveSameForms, IsNull}
 use Rattle.bsi_inference.specs.Decimals.{AcceptsDecimal, AreJoinedDecimals}
 use Rattle.bsi_inference.specs.Gatherings.{HasText, HasTextIn}
 use Rattle.bsi_kinds.specs.Nulls.{is_null_word}

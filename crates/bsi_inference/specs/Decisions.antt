@@ -6,7 +6,7 @@ use Rattle.bsi_kinds.specs.Kinds.{IsKind, IsSpelled}
 use Rattle.bsi_kinds.specs.declared.kind.Kind.{Kind}
 use Rattle.bsi_kinds.specs.declared.kind.Kind.TheVariants.{Decimal, Text}
 use Rattle.bsi_inference.specs.Choices.{choice_of, HasNumberIn, IsDateInBoth}
-use Rattle.bsi_inference.specs.Columns.{IsNull}
+use Rattle.bsi_inference.specs.ColumnCandidates.{IsNull}
 use Rattle.bsi_inference.specs.Decimals.{IsPlainDecimal}
 use Rattle.bsi_inference.specs.Forms.{IsOfForm}
 use Rattle.bsi_inference.specs.declared.candidates.Candidates.{Candidates}

@@ -1,7 +1,7 @@
 pub mod Candidates
 pub mod Choices
 pub mod Codes
-pub mod Columns
+pub mod ColumnCandidates
 pub mod Decimals
 pub mod Decisions
 pub mod Forms

@@ -5,7 +5,7 @@ ghost use Rattle.std.specs.Prelude.{◌≡◌, ◌⊎◌, true, false, map, IsTr
 ghost use Rattle.bsi_kinds.specs.Decimals.{Field};
 ghost use Rattle.bsi_inference.specs.Candidates.{first_candidate, AreJoined};
 ghost use Rattle.bsi_inference.specs.Decimals.{AreJoinedDecimals};
-ghost use Rattle.bsi_inference.specs.Columns.{has_remaining, is_null_field, Accepts, AddsOnlyField, AddsOnlyOther, GathersOn, HasJoinedKinds, HasNextKinds, HasSameKinds, HaveSameForms, IsNewColumn, IsNewTextColumn, LooksFor, MissesTexts, WasNull, WasText};
+ghost use Rattle.bsi_inference.specs.ColumnCandidates.{has_remaining, is_null_field, Accepts, AddsOnlyField, AddsOnlyOther, GathersOn, HasJoinedKinds, HasNextKinds, HasSameKinds, HaveSameForms, IsNewColumn, IsNewTextColumn, LooksFor, MissesTexts, WasNull, WasText};
 
 use crate::NoMemory;
 use crate::candidate::{Candidate, find_remaining, join_each, observe_each};

@@ -5,7 +5,7 @@ ghost use Rattle.std.specs.Prelude.{◌≡◌, ℕ};
 ghost use Rattle.bsi_kinds.specs.Decimals.{Field};
 ghost use Rattle.bsi_inference.specs.Candidates.{EachAccepts};
 ghost use Rattle.bsi_inference.specs.Choices.{choice_of, date_choice, form_choice, order_choice, HasFewPlaces, HasFormNumberIn, IsChosenFor};
-ghost use Rattle.bsi_inference.specs.Columns.{AcceptsValue};
+ghost use Rattle.bsi_inference.specs.ColumnCandidates.{AcceptsValue};
 
 use crate::candidate::{Candidate, find_remaining, has_month_first};
 use crate::candidates::Candidates;

@@ -2,7 +2,7 @@
 
 ghost use Rattle.std.specs.Prelude.{◌≤◌, length, IfOk};
 ghost use Rattle.bsi_kinds.specs.Decimals.{Field};
-ghost use Rattle.bsi_inference.specs.Columns.{Accepts};
+ghost use Rattle.bsi_inference.specs.ColumnCandidates.{Accepts};
 ghost use Rattle.bsi_inference.specs.Decisions.{Decides, DecidesTexts, HasKind, IsColumnOf, IsDecidedFor, IsTextColumn};
 
 use crate::NoMemory;

@@ -22,7 +22,7 @@ use Rattle.bsi_input.specs.Scripts.{Phase, Declaring, IsTurn, AreTurns}
 use Rattle.bsi_syntax.specs.Setups.{nothing_declared}
 use Rattle.bsi_input.specs.Formats.{max_records}
 use Rattle.bsi_input.specs.Texts.{AreFirstRecords, IsAnswered, IsTooLong, WrotePrefix, WroteWholeLines}
-use Rattle.bsi_input.specs.Waiting.{AppendsAllBut, AppendsPrefix, HoldsAfterAnyPartialFlush, HoldsAfterFlush}
+use Rattle.bsi_input.specs.BufferedOutput.{AppendsAllBut, AppendsPrefix, HoldsAfterAnyPartialFlush, HoldsAfterFlush}
 use Rattle.bsi_input.proofs.AllRecords.{all_records, records_behind, records_end}
 use Rattle.bsi_input.proofs.Named.{turns_named}
 use Rattle.bsi_input.proofs.Turns.{extended, no_turn, one_turn, turns_behind}

@@ -7,7 +7,7 @@ use Rattle.std.proofs.Math.Seq.{take-nil, take-append-add}
 use Rattle.csv.proofs.WriteFacts.{appends-more, appends-none}
 use Rattle.csv.specs.Reading.{strip_bom}
 use Rattle.bsi_input.specs.Texts.{ForText}
-use Rattle.bsi_input.specs.Waiting.{AppendsAllBut, AppendsPrefix}
+use Rattle.bsi_input.specs.BufferedOutput.{AppendsAllBut, AppendsPrefix}
 use Rattle.bsi_syntax.specs.Bytes.{KnownBytes}
 
 -- nothing was written, and all of it waits

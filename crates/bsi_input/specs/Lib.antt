@@ -7,4 +7,4 @@ pub mod SchemaTexts
 pub mod Scripts
 pub mod Sources
 pub mod Texts
-pub mod Waiting
+pub mod BufferedOutput

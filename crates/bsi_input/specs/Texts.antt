@@ -10,7 +10,7 @@ use Rattle.bsi_syntax.specs.Bytes.{Bytes, KnownBytes}
 use Rattle.bsi_syntax.specs.Numbers.{Field}
 use Rattle.bsi_input.specs.Scripts.{IsScriptRun}
 use Rattle.bsi_input.specs.Formats.{max_records}
-use Rattle.bsi_input.specs.Waiting.{HoldsAfterFlush}
+use Rattle.bsi_input.specs.BufferedOutput.{HoldsAfterFlush}
 
 -- All records of a text, after any byte order mark.
 abbrev pub AreAllRecords : List ℕ → List (List Field) → Type 0

@@ -2,7 +2,7 @@
 
 ghost use Rattle.std.specs.Prelude.{OnErr, OnOk};
 ghost use Rattle.std.specs.Io.KnownBytes.{Appends};
-ghost use Rattle.bsi_input.specs.Waiting.{AppendsPrefix};
+ghost use Rattle.bsi_input.specs.BufferedOutput.{AppendsPrefix};
 
 use std::io::Write;
 

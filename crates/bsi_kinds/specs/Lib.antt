@@ -9,7 +9,7 @@ pub mod Dictionaries
 pub mod FieldNumbers
 pub mod Kinds
 pub mod Nulls
-pub mod Places
+pub mod DecimalPlaces
 pub mod Predicates
 pub mod Rounding
 pub mod Times

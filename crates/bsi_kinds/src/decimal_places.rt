@@ -2,7 +2,7 @@
 
 ghost use Rattle.std.specs.Prelude.{◌≡◌, ◌^◌, ◌<◌, is_some, neg_ℤ, pos, ◌≤ℤ◌};
 ghost use Rattle.bsi_kinds.specs.Decimals.{decimal_of};
-ghost use Rattle.bsi_kinds.specs.Places.{moved_places, places_written};
+ghost use Rattle.bsi_kinds.specs.DecimalPlaces.{moved_places, places_written};
 
 use crate::decimal::{read_exponent, scan, split_at_byte, split_at_exponent, split_sign};
 

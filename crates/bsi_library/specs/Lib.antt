@@ -11,7 +11,7 @@ pub use Rattle.bsi_digits.specs.Orders
 pub use Rattle.bsi_digits.specs.Comparisons
 pub use Rattle.bsi_digits.specs.Totals
 pub use Rattle.bsi_system.specs.Opening
-pub use Rattle.bsi_system.specs.Running
+pub use Rattle.bsi_system.specs.LoaderSteps
 pub use Rattle.bsi_table.specs.Answers
 pub use Rattle.bsi_table.specs.Columns
 pub use Rattle.bsi_table.specs.Index

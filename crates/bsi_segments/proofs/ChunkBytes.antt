@@ -7,7 +7,7 @@ use Rattle.std.proofs.lemmas.List.{drop_all, take-append-drop, take-append-le}
 use borrow.Rule.Slice.PartMut.{put_mid, post_of}
 use Rattle.std.specs.Io.KnownBytes.{Appends, Consumes, IsAtEnd}
 use Rattle.std.proofs.KnownBytes.{Appends-trans, Consumes-trans}
-use Rattle.bsi_input.specs.Waiting.{AppendsPrefix}
+use Rattle.bsi_input.specs.BufferedOutput.{AppendsPrefix}
 use Rattle.bsi_input.proofs.Waiting.{cut_front, cut_whole}
 use Rattle.bsi_segments.specs.declared.fault.SegmentFault.{SegmentFault}
 use Rattle.bsi_segments.specs.declared.fault.SegmentFault.TheVariants.{CutShort, Damaged, NoMemory, NotASegment, OtherVersion, Read}

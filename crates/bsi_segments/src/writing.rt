@@ -2,7 +2,7 @@
 
 ghost use Rattle.std.specs.Prelude.{OnErr, OnOk};
 ghost use Rattle.std.specs.Io.KnownBytes.{Appends};
-ghost use Rattle.bsi_input.specs.Waiting.{AppendsPrefix};
+ghost use Rattle.bsi_input.specs.BufferedOutput.{AppendsPrefix};
 ghost use Rattle.bsi_segments.specs.Segments.{bytes_of, segment};
 
 use crate::checksums::checksum;

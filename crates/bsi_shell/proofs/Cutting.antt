@@ -3,7 +3,7 @@ use Rattle.std.proofs.Common.{ℕ, List, ◌++◌, Some, None, Result, Ok, Err, 
 use Rattle.std.specs.Io.KnownBytes.{Appends}
 use Rattle.std.specs.Prelude.{IsErr, OnErr, OnOk}
 use Rattle.bsi_shell.specs.FaultLines.{IsLineWritten}
-use Rattle.bsi_input.specs.Waiting.{AppendsPrefix}
+use Rattle.bsi_input.specs.BufferedOutput.{AppendsPrefix}
 use Rattle.bsi_input.specs.declared.writing.WriteFault.{WriteFault}
 use Rattle.bsi_syntax.specs.Bytes.{KnownBytes}
 

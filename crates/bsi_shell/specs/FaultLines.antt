@@ -6,7 +6,7 @@ use Rattle.bsi_shell.specs.declared.files.RunFault.{RunFault}
 use Rattle.bsi_shell.specs.declared.files.RunFault.TheVariants.{CannotOpen, Run}
 use Rattle.bsi_shell.specs.declared.request.Subcommand.{Subcommand}
 use Rattle.bsi_shell.specs.declared.request.Subcommand.TheVariants.{Check, Save, Add, Ask, Show}
-use Rattle.bsi_input.specs.Waiting.{AppendsPrefix}
+use Rattle.bsi_input.specs.BufferedOutput.{AppendsPrefix}
 use Rattle.bsi_input.specs.declared.writing.WriteFault.{WriteFault}
 use Rattle.bsi_syntax.specs.Bytes.{KnownBytes}
 

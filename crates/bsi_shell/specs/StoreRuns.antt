@@ -3,7 +3,7 @@ use Rattle.std.specs.Io.KnownBytes.{Keeps}
 use Rattle.std.specs.Borrow.{Bor}
 use Rattle.std.specs.List.{Contains}
 use Rattle.std.specs.Prelude.{◌≡◌, ◌⊎◌, ℕ, Bool, List, IfSome, IsOk, Result, Err, length}
-use Rattle.bsi_store.specs.Loads.{HasAdded, HasSaved, IsAddFault, IsSaveFault, LeavesReported}
+use Rattle.bsi_store.specs.Saving.{HasAdded, HasSaved, IsAddFault, IsSaveFault, LeavesReported}
 use Rattle.bsi_store.specs.declared.add.AddPaths.{AddPaths}
 use Rattle.bsi_store.specs.declared.save.SavePaths.{SavePaths}
 use Rattle.bsi_answers.specs.declared.faults.FilesFault.TheVariants.{NoMemory, Write}

@@ -13,7 +13,7 @@ use Rattle.std.proofs.lemmas.List.Elements.{All-from_get_or, All-head, All-tail}
 use Rattle.std.proofs.lemmas.List.FromFn.{get_or-map-range_with_len, get_or-range_with_len, length-map-range_with_len, length-range_with_len}
 use Rattle.std.proofs.lemmas.Nat.{pow-add}
 use Rattle.bsi_bits.specs.BitList.{word_count}
-use Rattle.bsi_columns.specs.Places.{digit_places, places_under}
+use Rattle.bsi_columns.specs.StoredBitmaps.{digit_places, places_under}
 use Rattle.bsi_columns.proofs.ColumnPlaces.{length-slice_places}
 use Rattle.bsi_columns.proofs.FromBitmaps.{tests_long}
 use Rattle.bsi_digits.specs.Digits.{components, IsBaseList}

@@ -9,7 +9,7 @@ use Rattle.bsi_bits.specs.BitList.{word_count, BitList}
 use Rattle.bsi_bits.specs.BitLists.{bits_at}
 use Rattle.bsi_bits.specs.Packed.{bit_of}
 use Rattle.bsi_digits.specs.Comparisons.{number_or_zero}
-use Rattle.bsi_columns.specs.Places.{bits_each, form_places}
+use Rattle.bsi_columns.specs.StoredBitmaps.{bits_each, form_places}
 use Rattle.bsi_columns.proofs.FromBitmaps.{read_bits}
 use Rattle.bsi_origins.specs.Origins.{HasOtherFeeder}
 use Rattle.bsi_schema.specs.Columns.{Entries, NamedColumn}

@@ -4,7 +4,7 @@ ghost use Rattle.std.specs.Prelude.{◌≡◌, ◌++◌, OnOk};
 ghost use Rattle.std.specs.List.{flat_map};
 ghost use Rattle.bsi_columns.specs.AnyColumns.{any_entries, any_form};
 ghost use Rattle.bsi_columns.specs.ComponentPlaces.{digit_bitmaps};
-ghost use Rattle.bsi_columns.specs.Places.{bitmaps_by, column_bitmaps, places_under, slice_places};
+ghost use Rattle.bsi_columns.specs.StoredBitmaps.{bitmaps_by, column_bitmaps, places_under, slice_places};
 ghost use Rattle.bsi_segments.specs.Bitmaps.{packed};
 
 use crate::NoMemory;

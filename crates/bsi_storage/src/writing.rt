@@ -3,7 +3,7 @@
 ghost use Rattle.std.specs.Prelude.{◌≡◌, ◌≤◌, IfErr, OnErr, OnOk, length};
 ghost use Rattle.std.specs.Io.KnownBytes.{Appends};
 ghost use Rattle.bsi_table.specs.Index.{table_of};
-ghost use Rattle.bsi_input.specs.Waiting.{AppendsPrefix};
+ghost use Rattle.bsi_input.specs.BufferedOutput.{AppendsPrefix};
 ghost use Rattle.bsi_storage.specs.Saved.{max_notes, table_segment, MayBeSaved};
 
 use crate::SaveFault;

@@ -18,7 +18,7 @@ use Rattle.bsi_store.specs.Asked.{IsSavedIn}
 use Rattle.bsi_store.specs.declared.fault.FileFault.TheVariants as file
 use Rattle.bsi_store.specs.declared.fault.StoreFault.{StoreFault}
 use Rattle.bsi_store.specs.declared.fault.StoreFault.TheVariants.{Unusable}
-use Rattle.bsi_store.specs.Loads.{HasFailedRun, IsAddFault, IsNotAboutBytes, IsRowFilesFault, IsRunFaultOver}
+use Rattle.bsi_store.specs.Saving.{HasFailedRun, IsAddFault, IsNotAboutBytes, IsRowFilesFault, IsRunFaultOver}
 use Rattle.bsi_syntax.specs.Bytes.{KnownBytes}
 
 schema_written : (fault : SchemaFault) → schema_fault fault ≢ Write

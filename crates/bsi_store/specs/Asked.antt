@@ -1,7 +1,7 @@
 -- What `bsi ask` and `bsi show` write of a saved index, in full or up to a fault (`HasAsked`, `HasShown`).
 use Rattle.std.specs.Prelude.{◌≡◌, ◌≢◌, ◌⊎◌, Bool, false, ℕ, Option, None, IfSome}
 use Rattle.std.specs.Io.KnownBytes.{Appends}
-use Rattle.bsi_input.specs.Waiting.{AppendsPrefix}
+use Rattle.bsi_input.specs.BufferedOutput.{AppendsPrefix}
 use Rattle.bsi_store.specs.Lines.{IsShownText}
 use Rattle.bsi_rows.specs.Table.{Table}
 use Rattle.bsi_answers.specs.AskLines.{IsAskLine}

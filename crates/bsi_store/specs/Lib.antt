@@ -1,4 +1,4 @@
 pub mod Asked
 pub mod Faults
 pub mod Lines
-pub mod Loads
+pub mod Saving

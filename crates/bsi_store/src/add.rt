@@ -7,7 +7,7 @@ ghost use Rattle.bsi_answers.specs.Runs.{HasLoaded};
 ghost use Rattle.bsi_rows.specs.Table.{max_feeders, no_rows, with_rows};
 ghost use Rattle.bsi_storage.specs.Faults.{AcceptsRowsOf};
 ghost use Rattle.bsi_storage.specs.Saved.{max_notes, table_segment, MayBeSaved};
-ghost use Rattle.bsi_store.specs.Loads.{HasAdded, IsAddFault, IsMet, IsNotAboutBytes, IsReadOf, IsRunFaultOver, LeavesReported, ReportsOn};
+ghost use Rattle.bsi_store.specs.Saving.{HasAdded, IsAddFault, IsMet, IsNotAboutBytes, IsReadOf, IsRunFaultOver, LeavesReported, ReportsOn};
 ghost use Rattle.std.specs.List.{Contains};
 ghost use Rattle.bsi_store.specs.Faults.{IsFileFault, NamesPath};
 ghost use Rattle.bsi_table.specs.Index.{table_of};

@@ -2,7 +2,7 @@
 
 ghost use Rattle.std.specs.Prelude.{◌≡◌, IfErr, IfOk, length};
 ghost use Rattle.std.specs.List.{Contains};
-ghost use Rattle.bsi_store.specs.Loads.{IsNotAboutBytes};
+ghost use Rattle.bsi_store.specs.Saving.{IsNotAboutBytes};
 ghost use Rattle.bsi_store.specs.Faults.{NamesPath};
 
 use crate::{FileFault, LockFile, StoreFault, open_file};

@@ -4,7 +4,7 @@ ghost use Rattle.std.specs.Prelude.{◌≡◌, [], IfErr, IfOk, OnOk};
 ghost use Rattle.std.specs.Io.KnownBytes.{Appends};
 ghost use Rattle.bsi_table.specs.Index.{table_of};
 ghost use Rattle.bsi_storage.specs.Saved.{table_segment, MayBeSaved};
-ghost use Rattle.bsi_store.specs.Loads.{IsNotAboutBytes};
+ghost use Rattle.bsi_store.specs.Saving.{IsNotAboutBytes};
 ghost use Rattle.bsi_store.specs.Faults.{NamesPath};
 
 use crate::target::SaveTarget;

@@ -2,7 +2,7 @@
 
 ghost use Rattle.std.specs.Prelude.{◌≡◌, ◌<◌, ◌≤◌, ◌⊎◌, [], IfErr, IfOk, IfSome, List, OnOk, Some, false, length, map, ℕ};
 ghost use Rattle.std.specs.Io.KnownBytes.{Appends};
-ghost use Rattle.bsi_store.specs.Loads.{HasFailedRun, HasSaved, IsNotAboutBytes, IsSaveFault, LeavesReported, ReportsOn};
+ghost use Rattle.bsi_store.specs.Saving.{HasFailedRun, HasSaved, IsNotAboutBytes, IsSaveFault, LeavesReported, ReportsOn};
 ghost use Rattle.bsi_answers.specs.RowFiles.{fed_counts};
 ghost use Rattle.bsi_answers.specs.Runs.{HasLoaded};
 ghost use Rattle.bsi_input.specs.SchemaTexts.{IsSchemaText};

@@ -1,7 +1,7 @@
 //! Makes the lines that `bsi save` and `bsi add` write: one for each row file, and how many rows they gave.
 
 ghost use Rattle.std.specs.Prelude.{◌≡◌, ◌≤◌, IfOk, length, map};
-ghost use Rattle.bsi_store.specs.Loads.{loaded_lines};
+ghost use Rattle.bsi_store.specs.Saving.{loaded_lines};
 ghost use Rattle.bsi_answers.specs.RowFiles.{fed_counts};
 ghost use Rattle.bsi_rows.specs.Table.{max_feeders};
 

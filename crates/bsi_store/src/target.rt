@@ -2,7 +2,7 @@
 
 ghost use Rattle.std.specs.Prelude.{◌≡◌, false, IfErr, IfOk};
 ghost use Rattle.bsi_segments.specs.Segments.{MayBegin};
-ghost use Rattle.bsi_store.specs.Loads.{IsMet};
+ghost use Rattle.bsi_store.specs.Saving.{IsMet};
 ghost use Rattle.bsi_store.specs.Faults.{NamesPath};
 
 use crate::add_file::is_at;

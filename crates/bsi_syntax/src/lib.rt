@@ -3,7 +3,7 @@
 
 mod columns;
 mod grammar;
-mod heads;
+mod leading_fields;
 mod lines;
 mod numbers;
 mod predicates;
@@ -14,7 +14,7 @@ mod setups;
 mod vocabulary;
 
 pub use grammar::{Expected, Grammar, QuestionError, Stop};
-pub use heads::lend_fields;
+pub use leading_fields::lend_fields;
 pub use lines::{write_bad, write_fed, write_reply};
 pub use numbers::{read_entry, read_number, read_signed, read_value};
 pub use predicates::{MAX_PREDICATE_FIELDS, read_predicate};

@@ -8,7 +8,7 @@ ghost use Rattle.bsi_syntax.specs.Reading.{texts, was_read, IsParsedAs, IsReadAs
 
 use crate::NoMemory;
 use crate::grammar::{Expected, Grammar, QuestionError, Stop};
-use crate::heads::{lend_fields, read_column, read_count};
+use crate::leading_fields::{lend_fields, read_column, read_count};
 use crate::predicates::read_predicate_in;
 use crate::vocabulary::Vocabulary;
 use bsi_rows::{Query, Schema, Total};

@@ -8,7 +8,7 @@ ghost use Rattle.bsi_syntax.specs.Reading.{texts, IsParsedAs};
 ghost use Rattle.bsi_syntax.specs.declared.grammar.Grammar.TheVariants.{Index};
 
 use crate::grammar::{Expected, Grammar, QuestionError, Stop};
-use crate::heads::{read_column, read_count};
+use crate::leading_fields::{read_column, read_count};
 use crate::predicates::read_predicate;
 use crate::queries::{read_query_in, read_total};
 use crate::vocabulary::Vocabulary;

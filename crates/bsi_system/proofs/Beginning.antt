@@ -8,7 +8,7 @@ use Rattle.bsi_rows.specs.Rows.{Entries}
 use Rattle.bsi_rows.specs.Table.{no_rows}
 use Rattle.bsi_system.specs.Rings.{channels_of, new_feeder_state, new_feeders, new_reader, AreOpened, ChannelName, FeederState, IsWhole, RingReader}
 use Rattle.bsi_snapshots.specs.Versions.{PublisherState}
-use Rattle.bsi_system.specs.Running.{loader_state, new_loader_state, no_progress, progress_at, progress_of, seen_of, FeederProgress, IsFeederOf, IsLoader, SystemName}
+use Rattle.bsi_system.specs.LoaderSteps.{loader_state, new_loader_state, no_progress, progress_at, progress_of, seen_of, FeederProgress, IsFeederOf, IsLoader, SystemName}
 
 progress-new : (channels : List ChannelName) → progress_of (map new_reader channels) ≡ map (λ (channel : ChannelName). no_progress) channels
 progress-new [] = refl

@@ -18,7 +18,7 @@ use Rattle.bsi_system.specs.declared.ring_reader.Front.TheVariants as front
 use Rattle.bsi_system.specs.Rings.{channels_of, with_more_popped, with_seen, AllFit, ChannelName, IsWhole, RingReader, Sent}
 use Rattle.bsi_snapshots.specs.Versions.{with_all_published, PublisherState}
 use Rattle.bsi_system.specs.Readers.{AreFirstAt, AreUnpopped, HasFirst, IsBatchAt, IsFirstAt, IsFirstReply, LooksAtReader, PopsAt, SettlesAt, StagesFirst}
-use Rattle.bsi_system.specs.Running.{carried, loader_state, no_progress, popped, progress_at, progress_of, reader_progress, seen, seen_at, seen_of, settled_as, with_popped_rows, AlwaysHolds, Balanced, ChangesOnlySeen, FeederProgress, IsLoader, LoaderState, LoadsMany, LoadsOne, LoadsRows, MayLoad, WithinCarried}
+use Rattle.bsi_system.specs.LoaderSteps.{carried, loader_state, no_progress, popped, progress_at, progress_of, reader_progress, seen, seen_at, seen_of, settled_as, with_popped_rows, AlwaysHolds, Balanced, ChangesOnlySeen, FeederProgress, IsLoader, LoaderState, LoadsMany, LoadsOne, LoadsRows, MayLoad, WithinCarried}
 
 -- ---- one place of a list
 

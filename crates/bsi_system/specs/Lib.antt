@@ -1,4 +1,4 @@
 pub mod Opening
 pub mod Readers
 pub mod Rings
-pub mod Running
+pub mod LoaderSteps

@@ -4,7 +4,7 @@ use Rattle.bsi_schema.specs.Columns.{Declared}
 use Rattle.bsi_rows.specs.Refusals.{IsFirstOr}
 use Rattle.bsi_rows.specs.declared.sizes.MakeError.{MakeError}
 use Rattle.bsi_rows.specs.declared.sizes.MakeError.TheVariants as made
-use Rattle.bsi_system.specs.Running.{new_loader_state}
+use Rattle.bsi_system.specs.LoaderSteps.{new_loader_state}
 use Rattle.bsi_system.specs.declared.system.OpenRefused.{OpenRefused}
 use Rattle.bsi_system.specs.declared.system.OpenRefused.TheVariants.{Make, Readers}
 

@@ -8,7 +8,7 @@ use Rattle.bsi_rows.specs.declared.event.LoadRefused.TheVariants as load
 use Rattle.bsi_system.specs.declared.ring_reader.Front.{Front}
 use Rattle.bsi_system.specs.Rings.{channels_of, with_more_popped, with_seen, AllFit, IsFront, IsWhole, RingReader, Sent, Settles}
 use Rattle.bsi_snapshots.specs.Versions.{with_staged_rows, PublisherState}
-use Rattle.bsi_system.specs.Running.{progress_at, progress_of, seen_at, seen_of, FeederProgress, IsSettled, MayLoad}
+use Rattle.bsi_system.specs.LoaderSteps.{progress_at, progress_of, seen_at, seen_of, FeederProgress, IsSettled, MayLoad}
 
 -- The reader of feeder f was looked at.
 pub record LooksAtReader (old : List RingReader) (f : ℕ) (front : Front) (new : List RingReader) : Type 0 where

@@ -4,7 +4,7 @@
 //! memory, and rows that come back could not go to the front of the ring again.
 
 ghost use Rattle.std.specs.Prelude.{◌≡◌, ◌≢◌, ◌+◌, ◌≤◌, ◌++◌, IfErr, IfOk, IfSome, OnErr, OnOk, length};
-ghost use Rattle.bsi_system.specs.Running.{carried, published_all, seen, settled_as, AlwaysHolds, ChangesOnlySeen, IsBatchLoadReply, IsClosingOf, IsLoaderReply, LoadsMany, LoadsOne, RefusesOnlyWithRow};
+ghost use Rattle.bsi_system.specs.LoaderSteps.{carried, published_all, seen, settled_as, AlwaysHolds, ChangesOnlySeen, IsBatchLoadReply, IsClosingOf, IsLoaderReply, LoadsMany, LoadsOne, RefusesOnlyWithRow};
 
 use crate::readers::{SettleRefused, check_first, pop_rows_of, settle_reader};
 use crate::staging::{stage_first, stage_next};
@@ -24,7 +24,7 @@ pub struct Loader<B: SystemTag> {
 // Clauses see which rings there are, the schema and the limit, what was popped of each feeder and what its closing
 // carried, the rows that are seen in its ring, those that are published, and those that are staged.
 impl<B: SystemTag> Model for Loader<B> {
-    ghost use Rattle.bsi_system.specs.Running.{loader_state, IsLoader, LoaderState};
+    ghost use Rattle.bsi_system.specs.LoaderSteps.{loader_state, IsLoader, LoaderState};
 
     ghost Value = { LoaderState };
 

@@ -4,7 +4,7 @@ ghost use Rattle.std.specs.Prelude.{◌≡◌, ◌<◌, ◌≤◌, ◌++◌, [],
 ghost use Rattle.bsi_rows.specs.Table.{no_rows};
 ghost use Rattle.bsi_rows.specs.Sizes.{sizes_refusal};
 ghost use Rattle.bsi_system.specs.Rings.{new_feeders};
-ghost use Rattle.bsi_system.specs.Running.{new_loader_state, IsFeederOf};
+ghost use Rattle.bsi_system.specs.LoaderSteps.{new_loader_state, IsFeederOf};
 ghost use Rattle.bsi_system.specs.Opening.{IsOpenRefusal};
 ghost use Rattle.bsi_snapshots.specs.Versions.{max_analysts};
 

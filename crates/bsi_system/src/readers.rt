@@ -4,7 +4,7 @@
 ghost use Rattle.std.specs.Prelude.{◌≡◌, ◌≢◌, ◌<◌, ◌≤◌, Some, IfErr, IfOk, IfSome, OnErr, OnOk, length, slice_get};
 ghost use Rattle.std.specs.Option.{option_copied};
 ghost use Rattle.bsi_system.specs.Rings.{channels_of};
-ghost use Rattle.bsi_system.specs.Running.{progress_of, seen_at, seen_of, RefusesOnlyWithRow};
+ghost use Rattle.bsi_system.specs.LoaderSteps.{progress_of, seen_at, seen_of, RefusesOnlyWithRow};
 ghost use Rattle.bsi_system.specs.Readers.{AreUnpopped, HasFirst, IsBatchAt, IsFirstAt, IsFirstReply, LooksAtReader, PopsAt, SettlesAt};
 
 use crate::{Closing, Front, NoMemory, RingReader};

@@ -3,7 +3,7 @@
 ghost use Rattle.std.specs.Prelude.{◌≡◌, ◌+◌, ◌<◌, ◌≤◌, IfOk, OnErr, OnOk, length, true};
 ghost use Rattle.bsi_rows.specs.Table.{AreEncodedAlike};
 ghost use Rattle.bsi_system.specs.Readers.{HasFirst, StagesFirst};
-ghost use Rattle.bsi_system.specs.Running.{IsLoader};
+ghost use Rattle.bsi_system.specs.LoaderSteps.{IsLoader};
 
 use crate::readers::{copy_first_of, first_batch_of, first_row_of};
 use crate::{NoMemory, RingReader};

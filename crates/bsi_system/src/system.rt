@@ -5,7 +5,7 @@ ghost use Rattle.bsi_rows.specs.Refusals.{IsFirstOr};
 ghost use Rattle.bsi_rows.specs.Table.{no_rows};
 ghost use Rattle.bsi_rows.specs.Sizes.{sizes_refusal};
 ghost use Rattle.bsi_system.specs.Rings.{new_feeders};
-ghost use Rattle.bsi_system.specs.Running.{new_loader_state};
+ghost use Rattle.bsi_system.specs.LoaderSteps.{new_loader_state};
 ghost use Rattle.bsi_snapshots.specs.Versions.{max_analysts};
 
 use crate::{Feeder, Loader, Rings, open_rings};

@@ -9,7 +9,7 @@ use Rattle.std.proofs.lemmas.List.Elements.{All-head, All-map, All-tail, All-wea
 use Rattle.bsi_bits.specs.BitList.{BitList}
 use Rattle.bsi_bits.specs.BitLists.{bits_at}
 use Rattle.bsi_columns.specs.AnyColumns.{any_entries, AnyForm}
-use Rattle.bsi_columns.specs.Places.{bits_each, column_bitmaps, form_places, HaveNoEntriesBelow}
+use Rattle.bsi_columns.specs.StoredBitmaps.{bits_each, column_bitmaps, form_places, HaveNoEntriesBelow}
 use Rattle.bsi_columns.proofs.FromBitmaps.{read_bits}
 use Rattle.bsi_digits.proofs.CallerLemmas.{size_pos}
 use Rattle.bsi_digits.specs.Offsets.{number_of}

@@ -7,7 +7,7 @@ use Rattle.std.proofs.lemmas.List.{ext_get_or, get_or-map, length-map}
 use Rattle.std.proofs.lemmas.List.Elements.{All-get_or, All-map, All-weaker}
 use Rattle.std.proofs.lemmas.List.FromFn.{get_or-range_with_len, length-range_with_len}
 use Rattle.bsi_digits.specs.Offsets.{number_of}
-use Rattle.bsi_columns.specs.Places.{form_places}
+use Rattle.bsi_columns.specs.StoredBitmaps.{form_places}
 use Rattle.bsi_columns.proofs.BitmapEntries.{digits_distinguish, same_stored, slices_distinguish, Distinguish}
 use Rattle.bsi_schema.specs.declared.form.Form.{Form}
 use Rattle.bsi_schema.specs.declared.form.Form.TheVariants.{Slices, Equality, Range}

@@ -1,7 +1,7 @@
 -- The bitmaps of a column of a table (`bitmaps_of`): the not-null bitmap, then the binary places of what is stored.
 use Rattle.std.specs.Prelude.{◌≢◌, ℕ, ℤ, ◌-ℤ◌, ◌+◌, Bool, List, Option, All, length, map, unsigned_abs, IsTrue}
 use Rattle.std.specs.Option.{option_map}
-use Rattle.bsi_columns.specs.Places.{column_bitmaps, form_places}
+use Rattle.bsi_columns.specs.StoredBitmaps.{column_bitmaps, form_places}
 use Rattle.bsi_schema.specs.declared.form.Form.{Form}
 use Rattle.bsi_schema.specs.Columns.{column_at, is_accepted_by, Declared, Entries, NamedColumn}
 use Rattle.bsi_rows.specs.Rows.{column_of, SourcedRow}

@@ -3,7 +3,7 @@
 ghost use Rattle.std.specs.Prelude.{◌≡◌, ℕ, ◌+◌, ◌<◌, All, length, IfNone, IfOk, IfSome};
 ghost use Rattle.bsi_bits.specs.BitLists.{bits_at};
 ghost use Rattle.bsi_columns.specs.AnyColumns.{any_entries};
-ghost use Rattle.bsi_columns.specs.Places.{bits_each, column_bitmaps, form_places, HaveNoEntriesBelow};
+ghost use Rattle.bsi_columns.specs.StoredBitmaps.{bits_each, column_bitmaps, form_places, HaveNoEntriesBelow};
 ghost use Rattle.bsi_schema.specs.Columns.{column_at, size_in, IsForm};
 ghost use Rattle.bsi_shift.specs.Shifted.{shifted_entries};
 ghost use Rattle.bsi_table.specs.Bitmaps.{bitmap_count, entries_bitmaps, HaveNoEntries};

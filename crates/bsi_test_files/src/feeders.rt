@@ -3,7 +3,7 @@
 
 ghost use Rattle.std.specs.Prelude.{◌≡◌, [], IfSome, length};
 ghost use Rattle.bsi_rows.specs.Table.{no_rows};
-ghost use Rattle.bsi_system.specs.Running.{IsFeederOf};
+ghost use Rattle.bsi_system.specs.LoaderSteps.{IsFeederOf};
 
 use crate::gates::{Meeting, Patience};
 use crate::inputs::{Input, broken, text};

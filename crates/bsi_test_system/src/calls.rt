@@ -2,7 +2,7 @@
 
 ghost use Rattle.std.specs.Prelude.{◌≡◌, ◌≤◌, [], All, IfSome, length};
 ghost use Rattle.bsi_rows.specs.Table.{no_rows};
-ghost use Rattle.bsi_system.specs.Running.{IsFeederOf};
+ghost use Rattle.bsi_system.specs.LoaderSteps.{IsFeederOf};
 ghost use Rattle.bsi_snapshots.specs.Versions.{max_analysts};
 
 use bsi_system::{

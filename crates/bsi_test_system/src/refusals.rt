@@ -1,7 +1,7 @@
 //! Steps for `tests.rt`: what the ends of a running system refuse, and what they do without memory, in one thread.
 
 ghost use Rattle.std.specs.Prelude.{◌≡◌};
-ghost use Rattle.bsi_system.specs.Running.{IsFeederOf, IsClosingOf};
+ghost use Rattle.bsi_system.specs.LoaderSteps.{IsFeederOf, IsClosingOf};
 
 use crate::calls::{load, publish, row, submit};
 use bsi_system::{Analyst, Closing, Feeder, LoadRefused, Loader, SettleRefused, SystemTag};

@@ -2,7 +2,7 @@
 
 ghost use Rattle.std.specs.Prelude.{◌≡◌, [], All, length};
 ghost use Rattle.bsi_rows.specs.Table.{no_rows};
-ghost use Rattle.bsi_system.specs.Running.{IsFeederOf};
+ghost use Rattle.bsi_system.specs.LoaderSteps.{IsFeederOf};
 
 use crate::batches::{fill_by_batches, send_batches};
 use crate::calls::{ask, count_of, load, opened, publish, quantities, submit, sum_of, went_right};

@@ -7,10 +7,10 @@ mod batches;
 #[cfg(test)]
 mod groups;
 #[cfg(test)]
+mod indexes;
+#[cfg(test)]
 mod machine;
 #[cfg(test)]
 mod numbers;
 #[cfg(test)]
 mod tables;
-#[cfg(test)]
-mod worked;

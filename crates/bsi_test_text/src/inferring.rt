@@ -1,7 +1,7 @@
 //! Tests of which kind is inferred from worked fields, also of parts of a column that are joined.
 
 ghost use Rattle.std.specs.Prelude.{IfOk};
-ghost use Rattle.bsi_inference.specs.Columns.{LooksFor};
+ghost use Rattle.bsi_inference.specs.ColumnCandidates.{LooksFor};
 
 use bsi_inference::{Candidates, Decision, Doubt, NoMemory, usual_null_words};
 use bsi_kinds::{DateOrder, Kind};

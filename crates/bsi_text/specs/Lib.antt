@@ -8,4 +8,4 @@ pub use Rattle.bsi_input.specs.SchemaTexts
 pub use Rattle.bsi_input.specs.Scripts
 pub use Rattle.bsi_input.specs.Sources
 pub use Rattle.bsi_input.specs.Texts
-pub use Rattle.bsi_input.specs.Waiting
+pub use Rattle.bsi_input.specs.BufferedOutput

@@ -10,7 +10,7 @@ ghost use Rattle.bsi_input.specs.Scripts.{Declaring};
 ghost use Rattle.bsi_text.specs.Sessions.{phase_of};
 ghost use Rattle.bsi_input.specs.Sources.{IsPlainReader};
 ghost use Rattle.bsi_input.specs.Texts.{ForText, ForTextAfterFlush, IfBytesKnown, IsAnswered, IsTooLong, WrotePrefix, WroteWholeLines};
-ghost use Rattle.bsi_input.specs.Waiting.{AppendsAllBut, AppendsPrefix, HoldsAfterAnyPartialFlush};
+ghost use Rattle.bsi_input.specs.BufferedOutput.{AppendsAllBut, AppendsPrefix, HoldsAfterAnyPartialFlush};
 
 use crate::session::Session;
 use crate::{NoMemory, WriteFault, write_bytes};

@@ -14,7 +14,7 @@ ghost use Rattle.bsi_slices.specs.Related.{AndsComparedRows};
 
 use super::AnyColumn;
 use crate::decomposed::and_expected;
-use crate::places::{
+use crate::number_places::{
     MAX_PLACES, REGISTER_BLOCK_WORDS, add_each, places_of, relate_numbers, slice_places,
 };
 use crate::{Column, ColumnComparison};

@@ -10,7 +10,7 @@ ghost use Rattle.bsi_kernels.specs.Places.{has_place};
 
 use crate::BinaryPlaces;
 use crate::decomposed::Decomposed;
-use crate::places::{REGISTER_BLOCK_WORDS, add_times};
+use crate::number_places::{REGISTER_BLOCK_WORDS, add_times};
 use bsi_bits::MAX_BLOCK;
 use bsi_components::place_count;
 use bsi_slices::transposing::transpose;

@@ -2,7 +2,7 @@ use Rattle.std.proofs.Common.{List, ℕ, subst, rules}
 use Rattle.std.specs.Io.KnownBytes.{Appends}
 use Rattle.csv.proofs.WriteFacts.{appends-more}
 use Rattle.bsi_input.proofs.Waiting.{cut_front, cut_whole}
-use Rattle.bsi_input.specs.Waiting.{AppendsPrefix}
+use Rattle.bsi_input.specs.BufferedOutput.{AppendsPrefix}
 use Rattle.bsi_check.proofs.check.check_files.Goals as goal
 
 -- the reasons were written, and then the lines

@@ -1,7 +1,7 @@
 use Rattle.std.proofs.Common.{◌+◌, length, ap, ap₂, sym, ◌∙◌, arith, length-append}
 use Rattle.std.specs.List.{flat_map, range_with_len}
 use Rattle.bsi_components.specs.PlaceNumbers.{place_count}
-use Rattle.bsi_columns.specs.Places.{digit_places}
+use Rattle.bsi_columns.specs.StoredBitmaps.{digit_places}
 use Rattle.bsi_columns.proofs.FromBitmaps.{tests_long}
 use Rattle.bsi_columns.proofs.PieceLists.{pieces_more}
 use Rattle.bsi_columns.proofs.bitmaps.count_places.Goals as goal

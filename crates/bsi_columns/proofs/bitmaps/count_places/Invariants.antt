@@ -1,7 +1,7 @@
 use Rattle.std.proofs.Common.{◌≡◌, ◌*◌, ◌≤◌, length}
 use Rattle.std.specs.List.{flat_map, range_with_len}
 use Rattle.bsi_kernels.specs.Places.{max_digit_places}
-use Rattle.bsi_columns.specs.Places.{digit_places}
+use Rattle.bsi_columns.specs.StoredBitmaps.{digit_places}
 use Rattle.bsi_columns.proofs.bitmaps.count_places.Given as goal
 
 -- the places of the digits so far

@@ -1,5 +1,5 @@
 use Rattle.std.proofs.Common.{◌^◌, length, ap, arith}
-use Rattle.bsi_columns.specs.Places.{slice_places}
+use Rattle.bsi_columns.specs.StoredBitmaps.{slice_places}
 use Rattle.bsi_columns.proofs.FromBitmaps.{none_by, none_with_null_bit, slices_made, slices_of_zero, some_by, split_first}
 use Rattle.bsi_columns.proofs.bitmaps.slices_from_bitmaps.Goals as goal
 

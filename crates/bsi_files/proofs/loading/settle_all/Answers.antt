@@ -1,6 +1,6 @@
 use Rattle.std.proofs.Common.{subst, sym, ◌∙◌}
 use Rattle.std.specs.Vec.Iter.{into_iter_items}
-use Rattle.bsi_system.specs.Running.{SystemName}
+use Rattle.bsi_system.specs.LoaderSteps.{SystemName}
 use Rattle.bsi_files.proofs.Progress.{settled_more, HasSettled}
 use Rattle.bsi_files.proofs.loading.settle_all.Goals as goal
 

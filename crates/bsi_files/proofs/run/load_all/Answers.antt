@@ -7,7 +7,7 @@ use Rattle.bsi_files.proofs.Limits.{closed_all, over_limit}
 use Rattle.bsi_answers.proofs.Passing.{if_err, if_err_both}
 use Rattle.bsi_answers.specs.declared.faults.FilesFault.TheVariants.{IndexFull}
 use Rattle.bsi_rows.specs.Table.{max_feeders}
-use Rattle.bsi_system.specs.Running.{SystemName}
+use Rattle.bsi_system.specs.LoaderSteps.{SystemName}
 use Rattle.bsi_files.specs.Ends.{tasks, AreClosings, AreEndsOf}
 use Rattle.bsi_files.specs.Progress.{all_closed, EndedWell, IsDrained, IsFullWithRowsLeft}
 use Rattle.bsi_answers.specs.declared.fed.Fed.{Fed}

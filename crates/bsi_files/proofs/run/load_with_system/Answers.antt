@@ -1,7 +1,7 @@
 use Rattle.std.proofs.Common.{◌≡◌, All, List, length, ap, subst, sym, ◌∙◌}
 use Rattle.std.specs.Prelude.{IfErr, IfOk}
 use Rattle.bsi_system.specs.Rings.{FeederState}
-use Rattle.bsi_system.specs.Running.{IsFeederOf, LoaderState}
+use Rattle.bsi_system.specs.LoaderSteps.{IsFeederOf, LoaderState}
 use Rattle.bsi_rows.specs.Table.{Table}
 use Rattle.bsi_files.specs.Ends.{AreFeeders, AreReady}
 use Rattle.bsi_files.specs.Feds.{IsAllFed}

@@ -1,6 +1,6 @@
 use Rattle.std.proofs.Common.{arith}
 use Rattle.std.proofs.lemmas.Result.{err_from_is_err_and}
-use Rattle.bsi_input.specs.Waiting.{AppendsPrefix}
+use Rattle.bsi_input.specs.BufferedOutput.{AppendsPrefix}
 use Rattle.bsi_segments.specs.Segments.{bytes_of}
 use Rattle.bsi_segments.proofs.ChunkBytes.{words_cut, words_written}
 use Rattle.bsi_segments.proofs.writing.write_words.Goals as goal

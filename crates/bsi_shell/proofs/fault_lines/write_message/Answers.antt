@@ -4,7 +4,7 @@ use Rattle.std.specs.Prelude.{IsErr, OnErr, OnOk}
 use Rattle.bsi_shell.proofs.Cutting.{appends_both, written_failed, written_from}
 use Rattle.bsi_shell.proofs.fault_lines.write_message.Goals as goal
 use Rattle.bsi_input.proofs.Waiting.{cut_front, cut_whole}
-use Rattle.bsi_input.specs.Waiting.{AppendsPrefix}
+use Rattle.bsi_input.specs.BufferedOutput.{AppendsPrefix}
 
 -- the first text was cut
 pub returns-in_err-write_bytes : goal.returns-in_err-write_bytes

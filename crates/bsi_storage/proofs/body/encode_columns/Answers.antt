@@ -1,7 +1,7 @@
 use Rattle.std.proofs.Common.{◌++◌, ℕ, List, arith, sym, ap, ap₂, ◌∙◌, append_assoc}
 use Rattle.std.specs.List.{flat_map}
 use Rattle.bsi_columns.specs.AnyColumns.{any_entries, any_form}
-use Rattle.bsi_columns.specs.Places.{column_bitmaps}
+use Rattle.bsi_columns.specs.StoredBitmaps.{column_bitmaps}
 use Rattle.bsi_schema.specs.Columns.{column_at}
 use Rattle.bsi_table.specs.Bitmaps.{bitmaps_of, entries_bitmaps}
 use Rattle.bsi_table.proofs.BitmapRows.{stored_of_shifted}

@@ -2,7 +2,7 @@ use Rattle.std.proofs.Common.{◌++◌, map, ap, ap₂, sym, ◌∙◌, append-n
 use Rattle.std.specs.List.{flat_map}
 use Rattle.bsi_digits.specs.Comparisons.{number_or_zero}
 use Rattle.bsi_kernels.specs.Places.{has_place}
-use Rattle.bsi_columns.specs.Places.{bitmaps_by, slice_places}
+use Rattle.bsi_columns.specs.StoredBitmaps.{bitmaps_by, slice_places}
 use Rattle.bsi_columns.proofs.ColumnPlaces.{slices_more}
 use Rattle.bsi_segments.specs.Bitmaps.{packed}
 use Rattle.bsi_storage.proofs.ColumnBitmaps.{words-push}

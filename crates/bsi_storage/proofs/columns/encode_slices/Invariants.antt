@@ -1,6 +1,6 @@
 use Rattle.std.proofs.Common.{◌≡◌, ◌++◌}
 use Rattle.std.specs.List.{flat_map}
-use Rattle.bsi_columns.specs.Places.{bitmaps_by, slice_places}
+use Rattle.bsi_columns.specs.StoredBitmaps.{bitmaps_by, slice_places}
 use Rattle.bsi_segments.specs.Bitmaps.{packed}
 use Rattle.bsi_storage.proofs.columns.encode_slices.Given as goal
 

@@ -1,6 +1,6 @@
 use Rattle.std.proofs.Common.{◌≡◌, ◌*◌, ◌<◌, length, arith, rules, subst, sym, ap, ◌∙◌}
 use Rattle.bsi_bits.specs.BitList.{word_count}
-use Rattle.bsi_columns.specs.Places.{bits_each}
+use Rattle.bsi_columns.specs.StoredBitmaps.{bits_each}
 use Rattle.bsi_schema.specs.Columns.{column_at}
 use Rattle.bsi_table.specs.Bitmaps.{bitmap_count, entries_bitmaps}
 use Rattle.bsi_table.specs.Encoded.{Encodes}

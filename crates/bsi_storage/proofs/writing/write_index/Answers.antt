@@ -1,7 +1,7 @@
 use Rattle.std.proofs.Common.{subst, ap, ◌∙◌}
 use Rattle.std.specs.Io.KnownBytes.{Appends}
 use Rattle.bsi_table.specs.Index.{table_of}
-use Rattle.bsi_input.specs.Waiting.{AppendsPrefix}
+use Rattle.bsi_input.specs.BufferedOutput.{AppendsPrefix}
 use Rattle.bsi_segments.specs.Segments.{bytes_of, segment}
 use Rattle.bsi_storage.proofs.Files.{appends_none, file_of, so_err}
 use Rattle.bsi_storage.proofs.writing.write_index.Goals as goal

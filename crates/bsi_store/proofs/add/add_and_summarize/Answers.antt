@@ -8,7 +8,7 @@ use Rattle.bsi_storage.specs.Faults.{AcceptsRowsOf}
 use Rattle.bsi_storage.specs.Saved.{table_segment, MayBeSaved}
 use Rattle.bsi_schema.specs.Columns.{Declared}
 use Rattle.bsi_store.specs.declared.fault.StoreFault.{StoreFault}
-use Rattle.bsi_store.specs.Loads.{IsAddFault, IsReadOf}
+use Rattle.bsi_store.specs.Saving.{IsAddFault, IsReadOf}
 use Rattle.bsi_store.proofs.Failing.{not_loaded}
 use Rattle.bsi_store.proofs.add.add_and_summarize.Goals as goal
 use Rattle.bsi_table.specs.Index.{table_of}

@@ -3,7 +3,7 @@ use Rattle.std.specs.Io.KnownBytes.{Appends}
 use Rattle.std.specs.Prelude.{IfErr}
 use Rattle.bsi_answers.proofs.Passing.{if_err}
 use Rattle.bsi_store.specs.declared.fault.StoreFault.{StoreFault}
-use Rattle.bsi_store.specs.Loads.{IsAddFault}
+use Rattle.bsi_store.specs.Saving.{IsAddFault}
 use Rattle.bsi_store.proofs.add.add_rows.Goals as goal
 
 pub returns-clause-added : goal.returns-clause-added

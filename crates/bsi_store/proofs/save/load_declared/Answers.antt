@@ -7,7 +7,7 @@ use Rattle.bsi_answers.specs.Runs.{HasLoaded}
 use Rattle.bsi_answers.specs.declared.faults.FilesFault.{FilesFault}
 use Rattle.bsi_input.specs.SchemaTexts.{IsSchemaText}
 use Rattle.bsi_schema.specs.Columns.{Declared}
-use Rattle.bsi_store.specs.Loads.{HasFailedRun}
+use Rattle.bsi_store.specs.Saving.{HasFailedRun}
 use Rattle.bsi_store.proofs.Failing.{bad_schema, failed_load, load_fault, too_many}
 use Rattle.bsi_store.proofs.save.load_declared.Goals as goal
 

@@ -5,7 +5,7 @@ use Rattle.bsi_answers.proofs.Passing.{if_err}
 use Rattle.bsi_answers.specs.RowFiles.{fed_counts}
 use Rattle.bsi_store.specs.declared.fault.StoreFault.{StoreFault}
 use Rattle.bsi_store.specs.declared.fault.StoreFault.TheVariants.{Run}
-use Rattle.bsi_store.specs.Loads.{HasFailedRun}
+use Rattle.bsi_store.specs.Saving.{HasFailedRun}
 use Rattle.bsi_store.proofs.save.save_and_summarize.Goals as goal
 use Rattle.bsi_table.specs.Index.{table_of}
 

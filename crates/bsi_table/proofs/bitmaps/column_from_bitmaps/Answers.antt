@@ -1,7 +1,7 @@
 use Rattle.std.proofs.Common.{length, ap, sym, subst, arith, rules, ◌∙◌, SFits, w64, to_z-of_z}
 use Rattle.std.proofs.lemmas.Int.{ints}
 use Rattle.bsi_columns.specs.AnyColumns.{any_entries}
-use Rattle.bsi_columns.specs.Places.{bits_each, column_bitmaps, form_places, HaveNoEntriesBelow}
+use Rattle.bsi_columns.specs.StoredBitmaps.{bits_each, column_bitmaps, form_places, HaveNoEntriesBelow}
 use Rattle.bsi_schema.specs.Columns.{column_at, size_in, IsForm}
 use Rattle.bsi_shift.proofs.Shifting.{length-shifted_entries}
 use Rattle.bsi_table.specs.Encoded.{encoded_form, IsInForm}

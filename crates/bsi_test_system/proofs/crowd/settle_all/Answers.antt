@@ -1,7 +1,7 @@
 use Rattle.std.proofs.Common.{◌≡◌, ◌∷◌, All, subst, sym}
 use Rattle.std.proofs.lemmas.List.Elements.{All-head, All-tail}
 use Rattle.std.specs.Vec.Iter.{into_iter_items}
-use Rattle.bsi_system.specs.Running.{IsFeederOf}
+use Rattle.bsi_system.specs.LoaderSteps.{IsFeederOf}
 use Rattle.bsi_test_system.proofs.crowd.settle_all.Goals as goal
 
 -- the thread that is joined stood first among those that are left

@@ -1,6 +1,6 @@
 use Rattle.std.proofs.Common.{All}
 use Rattle.std.specs.Vec.Iter.{into_iter_items}
-use Rattle.bsi_system.specs.Running.{IsFeederOf}
+use Rattle.bsi_system.specs.LoaderSteps.{IsFeederOf}
 use Rattle.bsi_test_system.proofs.crowd.settle_all.Given as goal
 
 -- the threads that are left are of feeders of the loader's system

@@ -1,7 +1,7 @@
 use Rattle.std.proofs.Common.{◌≡◌, ◌∷◌, All, subst}
 use Rattle.std.proofs.lemmas.List.Elements.{All-tail}
 use Rattle.std.specs.Vec.Iter.{into_iter_items}
-use Rattle.bsi_system.specs.Running.{IsFeederOf}
+use Rattle.bsi_system.specs.LoaderSteps.{IsFeederOf}
 use Rattle.bsi_test_system.proofs.crowd.start_feeders.Goals as goal
 
 -- the feeder whose thread was started stood first among those that were left

@@ -1,6 +1,6 @@
 use Rattle.std.proofs.Common.{All}
 use Rattle.std.specs.Vec.Iter.{into_iter_items}
-use Rattle.bsi_system.specs.Running.{IsFeederOf}
+use Rattle.bsi_system.specs.LoaderSteps.{IsFeederOf}
 use Rattle.bsi_test_system.proofs.crowd.start_feeders.Given as goal
 
 -- the feeders that are left, and the threads that were started, are of the loader's system

@@ -1,4 +1,4 @@
-use Rattle.bsi_inference.specs.Columns.{LooksFor}
+use Rattle.bsi_inference.specs.ColumnCandidates.{LooksFor}
 use Rattle.bsi_test_text.proofs.inferring.column_of.Given as goal
 
 abbrev pub invariant-fields : goal.invariant-fields

@@ -1,7 +1,7 @@
 use Rattle.std.proofs.Common.{◌≡◌, rules, subst}
 use Rattle.std.specs.Io.KnownBytes.{Appends}
 use Rattle.csv.proofs.WriteFacts.{appends-more}
-use Rattle.bsi_input.specs.Waiting.{AppendsPrefix}
+use Rattle.bsi_input.specs.BufferedOutput.{AppendsPrefix}
 use Rattle.bsi_input.proofs.Standing.{on_err}
 use Rattle.bsi_input.proofs.Waiting.{cut_front, cut_whole, on_fault, on_ok, put_all}
 use Rattle.bsi_text.proofs.script.buffer_line.Goals.{else-not-many-via-else-not-many, else-not-many-via-then-not-many+else-is_ok}

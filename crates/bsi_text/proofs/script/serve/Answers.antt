@@ -4,7 +4,7 @@ use Rattle.csv.specs.Records.{fields_of}
 use Rattle.bsi_input.specs.Scripts.{IsTurn}
 use Rattle.bsi_text.specs.Sessions.{phase_of}
 use Rattle.bsi_input.specs.Texts.{ForText, WroteWholeLines}
-use Rattle.bsi_input.specs.Waiting.{AppendsAllBut, HoldsAfterFlush}
+use Rattle.bsi_input.specs.BufferedOutput.{AppendsAllBut, HoldsAfterFlush}
 use Rattle.bsi_text.specs.declared.script.ScriptFault.TheVariants as fault
 use Rattle.bsi_input.specs.declared.record_aware.RecordAwareReader.{RecordAwareReader}
 use Rattle.bsi_input.proofs.Standing.{if_err, served_answered, served_cut, served_first, served_long, served_next, served_part, served_stopped, served_way}

@@ -3,7 +3,7 @@ use Rattle.bsi_bits.specs.BitLists.{bits_at}
 use Rattle.bsi_kernels.specs.Nulls.{AreClearAtNulls, HasBitOfNull}
 use Rattle.bsi_digits.specs.Digits.{product}
 use Rattle.bsi_columns.specs.Decomposed.{AreDigitsBelow}
-use Rattle.bsi_columns.specs.Places.{places_under}
+use Rattle.bsi_columns.specs.StoredBitmaps.{places_under}
 use Rattle.bsi_columns.proofs.FromBitmaps.{components_made, digits_clear, none_with_digits, none_with_null_bit, places_of_zero, some_place, split_even, split_first}
 use Rattle.bsi_columns.proofs.decomposed.Decomposed.from_bitmaps.Goals as goal
 

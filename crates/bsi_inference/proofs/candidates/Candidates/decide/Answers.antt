@@ -1,6 +1,6 @@
 use Rattle.std.proofs.Common.{List, ℕ, sym}
 use Rattle.bsi_kinds.specs.declared.kind.Kind.TheVariants.{Decimal}
-use Rattle.bsi_inference.specs.Columns.{Accepts}
+use Rattle.bsi_inference.specs.ColumnCandidates.{Accepts}
 use Rattle.bsi_inference.specs.Decisions.{Decides, DecidesTexts, IsColumnOf, IsDecidedFor}
 use Rattle.bsi_inference.proofs.Outcomes.{column_meant, column_takes, if_ok, texts_take}
 use Rattle.bsi_inference.proofs.candidates.Candidates.decide.Goals as goal

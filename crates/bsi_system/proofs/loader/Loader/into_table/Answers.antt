@@ -1,5 +1,5 @@
 use Rattle.std.proofs.Common.{ap, length, subst, sym, ◌∙◌}
-use Rattle.bsi_system.specs.Running.{AlwaysHolds}
+use Rattle.bsi_system.specs.LoaderSteps.{AlwaysHolds}
 use Rattle.bsi_system.proofs.Progress.{always_holds}
 use Rattle.bsi_system.proofs.loader.Loader.into_table.Goals as goal
 

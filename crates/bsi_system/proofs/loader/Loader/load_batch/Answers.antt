@@ -1,6 +1,6 @@
 use Rattle.std.proofs.Common.{◌≡◌, ap, rules, subst, sym, ◌∙◌}
 use Rattle.bsi_system.specs.Readers.{StagesFirst}
-use Rattle.bsi_system.specs.Running.{loader_state, IsLoader, LoaderState, LoadsMany}
+use Rattle.bsi_system.specs.LoaderSteps.{loader_state, IsLoader, LoaderState, LoadsMany}
 use Rattle.bsi_system.proofs.Mapped.{mapped_ok}
 use Rattle.bsi_system.proofs.Progress.{always_holds, looks_loading, pops_loader, pops_many, same_loader}
 use Rattle.bsi_system.proofs.loader.Loader.load_batch.Goals as goal

@@ -1,7 +1,7 @@
 use Rattle.std.proofs.Common.{◌≡◌, List, ap, ◌∙◌, subst, sym}
 use Rattle.std.specs.Prelude.{IfSome}
 use Rattle.bsi_system.specs.Rings.{RingReader}
-use Rattle.bsi_system.specs.Running.{carried, settled_as, IsLoader, LoaderState}
+use Rattle.bsi_system.specs.LoaderSteps.{carried, settled_as, IsLoader, LoaderState}
 use Rattle.bsi_system.proofs.Progress.{always_holds, settles_loader, settles_loading, settles_once}
 use Rattle.bsi_system.proofs.loader.Loader.settle.Goals as goal
 

@@ -1,5 +1,5 @@
 use Rattle.std.proofs.Common.{subst, sym}
-use Rattle.bsi_system.specs.Running.{IsLoader}
+use Rattle.bsi_system.specs.LoaderSteps.{IsLoader}
 use Rattle.bsi_system.proofs.Progress.{always_holds}
 use Rattle.bsi_system.proofs.loader.Loader.tell.Goals as goal
 

@@ -3,7 +3,7 @@ use Rattle.std.proofs.lemmas.List.{take_all}
 use Rattle.csv.specs.Records.{fields_of}
 use Rattle.bsi_syntax.specs.Reading.{texts}
 use Rattle.bsi_syntax.proofs.Fields.{take_on, texts_more}
-use Rattle.bsi_syntax.proofs.heads.lend_fields.Goals as goal
+use Rattle.bsi_syntax.proofs.leading_fields.lend_fields.Goals as goal
 
 pub fields-preserved : goal.fields-preserved
 fields-preserved c =

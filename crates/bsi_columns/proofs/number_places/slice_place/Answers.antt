@@ -4,7 +4,7 @@ use Rattle.bsi_bits.specs.Packed.{bit_of}
 use Rattle.bsi_slices.proofs.StateWords.{no_row}
 use Rattle.bsi_columns.specs.Extremes.{number_at}
 use Rattle.bsi_columns.proofs.PlaceSums.{place_past}
-use Rattle.bsi_columns.proofs.places.slice_place.Goals as goal
+use Rattle.bsi_columns.proofs.number_places.slice_place.Goals as goal
 
 -- a number has no place where no slice is
 pub returns-else-k-width : goal.returns-else-k-width

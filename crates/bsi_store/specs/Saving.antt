@@ -13,7 +13,7 @@ use Rattle.bsi_answers.specs.declared.faults.FilesFault.{FilesFault}
 use Rattle.bsi_answers.specs.declared.faults.FilesFault.TheVariants.{IndexFull, NoMemory, TooManyFiles, Write}
 use Rattle.bsi_files.specs.RunFaults.{IsFaultOf, IsFaultOver}
 use Rattle.bsi_input.specs.SchemaTexts.{IsSchemaText}
-use Rattle.bsi_input.specs.Waiting.{AppendsPrefix}
+use Rattle.bsi_input.specs.BufferedOutput.{AppendsPrefix}
 use Rattle.bsi_storage.specs.Saved.{table_segment, MayBeSaved}
 use Rattle.bsi_storage.specs.declared.fault.OpenFault.TheVariants.{OtherVersion}
 use Rattle.bsi_store.specs.Asked.{IsSavedIn}

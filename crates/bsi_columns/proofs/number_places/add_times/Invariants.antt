@@ -1,6 +1,6 @@
 use Rattle.std.proofs.Common.{◌≡◌, ℕ, ◌+◌, ◌*◌, ◌%◌, ◌^◌, ◌<◌, length}
 use Rattle.bsi_columns.specs.NumberPlaces.{IsNumberAt}
-use Rattle.bsi_columns.proofs.places.add_times.Given as goal
+use Rattle.bsi_columns.proofs.number_places.add_times.Given as goal
 
 -- so many times are added as the places of `times` below k say
 abbrev pub invariant-places : goal.invariant-places

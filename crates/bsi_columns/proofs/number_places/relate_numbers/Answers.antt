@@ -5,7 +5,7 @@ use Rattle.bsi_slices.specs.PairRelations.{relation_holds, relation_bit_step}
 use Rattle.bsi_slices.proofs.Related.{relation_place}
 use Rattle.bsi_slices.proofs.SliceNumbers.{places_more}
 use Rattle.bsi_kernels.specs.Places.{has_place}
-use Rattle.bsi_columns.proofs.places.relate_numbers.Goals as goal
+use Rattle.bsi_columns.proofs.number_places.relate_numbers.Goals as goal
 
 pub places-preserved : goal.places-preserved
 places-preserved c = λ p x y near first second.

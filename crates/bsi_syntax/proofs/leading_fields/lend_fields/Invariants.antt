@@ -1,7 +1,7 @@
 use Rattle.std.proofs.Common.{◌≡◌, take}
 use Rattle.csv.specs.Records.{fields_of}
 use Rattle.bsi_syntax.specs.Reading.{texts}
-use Rattle.bsi_syntax.proofs.heads.lend_fields.Given as goal
+use Rattle.bsi_syntax.proofs.leading_fields.lend_fields.Given as goal
 
 -- the first fields are lent
 abbrev pub invariant-fields : goal.invariant-fields

@@ -2,7 +2,7 @@ use Rattle.std.proofs.Common.{◌≡◌, ℕ, ◌*◌, ◌%◌, ◌^◌, ◌<◌
 use Rattle.bsi_bits.specs.Packed.{bit_of}
 use Rattle.bsi_slices.specs.PairRelations.{relation_holds}
 use Rattle.bsi_columns.specs.NumberPlaces.{IsNumberAt}
-use Rattle.bsi_columns.proofs.places.relate_numbers.Given as goal
+use Rattle.bsi_columns.proofs.number_places.relate_numbers.Given as goal
 
 -- how the numbers stand by the places so far
 abbrev pub invariant-places : goal.invariant-places

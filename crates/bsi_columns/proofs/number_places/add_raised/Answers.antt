@@ -8,7 +8,7 @@ use Rattle.bsi_slices.proofs.StateWords.{no_row}
 use Rattle.bsi_kernels.specs.Places.{has_place}
 use Rattle.bsi_columns.specs.NumberPlaces.{IsNumberAt}
 use Rattle.bsi_columns.proofs.PlaceSums.{low_place, no_carry_raised, raised_high, sum_carry, sum_place}
-use Rattle.bsi_columns.proofs.places.add_raised.Goals as goal
+use Rattle.bsi_columns.proofs.number_places.add_raised.Goals as goal
 
 pub places-init : goal.places-init
 places-init c = record {

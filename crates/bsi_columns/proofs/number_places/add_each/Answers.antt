@@ -11,8 +11,8 @@ use Rattle.bsi_kernels.specs.Places.{has_place}
 use Rattle.bsi_columns.specs.NumberPlaces.{IsNumberAt}
 use Rattle.bsi_columns.proofs.PlaceSums.{no_carry, place_none, place_one, sum_carry, sum_place}
 use Rattle.bsi_columns.proofs.WordSpans.{replicate_bit}
-use Rattle.bsi_columns.proofs.places.add_each.Goals.{then-number-k-eq1, else-number-k-eq1}
-use Rattle.bsi_columns.proofs.places.add_each.Goals as goal
+use Rattle.bsi_columns.proofs.number_places.add_each.Goals.{then-number-k-eq1, else-number-k-eq1}
+use Rattle.bsi_columns.proofs.number_places.add_each.Goals as goal
 
 pub places-init : goal.places-init
 places-init c = record {

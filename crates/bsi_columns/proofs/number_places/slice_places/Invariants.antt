@@ -2,7 +2,7 @@ use Rattle.std.proofs.Common.{◌≡◌, ℕ, ◌+◌, ◌*◌, ◌<◌, [], len
 use Rattle.bsi_bits.specs.Packed.{bit_of}
 use Rattle.bsi_kernels.specs.Places.{has_place}
 use Rattle.bsi_columns.specs.Extremes.{number_at}
-use Rattle.bsi_columns.proofs.places.slice_places.Given as goal
+use Rattle.bsi_columns.proofs.number_places.slice_places.Given as goal
 
 -- the places below k are written
 abbrev pub invariant-places : goal.invariant-places

@@ -2,8 +2,8 @@ use Rattle.std.proofs.Common.{◌≡◌, ◌+◌, ◌*◌, ◌%◌, ◌^◌, tru
 use Rattle.std.proofs.Math.Nat.{mod-eq_of_lt}
 use Rattle.bsi_columns.specs.NumberPlaces.{IsNumberAt}
 use Rattle.bsi_columns.proofs.PlaceSums.{place_none, place_one, times_more}
-use Rattle.bsi_columns.proofs.places.add_times.Goals.{then-times-k-eq1, else-times-k-eq1}
-use Rattle.bsi_columns.proofs.places.add_times.Goals as goal
+use Rattle.bsi_columns.proofs.number_places.add_times.Goals.{then-times-k-eq1, else-times-k-eq1}
+use Rattle.bsi_columns.proofs.number_places.add_times.Goals as goal
 
 pub places-preserved : goal.places-preserved
 places-preserved c =

@@ -6,7 +6,7 @@ use Rattle.bsi_bits.specs.BitList.{differ}
 use Rattle.bsi_bits.specs.Packed.{bit_of}
 use Rattle.bsi_bits.proofs.Logic.{xor_bitwise}
 use Rattle.bsi_columns.proofs.WordSpans.{and_bit, or_bit, zipped_bit}
-use Rattle.bsi_columns.proofs.places.add_place.Goals as goal
+use Rattle.bsi_columns.proofs.number_places.add_place.Goals as goal
 
 xor_bit : (xs ys : List ℕ) → length xs ≡ length ys → (p : ℕ) → p < 64 * length xs → bit_of (zip2 bit_xor xs ys) p ≡ differ (bit_of xs p) (bit_of ys p)
 xor_bit xs ys same = zipped_bit (λ _. Unit {0}) bit_xor differ xor_bitwise xs ys same (λ k. tt)
