@@ -8,8 +8,8 @@ ghost use Rattle.bsi_input.specs.SchemaTexts.{Declares, IsSchemaFault, IsSchemaT
 ghost use Rattle.bsi_input.specs.Texts.{ForText};
 
 use crate::NoMemory;
-use crate::rows::SourceFault;
 use crate::record_source::RecordSource;
+use crate::rows::SourceFault;
 use bsi_syntax::{DeclaredTable, read_setup};
 use csv::ByteRecord;
 use std::alloc::Global;
