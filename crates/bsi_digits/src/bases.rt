@@ -1,4 +1,4 @@
-//! Tests a list of bases (`Bases`), and gives the weights and the digits of numbers under it without a division.
+//! Checks a list of bases (`Bases`), and gives the weights and the digits of numbers under it without a division.
 
 ghost use Rattle.std.specs.Prelude.{◌≡◌, ℕ, ◌+◌, ◌/◌, ◌<◌, ◌≤◌, ◌↔◌, length, slice_index, position, sum, reverse, replicate, EachIndex, IsNone, IfNone, IfOk, IfErr, IfSome, IsErrOf, IsTrue};
 ghost use Rattle.std.specs.Result.{result_err};

@@ -1,4 +1,5 @@
-//! Tests of whole runs over row files. Each tolerates one refused allocation, and then runs again.
+//! Calls `run_files` for the tests of this crate, again after a refused allocation; tests that feeders run side by side and
+//! that the loader goes on beside them.
 
 use crate::gates::{MAX_YIELDS, Meeting, Patience};
 use crate::inputs::{Input, QUANTITIES, long, text};

@@ -1,4 +1,5 @@
-//! Totals of whole numbers: those of the stored numbers, and the offset for each number.
+//! Totals of a column that is stored less its offset, over selected rows: sum, least, greatest, median and ranked number,
+//! each that of the stored numbers with the offset added back.
 
 ghost use Rattle.std.specs.Prelude.{◌≡◌, pos, neg_ℤ, ◌+ℤ◌, ◌*ℤ◌, ◌≤ℤ◌, ◌<ℤ◌, ◌<◌, ◌≤◌, length, IfOk, IfSome, IsOk};
 ghost use Rattle.std.specs.Option.{option_map};
