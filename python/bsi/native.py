@@ -124,11 +124,11 @@ def _address(array: Optional[np.ndarray]) -> int:
     return _NOTHING if array is None or not len(array) else array.ctypes.data
 
 
-@lru_cache(256)
 def _entry_of(entry: _Entry) -> Optional[int]:
     return entry.number if entry.present else None
 
 
+@lru_cache(256)
 def _slices(fields: Tuple[bytes, ...]) -> Tuple[bytes, c_size_t, array]:
     """Returns the fields as C has them, an address and a length each, how many they are, and the bytes there, which
     must live as long. Those of the last questions are kept."""

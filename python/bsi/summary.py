@@ -29,8 +29,8 @@ class Summary(Mapping[str, Dict[str, Any]]):
 
     def _rows(self) -> List[List[str]]:
         columns = self._figures.values()
-        shown = [[name, *(shown(column.get(name)) for column in columns)] for name in self._names()]
-        return [["", *self._figures], *shown]
+        rows = [[name, *(shown(column.get(name)) for column in columns)] for name in self._names()]
+        return [["", *self._figures], *rows]
 
     def _names(self) -> List[str]:
         """Returns the names of the figures that a column has."""
