@@ -40,9 +40,10 @@ from .forms import Form, equality, range, slices
 from .index import Index, open
 from .kinds import Decimals, Flags, Kind, Texts, Times, Whole
 from .parts import Parts, open_parts
-from .predicates import Column, Predicate, all_rows, col
+from .predicates import Column, DatePart, Predicate, all_rows, col
 from .questions import ask
 from .reading import read_csv
+from .report import Report
 from .summary import Summary
 from .version import __version__
 
@@ -59,6 +60,7 @@ __all__ = [
     "Column",
     "CutShort",
     "Damaged",
+    "DatePart",
     "Decimals",
     "Error",
     "Flags",
@@ -77,6 +79,7 @@ __all__ = [
     "OtherVersion",
     "Parts",
     "Predicate",
+    "Report",
     "Shared",
     "Summary",
     "Texts",

@@ -24,17 +24,21 @@ import numpy as np
 
 from . import questions
 from .choosing import chosen_of
-from .errors import BadQuery, Error
+from .errors import Error
+from .groups import Groups
 from .index import Index
 from .index import open as open_index
 from .kept import is_kept
 from .kinds import Decimals, Flags, Texts, Times, Whole
 from .parts import Parts, open_parts
-from .questions import ask, is_question
+from .questions import NoSign, ask, awaits_figure, is_question
 from .reading import read_csv
+from .report import values_of
+from .summary import lines_of
 from .version import __version__
 
 MAX_SHOWN = 20
+QUOTES = "a question with > or < stands in quotes: 'count price > 100'"
 FOR_CSV = ("null", "nulls", "delimiter", "decimal", "thousands", "dates", "encoding", "skiprows", "skip_bad")
 KINDS = {"text": lambda _: Texts, "whole": lambda _: Whole(), "flags": lambda _: Flags()}
 KINDS["decimals"] = lambda places: Decimals(int(places) if places.isdecimal() else places or 2)
@@ -145,6 +149,8 @@ def _shown(answer: Any) -> str:
         return "none"
     if isinstance(answer, datetime):
         return str(answer).removesuffix(" 00:00:00")
+    if isinstance(answer, Groups):
+        return lines_of([[*map(_cell, values_of(answer.keys_named, one)), _shown(answer[one])] for one in answer]) or "none"
     if not isinstance(answer, np.ndarray):
         return f"{answer:f}" if isinstance(answer, Decimal) else str(answer)
     more = [f".. {len(answer) - MAX_SHOWN:,} more"] if len(answer) > MAX_SHOWN else []
@@ -158,17 +164,28 @@ def _answer(table: Any, question: str, is_argument: bool = False) -> bool:
         return True
     except Error as why:
         print(f"bsi: {why}", file=sys.stderr, flush=True)
-        if is_argument and isinstance(why, BadQuery) and stat.S_ISREG(os.fstat(1).st_mode):
-            quotes = "a question with > or < stands in quotes: 'count price > 100'"
-            print(f"bsi: the answers go to a file, as the shell reads a > outside of quotes; {quotes}", file=sys.stderr)
+        if is_argument and isinstance(why, NoSign) and stat.S_ISREG(os.fstat(1).st_mode):
+            print(f"bsi: the answers go to {_output()}; if > was meant as a sign: {QUOTES}", file=sys.stderr)
         return False
+
+
+def _output() -> str:
+    """Returns what the file that the answers go to is called, as far as the system says so."""
+    try:
+        return f"the file {os.path.basename(os.readlink('/proc/self/fd/1'))!r}"
+    except OSError:
+        return "a file"
+
+
+def _cell(value: Any) -> str:
+    return "null" if value is None else _shown(value)
 
 
 def _joined(words: List[str]) -> List[str]:
     """Returns the questions, of which one may be given in several words."""
     found: List[str] = []
     for word in words:
-        if is_question(word) or not found:
+        if not found or is_question(word) and not awaits_figure(found[-1]):
             found.append(word)
         else:
             found[-1] += f" {word}"

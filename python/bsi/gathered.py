@@ -21,8 +21,8 @@ BOUND, FEW = 4, 1 << 12
 SAFETY = 6
 # A rank in a part, and the number that has it.
 Known = Tuple[int, Optional[int]]
-# The number of each column by which rows are grouped.
-Numbers = Tuple[int, ...]
+# The number of each column by which rows are grouped, or None for a null.
+Numbers = Tuple[Optional[int], ...]
 
 
 class _Left(NamedTuple):
@@ -193,18 +193,21 @@ class Gathered:
         places = np.searchsorted(np.cumsum(many[many > 0][order]), shares, "right")
         return sorted({min(int(numbers[order[place]]), left.high - 1) for place in places})
 
-    def grouped(self, by: Tuple[bytes, ...], fields: Fields, most: int) -> Optional[Dict[Numbers, Optional[int]]]:
+    def grouped(
+        self, by: Tuple[bytes, ...], fields: Fields, most: int, nulls: bool = False
+    ) -> Optional[Dict[Numbers, Optional[int]]]:
         """Returns the answers by numbers as a handle does, to a count, a sum, a least or a greatest number."""
         joined: Dict[Numbers, List[int]] = {}
         with self.alone():
-            parts = self._each("grouped", by, fields, most)
+            parts = self._each("grouped", by, fields, most, nulls)
         for part in parts:
             for numbers, answer in (part or {}).items():
                 joined.setdefault(numbers, []).extend([] if answer is None else [answer])
         if None in parts or len(joined) > most:
             return None
         join = {b"least": min, b"greatest": max}.get(fields[0], sum)
-        return {numbers: join(joined[numbers]) if joined[numbers] else None for numbers in sorted(joined)}
+        order = sorted(joined, key=lambda numbers: [(one is None, one or 0) for one in numbers])
+        return {numbers: join(joined[numbers]) if joined[numbers] else None for numbers in order}
 
     def select(self, fields: Fields) -> Tuple[np.ndarray, int]:
         with self.alone():

@@ -124,6 +124,10 @@ def _address(array: Optional[np.ndarray]) -> int:
     return _NOTHING if array is None or not len(array) else array.ctypes.data
 
 
+def _entry_of(entry: _Entry) -> Optional[int]:
+    return entry.number if entry.present else None
+
+
 @lru_cache(256)
 def _slices(fields: Tuple[bytes, ...]) -> Tuple[bytes, c_size_t, array]:
     """Returns the fields as C has them, an address and a length each, how many they are, and the bytes there, which
@@ -247,22 +251,23 @@ class Handle:
         return self.value(b"median", name, fields), self.count([*fields, name, b"null", b"not", b"and"])
 
     def grouped(
-        self, by: Tuple[bytes, ...], fields: Sequence[bytes], most: int
-    ) -> Optional[Dict[Tuple[int, ...], Optional[int]]]:
+        self, by: Tuple[bytes, ...], fields: Sequence[bytes], most: int, nulls: bool = False
+    ) -> Optional[Dict[Tuple[Optional[int], ...], Optional[int]]]:
         """Returns the query's answer over the rows of each number of a column, or of each pair of numbers of two, in
-        order of these, but none over the nulls. None where there are more than so many. For two columns it takes eight
-        fields more."""
+        order of these, and over the nulls, as None, only where they are wanted. None where there are more than so many.
+        For two columns it takes eight fields more."""
         if len(by) == 2:
             # (there may be more pairs with a null in them than others)
-            there = [word for name in by for word in (name, b"null", b"not", b"and")]
+            there = [] if nulls else [word for name in by for word in (name, b"null", b"not", b"and")]
             pairs = self._groups("bsi_group_by_two", (_Pair * most)(), by, [*fields, *there])
             if pairs is None:
                 return None
-            return {(pair.entries[0].number, pair.entries[1].number): _number_of(pair.answer) for pair in pairs}
+            return {tuple(map(_entry_of, pair.entries)): _number_of(pair.answer) for pair in pairs}
         groups = self._groups("bsi_group_by", (_Group * (most + 1))(), by, fields)
         if groups is None:
             return None
-        found = {(group.entry,): _number_of(group.answer) for group in groups if group.present}
+        there = (group for group in groups if group.present or nulls)
+        found = {(group.entry if group.present else None,): _number_of(group.answer) for group in there}
         return found if len(found) <= most else None
 
     def _groups(self, call: str, room: Any, by: Tuple[bytes, ...], fields: Sequence[bytes]) -> Optional[List[Any]]:

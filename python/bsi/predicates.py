@@ -6,13 +6,16 @@ A predicate is its terms in postfix order, as a query of the library has them, a
 
 from __future__ import annotations
 
+from numbers import Integral
 from typing import Any, Iterable, List, NamedTuple, Tuple, Union
 
 import numpy as np
 
 from .errors import BadQuery
+from .kinds import COMPARE
 
 MAX_FIELDS = 1000
+MATCHES = {"startswith": str.startswith, "endswith": str.endswith, "contains": str.__contains__}
 BETTER = "write & | ~ in place of 'and', 'or', 'not', and two comparisons for a < x < b"
 
 
@@ -77,7 +80,39 @@ class Stored(NamedTuple):
         return f"({_shown(self.column, self.sign, f'number {self.number}')})"
 
 
-Term = Union[Comparison, Related, Null, Among, Holds, Stored, str]
+class Matching(NamedTuple):
+    """A column of texts, one of the words of `MATCHES`, and what a text is to begin or end with or to contain."""
+
+    column: str
+    word: str
+    text: str
+
+    def __str__(self) -> str:
+        return f"{_name(self.column)}.{self.word}({self.text!r})"
+
+
+class OfPart(NamedTuple):
+    """A column of times, a part of them, one of the signs or `in`, and whole numbers: one, or for `in` any."""
+
+    column: str
+    part: str
+    sign: str
+    constants: Tuple[int, ...]
+
+    def __str__(self) -> str:
+        name = f"{_name(self.column)}.{self.part}"
+        if self.sign == "in":
+            return f"{name}.isin([{', '.join(map(repr, self.constants))}])"
+        return f"({name} {'==' if self.sign == '=' else self.sign} {self.constants[0]!r})"
+
+    def test(self, values: np.ndarray) -> np.ndarray:
+        """Returns which values of the part are selected."""
+        if self.sign == "in":
+            return np.isin(values, self.constants)
+        return COMPARE[self.sign](values, self.constants[0])
+
+
+Term = Union[Comparison, Related, Null, Among, Holds, Stored, Matching, OfPart, str]
 
 
 def _shown(column: str, sign: str, other: str) -> str:
@@ -167,30 +202,17 @@ def _scalar(constant: Any) -> Any:
     return constant[()] if isinstance(constant, np.ndarray) and constant.ndim == 0 else constant
 
 
-class Column:
-    """A column by its name, to be compared with constants of the column's own type, and with columns of its kind."""
+class _Comparable:
+    """What is compared with constants, by methods that `_compared` stands behind."""
 
-    __slots__ = ("name",)
+    __slots__ = ()
     __array_ufunc__ = None  # (NumPy leaves comparisons to this class)
-    name: str
-
-    def __init__(self, name: str):
-        if not isinstance(name, str):
-            raise TypeError(f"the name of a column is a text, and not {name!r}")
-        object.__setattr__(self, "name", name)
 
     def __setattr__(self, name: str, value: Any):
         raise AttributeError("a column never changes")
 
-    def __reduce__(self):
-        return Column, (self.name,)
-
     def _compared(self, sign: str, constant: Any) -> Predicate:
-        if isinstance(constant, Predicate):
-            raise TypeError("a column is compared with a constant or a column, and not with a predicate")
-        if isinstance(constant, Column):
-            return Predicate((Related(self.name, constant.name, sign),))
-        return Predicate((Comparison(self.name, sign, _scalar(constant)),))
+        raise NotImplementedError
 
     def __eq__(self, constant: Any) -> Predicate:  # type: ignore[override]
         return self._compared("=", constant)
@@ -212,6 +234,78 @@ class Column:
 
     __hash__ = None  # type: ignore[assignment]
 
+    def __bool__(self) -> bool:
+        raise TypeError(f"a column is neither true nor false: {BETTER}")
+
+    def between(self, least: Any, greatest: Any) -> Predicate:
+        """Selects the rows from the one constant to the other, both included."""
+        return (self >= least) & (self <= greatest)
+
+
+def _listed(constants: Any) -> Tuple[Any, ...]:
+    """Returns the constants of `isin`."""
+    if isinstance(constants, (str, bytes)):
+        raise TypeError(f"isin takes a list of constants, and not a text: isin([{constants!r}])")
+    if not isinstance(constants, Iterable):
+        raise TypeError(f"isin takes a list of constants, and not {constants!r}")
+    return tuple(map(_scalar, constants))
+
+
+class DatePart(_Comparable):
+    """A part of the dates or times of a column, as `col.day.month`, to be compared with whole numbers. It groups rows
+    too. Weekdays count from Monday, 0, and weeks are those of ISO 8601."""
+
+    __slots__ = ("column", "part")
+    column: str
+    part: str
+
+    def __init__(self, column: str, part: str):
+        object.__setattr__(self, "column", column)
+        object.__setattr__(self, "part", part)
+
+    def __reduce__(self):
+        return DatePart, (self.column, self.part)
+
+    def _compared(self, sign: str, constant: Any) -> Predicate:
+        return Predicate((OfPart(self.column, self.part, sign, (self._whole(constant),)),))
+
+    def _whole(self, constant: Any) -> int:
+        number = _scalar(constant)
+        if not isinstance(number, Integral) or isinstance(number, bool):
+            raise TypeError(f"the {self.part} of a column is compared with a whole number, and not {number!r}")
+        return int(number)
+
+    def isin(self, constants: Iterable[int]) -> Predicate:
+        """Selects the rows whose part is one of these numbers."""
+        return Predicate((OfPart(self.column, self.part, "in", tuple(map(self._whole, _listed(constants)))),))
+
+    def __repr__(self) -> str:
+        return f"{_name(self.column)}.{self.part}"
+
+
+class Column(_Comparable):
+    """A column by its name, to be compared with constants of the column's own type, and with columns of its kind."""
+
+    __slots__ = ("name",)
+    name: str
+
+    def __init__(self, name: str):
+        if not isinstance(name, str):
+            raise TypeError(f"the name of a column is a text, and not {name!r}")
+        object.__setattr__(self, "name", name)
+
+    def __reduce__(self):
+        return Column, (self.name,)
+
+    def _compared(self, sign: str, constant: Any) -> Predicate:
+        if isinstance(constant, Predicate):
+            raise TypeError("a column is compared with a constant or a column, and not with a predicate")
+        if isinstance(constant, DatePart):
+            raise TypeError("a column is compared with a constant or a column, and not with a part of dates")
+        if isinstance(constant, Column):
+            return Predicate((Related(self.name, constant.name, sign),))
+        return Predicate((Comparison(self.name, sign, _scalar(constant)),))
+
     def holds(self) -> Predicate:
         """Selects the rows that have True here. `&`, `|` and `~` take a column of booleans as this."""
         return Predicate((Holds(self.name),))
@@ -225,9 +319,6 @@ class Column:
     def __invert__(self) -> Predicate:
         return ~self.holds()
 
-    def __bool__(self) -> bool:
-        raise TypeError(f"a column is neither true nor false: {BETTER}")
-
     def isnull(self) -> Predicate:
         """Selects the rows that have a null here."""
         return Predicate((Null(self.name),))
@@ -236,18 +327,63 @@ class Column:
         """Selects the rows that have a value here."""
         return ~self.isnull()
 
-    def between(self, least: Any, greatest: Any) -> Predicate:
-        """Selects the rows from the one constant to the other, both included."""
-        return (self >= least) & (self <= greatest)
-
     def isin(self, constants: Iterable[Any]) -> Predicate:
         """Selects the rows that have one of the constants here. Those that follow each other are asked as one run, and
         about 120 runs at once, so that more of them take several questions."""
-        if isinstance(constants, (str, bytes)):
-            raise TypeError(f"isin takes a list of constants, and not a text: isin([{constants!r}])")
-        if not isinstance(constants, Iterable):
-            raise TypeError(f"isin takes a list of constants, and not {constants!r}")
-        return Predicate((Among(self.name, tuple(map(_scalar, constants))),))
+        return Predicate((Among(self.name, _listed(constants)),))
+
+    def startswith(self, text: str) -> Predicate:
+        """Selects the rows whose text here begins with another."""
+        return self._matching("startswith", text)
+
+    def endswith(self, text: str) -> Predicate:
+        """Selects the rows whose text here ends with another."""
+        return self._matching("endswith", text)
+
+    def contains(self, text: str) -> Predicate:
+        """Selects the rows whose text here has another within it, as it is spelt: no pattern."""
+        return self._matching("contains", text)
+
+    def _matching(self, word: str, text: str) -> Predicate:
+        text = _scalar(text)
+        if not isinstance(text, str):
+            raise TypeError(f"{word} takes a text, and not {text!r}")
+        return Predicate((Matching(self.name, word, str(text)),))
+
+    @property
+    def year(self) -> DatePart:
+        """The year of the column's dates or times, as the other parts are."""
+        return DatePart(self.name, "year")
+
+    @property
+    def quarter(self) -> DatePart:
+        """The quarter, from 1."""
+        return DatePart(self.name, "quarter")
+
+    @property
+    def month(self) -> DatePart:
+        """The month, from 1."""
+        return DatePart(self.name, "month")
+
+    @property
+    def week(self) -> DatePart:
+        """The week of ISO 8601, which is the first or the last of a year next to it at times."""
+        return DatePart(self.name, "week")
+
+    @property
+    def day(self) -> DatePart:
+        """The day of the month."""
+        return DatePart(self.name, "day")
+
+    @property
+    def weekday(self) -> DatePart:
+        """The day of the week, from Monday, 0."""
+        return DatePart(self.name, "weekday")
+
+    @property
+    def hour(self) -> DatePart:
+        """The hour of times."""
+        return DatePart(self.name, "hour")
 
     def __repr__(self) -> str:
         return _name(self.name)

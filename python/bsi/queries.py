@@ -9,10 +9,25 @@ from __future__ import annotations
 
 from typing import Any, Dict, Iterable, Iterator, List, Mapping, Optional, Sequence, Tuple, Union
 
+from .dateparts import runs_where
 from .errors import BadQuery
 from .forms import Form
 from .kinds import FAR, Cut, Flags, Kind, Texts, Times, shown
-from .predicates import MAX_FIELDS, Among, Column, Comparison, Holds, Null, Predicate, Related, Stored, refuse_long
+from .predicates import (
+    MATCHES,
+    MAX_FIELDS,
+    Among,
+    Column,
+    Comparison,
+    Holds,
+    Matching,
+    Null,
+    OfPart,
+    Predicate,
+    Related,
+    Stored,
+    refuse_long,
+)
 from .values import is_null
 
 Name = Union[str, Column]
@@ -94,8 +109,15 @@ class Writer:
             return self._one_of(name, (left for left, right in cuts if left < right))
         if isinstance(term, Stored):
             return [self.within[name], term.sign.encode(), b"%d" % term.number]
-        assert isinstance(term, Holds)
         kind = self.forms[name].kind
+        if isinstance(term, OfPart):
+            return self._of_part(name, kind, term)
+        if isinstance(term, Matching):
+            if not isinstance(kind, Texts):
+                raise BadQuery(f"column {name!r} holds {kind}: {term.word} is asked of texts")
+            fits = MATCHES[term.word]
+            return self._one_of(name, (place for place, text in enumerate(kind.values) if fits(text, term.text)))
+        assert isinstance(term, Holds)
         if kind != Flags():
             raise BadQuery(f"column {name!r} holds {kind}: only one of booleans is a predicate by itself")
         return [self.within[name], b"=", b"1"]
@@ -118,12 +140,28 @@ class Writer:
             raise BadQuery(f"columns {name!r} and {other!r} hold texts that grow, which == and != alone compare")
         return [self.within[name], term.sign.encode(), self.within[other]]
 
+    def _span(self, name: str) -> Tuple[int, int]:
+        """Returns from which number of a column on, and up to which, rows are asked for."""
+        form = self.forms[name]
+        return self.spans.get(name, (form.offset, form.most)) or (FAR, -FAR)
+
+    def _of_part(self, name: str, kind: Kind, term: OfPart) -> Fields:
+        low, high = self._span(name)
+        try:
+            return self._runs(name, runs_where(kind, term.part, term.test, low, high) if low <= high else [])
+        except (TypeError, ValueError) as why:
+            raise BadQuery(f"column {name!r}: {why}") from None
+
     def _one_of(self, name: str, numbers: Iterable[int]) -> Fields:
-        """Returns the fields that select some numbers of a column, run by run, of those in its span."""
-        form, column, fields = self.forms[name], self.within[name], []  # type: Form, bytes, Fields
-        low, high = self.spans.get(name, (form.offset, form.most)) or (FAR, -FAR)
+        """Returns the fields that select some numbers of a column, of those in its span."""
+        low, high = self._span(name)
+        return self._runs(name, runs_of(sorted({number for number in numbers if low <= number <= high})))
+
+    def _runs(self, name: str, runs: Iterable[Tuple[int, int]]) -> Fields:
+        """Returns the fields that select the numbers of some runs of a column."""
+        column, fields = self.within[name], []  # type: bytes, Fields
         firsts = self.firsts.setdefault(name, set())
-        for first, last in runs_of(sorted({number for number in numbers if low <= number <= high})):
+        for first, last in runs:
             firsts.add(first)
             joined = [b"or"] if fields else []
             if first == last:

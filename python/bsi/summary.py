@@ -29,30 +29,37 @@ class Summary(Mapping[str, Dict[str, Any]]):
 
     def _rows(self) -> List[List[str]]:
         columns = self._figures.values()
-        shown = [[name, *(_shown(column.get(name)) for column in columns)] for name in self._names()]
-        return [["", *self._figures], *shown]
+        rows = [[name, *(shown(column.get(name)) for column in columns)] for name in self._names()]
+        return [["", *self._figures], *rows]
 
     def _names(self) -> List[str]:
         """Returns the names of the figures that a column has."""
         return [name for name in ORDER if any(name in column for column in self._figures.values())]
 
     def __repr__(self) -> str:
-        rows = self._rows()
-        widths = [max(map(len, column)) for column in zip(*rows)]
-        lines = [
-            "  ".join([row[0].ljust(widths[0]), *(cell.rjust(width) for cell, width in zip(row[1:], widths[1:]))])
-            for row in rows
-        ]
-        return "\n".join(line.rstrip() for line in lines)
+        return lines_of(self._rows(), 1)
 
     def _repr_html_(self) -> str:
         return html_of(self._rows())
 
     def to_pandas(self) -> Any:
-        """Returns the figures as a frame of pandas, a column of objects for each column."""
+        """Returns the figures as a frame of pandas: of floats for a column whose figures are numbers but no decimals, else
+        of objects."""
         import pandas
 
-        return pandas.DataFrame(self._figures, self._names(), dtype=object)
+        names, frame = self._names(), {}
+        for column, figures in self._figures.items():
+            given = [figures.get(name) for name in names]
+            are_numbers = {type(one) for one in given if one is not None} <= {int, float}
+            frame[column] = pandas.Series(given, names, "float64" if are_numbers else object)
+        return pandas.DataFrame(frame, names)
+
+
+def lines_of(rows: List[List[str]], left: int = 1) -> str:
+    """Returns rows of cells as lines, with the first so many columns to the left and the others to the right."""
+    widths = [max(map(len, column)) for column in zip(*rows)]
+    align = [str.ljust if place < left else str.rjust for place in range(len(widths))]
+    return "\n".join("  ".join(map(lambda side, *cell: side(*cell), align, row, widths)).rstrip() for row in rows)
 
 
 def html_of(rows: List[List[str]]) -> str:
@@ -63,7 +70,8 @@ def html_of(rows: List[List[str]]) -> str:
     return "<table>" + "".join(lines) + "</table>"
 
 
-def _shown(value: Any) -> str:
+def shown(value: Any) -> str:
+    """Returns a figure as a cell shows it."""
     if value is None:
         return ""
     if isinstance(value, float):

@@ -16,18 +16,33 @@ from dataclasses import replace
 from decimal import Decimal
 from fractions import Fraction
 from numbers import Integral, Real
-from typing import AbstractSet, Any, Dict, Iterable, Iterator, List, Mapping, Optional, Sequence, Tuple, TypeVar, Union
+from typing import (
+    AbstractSet,
+    Any,
+    Callable,
+    Dict,
+    Iterable,
+    Iterator,
+    List,
+    Mapping,
+    Optional,
+    Sequence,
+    Tuple,
+    TypeVar,
+    Union,
+)
 
 import numpy as np
 
 from .choosing import Chosen, of_each, refuse_misfit, refuse_no_kind
 from .errors import BadColumns, BadQuery, BadRow, BadSchema, Error, IndexFull, NoMemory, Skipped
 from .forms import Form
-from .groups import GroupBy, Groups, key_of, too_many
+from .gathered import Numbers
+from .groups import GroupBy, Groups, keys_of, too_many
 from .kinds import Decimals, Flags, Misfit, Texts, Times, Whole, shown
 from .narrowing import encode
 from .native import BAD_ROW, INDEX_FULL, NO_MEMORY, Entries, Handle, check
-from .predicates import Column, Comparison, Predicate, Stored, all_rows
+from .predicates import Column, Comparison, DatePart, Predicate, Stored, all_rows
 from .progress import Progress, told
 from .queries import Name, name_among, queries_of
 from .returning import column_of, frame_of, list_of
@@ -42,6 +57,8 @@ MAX_ROWS, MAX_COLUMNS = 1 << 32, 64
 BLOCK, LEAST_ROWS = 1 << 16, 1 << 14
 # How many fields it takes that the rows lie on one side of a number besides.
 BOUND = 4
+# What rows are grouped by.
+Key = Union[Name, DatePart]
 # A part of rows from 0 to 1.
 Part = Union[float, Fraction]
 Self = TypeVar("Self", bound="Table")
@@ -366,6 +383,15 @@ class Table:
             low, high = (low, middle) if below > rank else (middle + 1, high)
         return low
 
+    def nth(self, column: Name, rank: int, where: Predicate = all_rows) -> Any:
+        """Returns the value of a rank among those of the column in these rows, from 0, the least. None past the last."""
+        if not hasattr(rank, "__index__") or isinstance(rank, bool) or rank < 0:
+            raise ValueError(f"a rank is a whole number from 0 up, and not {rank!r}")
+        name = self._name(column)
+        if rank >= self.count(name, where):
+            return None
+        return self._forms[name].kind.decode(self._number_at(name, int(rank), where))
+
     def rank(self, column: Name, value: Any, where: Predicate = all_rows, method: str = "average") -> Any:
         """Returns the place from 1 that a value has among those of the column in these rows, as pandas ranks them: of
         equal ones the mean of their places, or the "min" or "max" of these. None where none of the rows has it."""
@@ -431,38 +457,44 @@ class Table:
             if number is not None:
                 yield number
 
-    def groupby(self, column: Union[Name, Sequence[Name]]) -> GroupBy:
-        """Returns the rows by the values of a column: `groupby("station").sum("rain", where)`, or by the pairs of values
-        of two: `groupby(["station", "day"])`."""
-        if isinstance(column, (list, tuple)) and len(column) == 2:
-            return GroupBy(self, (self._name(column[0]), self._name(column[1])))
-        return GroupBy(self, (self._name(column),))
+    def groupby(self, keys: Union[Key, Sequence[Key]], dropna: bool = True) -> GroupBy:
+        """Returns the rows by the values of a column, or of a part of its dates: `groupby("station").sum("rain", where)`,
+        `groupby(col.day.month)`, or by those of several: `groupby([col.day.month, "station"])`. Rows with a null there
+        are left out, or a group of their own where `dropna` is False."""
+        return GroupBy(self, keys_of(keys, self._name), dropna)
 
     def grouped(
-        self, by: Tuple[str, ...], word: bytes, column: Optional[Name], where: Predicate, most: int
-    ) -> Optional[Dict[Any, Any]]:
-        """Returns the answer to a question of one word for each value of a column, or for each pair of values of two,
-        or None where the library does not have them at once: of texts whose numbers are in no order, and of too long a
-        predicate."""
-        names = [*by] if column is None else [*by, self._name(column)]
-        kinds = [self._forms[name].kind for name in names]
+        self, by: Tuple[str, ...], word: bytes, column: Optional[Name], where: Predicate, most: int, nulls: bool
+    ) -> Optional[Dict[Numbers, Optional[int]]]:
+        """Returns the answer to a question of one word, as a number, for each number of a column, or for each pair of
+        numbers of two, with those of nulls as None where they are wanted. None where the library does not have them at
+        once: of a median of parts, an end of texts whose numbers are in no order, and of too long a predicate."""
+        if word == b"sum":
+            self._refuse_no_sum(self._name(column))  # type: ignore[arg-type]
+        kind = None if column is None else self._forms[self._name(column)].kind
         queries = self._queries(where, 2 * BOUND if len(by) == 2 else 0)
-        if len(queries) > 1 or any(isinstance(kind, Texts) and kind.grows for kind in kinds):
+        if len(queries) > 1 or isinstance(kind, Texts) and kind.grows and word != b"count":
             return None
         if word == b"median" and not isinstance(self._store, Handle):
             return None
-        if word == b"sum":
-            self._refuse_no_sum(names[-1])
-        decode = {b"count": int, b"sum": kinds[-1].decode_sum}.get(word, kinds[-1].decode)
-        fields = [word, *(self._within[name] for name in names[len(by) :]), *queries[0]]
-        found = self._store.grouped(tuple(self._within[name] for name in by), fields, most)
+        fields = [word, *([] if column is None else [self._within[self._name(column)]]), *queries[0]]
+        found = self._store.grouped(tuple(self._within[name] for name in by), fields, most, nulls)
         if found is None:
             raise too_many(by, most)
-        answers = {}
-        for numbers, one in found.items():
-            values = tuple(kind.decode(number) for kind, number in zip(kinds, numbers))
-            answers[key_of(values)] = None if one is None else decode(one)
-        return answers
+        return found
+
+    def decoder(self, word: bytes, column: Optional[Name]) -> Callable[[int], Any]:
+        """Returns what turns the number that answers a question of one word into its value."""
+        if column is None or word == b"count":
+            return int
+        kind = self._forms[self._name(column)].kind
+        return kind.decode_sum if word == b"sum" else kind.decode
+
+    def ends(self, column: Name, where: Predicate = all_rows) -> Optional[Tuple[int, int]]:
+        """Returns the least and the greatest number of a column in these rows, or None where it has none."""
+        name, queries = self._name(column), self._queries(where)
+        low, high = (self._end(word, name, queries) for word in (b"least", b"greatest"))
+        return None if low is None or high is None else (low, high)
 
     def value_counts(self, column: Name, where: Predicate = all_rows) -> Groups:
         """Returns how many of these rows have each value of the column, the most frequent first."""

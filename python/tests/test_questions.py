@@ -56,11 +56,25 @@ def index():
         ("count (((price = 7)))", 1),
         ("count price = 7 or price = 100 and ok = false", 1),
         ("count (price = 7 or price = 100) and ok = false", 0),
+        ("list price >= 100", [0, 1]),
+        ("distinct price price > 7", 2),
+        ("rank price 1", 100),
+        ("rank price 3 where price < 999", None),
+        ("quantile price 1 2", 100),
+        ("top price 2", {1: 250, 0: 100}),
+        ("bottom price 9 price < 200", {3: 7, 0: 100}),
+        ("by ok count", {False: 1, True: 2, None: 1}),
+        ("by day.month ok sum price price > 5", {(1, True): 100, (2, False): 250, (2, True): 7}),
+        ("by day.weekday distinct price where price not null", {5: 2, 6: 1}),
+        ("count day.month = 2 and day.year >= 2026", 2),
+        ("rows not day.day != 28 and day.day not null", [3]),
+        ("count 'where' startswith a or 'where' contains \"'H\"", 2),
     ],
 )
 def test_answers(index, text, answer):
     found = bsi.ask(index, text)
     assert (found.tolist() if isinstance(answer, list) else found) == answer
+    assert not isinstance(answer, dict) or list(found) == list(answer)
 
 
 @pytest.mark.parametrize(
@@ -91,6 +105,17 @@ def test_answers(index, text, answer):
         ("count where > 5", "no column '>'"),
         ("count " + " and ".join(["price = 1"] * 300), "at most 1,000 fields"),
         ("count __import__('os')", "no column"),
+        ("rank price", "asked of a column and a whole number"),
+        ("quantile price 1", "asked of a column and two whole numbers"),
+        ("quantile price 3 2", "a share is a part of a whole"),
+        ("top price many", "asked of a column and a whole number"),
+        ("by count", "'by' is asked of columns"),
+        ("by price", "'by' is asked of columns"),
+        ("by price sum", "'sum' is asked of a column"),
+        ("by price.month count", "whole numbers have no month"),
+        ("count day.month = May", "is compared with a whole number"),
+        ("count day.minute = 5", "no column 'day.minute'"),
+        ("count price contains 5", "contains is asked of texts"),
     ],
 )
 def test_questions_that_are_none(index, text, why):
@@ -211,12 +236,22 @@ def test_the_command_takes_what_read_csv_takes(tmp_path):
     assert run("--version").stdout == f"bsi {bsi.__version__}\n" and bsi.__version__[0].isdigit()
 
 
+def test_the_command_answers_groups_and_rows(tmp_path):
+    path = tmp_path / "rows.csv"
+    path.write_text("n,day,who\n1,2026-01-31,Ada\n12,2026-02-01,\n,2026-02-03,Bo\n4,,Ada\n")
+    ran = run(str(path), "by", "day.month", "who", "sum", "n", "n<5", "by who count", "top n 2", "by who count n > 99")
+    assert ran.stdout.splitlines()[4:] == ["1     Ada  1", "null  Ada  4", "Ada   2", "Bo    1", "null  1", "1  12", "3   4", "none"]
+    assert ran.returncode == 0 and ran.stderr == ""
+
+
 def test_a_shell_that_takes_a_sign_is_told(tmp_path):
     path, out = tmp_path / "rows.csv", tmp_path / "100"
     path.write_text("n\n5\n600\n")
     line = f"{sys.executable} -m bsi {path} count n > {out}"
     ran = subprocess.run(["sh", "-c", line], capture_output=True, text=True, check=False)
-    assert ran.returncode == 1 and "as the shell reads a > outside of quotes" in ran.stderr
+    assert ran.returncode == 1 and "the answers go to the file '100'; if > was meant as a sign: " in ran.stderr
+    line = f"{sys.executable} -m bsi {path} 'sum m' > {out}"
+    assert "a sign" not in subprocess.run(["sh", "-c", line], capture_output=True, text=True, check=False).stderr
     assert run(str(path), "count", "n", "=", "5").stdout.splitlines()[-1] == "1"
 
 

@@ -27,9 +27,9 @@ def read(**more):
 # The call, the kind of error, and what it says.
 REFUSED = [
     (lambda: index().sum(["x"]), bsi.BadQuery, r"there is no column \['x'\], only 'x', 't', 'f'"),
-    (lambda: index().groupby(["x"]), bsi.BadQuery, r"there is no column \['x'\]"),
+    (lambda: index().groupby([["x"]]), bsi.BadQuery, r"there is no column \['x'\]"),
     (lambda: index().groupby(["t", "z"]), bsi.BadQuery, "there is no column 'z'"),
-    (lambda: index().groupby(["t", "t", "t"]), bsi.BadQuery, r"there is no column \['t', 't', 't'\]"),
+    (lambda: index().groupby(["t", 5, "t"]), bsi.BadQuery, "there is no column 5"),
     (lambda: index().median(None), bsi.BadQuery, "there is no column None"),
     (lambda: index().describe([5]), bsi.BadQuery, "there is no column 5"),
     (lambda: index().take([0], 5), TypeError, "columns is a list of names, and not 5"),
