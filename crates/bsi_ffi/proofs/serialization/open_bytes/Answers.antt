@@ -15,9 +15,9 @@ returns-in-Err-clause-refused c =
 pub returns-in-Some-clause-refused : goal.returns-in-Some-clause-refused
 returns-in-Some-clause-refused c =
     let is : c.in-Ok.loaded.fault ≡ Some c.in-Some.fault = search rules in
-    refused_as c.args.bytes.now _ _ _ _ _ _ _ is c.refusal_of-in-Some.ensures c.in-Ok.ensures.opened
+    refused_as c.args.bytes.now _ _ _ _ _ _ _ _ is c.refusal_of-in-Some.ensures c.in-Ok.ensures.opened
 
 pub returns-in_err-text-clause-refused : goal.returns-in_err-text-clause-refused
 returns-in_err-text-clause-refused c =
     let is : IfErr c.from_residual.result (λ why. why ≡ NoMemory) = search rules in
-    refused_memory c.from_residual.result c.args.bytes.now c.in-Ok.loaded.bytes (begins_with_file c.args.bytes.now _ _ _ _ _ c.in-Ok.ensures.opened) is
+    refused_memory c.from_residual.result c.args.bytes.now c.in-Ok.loaded.bytes (begins_with_file c.args.bytes.now _ _ _ _ _ _ c.in-Ok.ensures.opened) is
