@@ -201,7 +201,7 @@ uint32_t bsi_memory(bsi_index *index, uint64_t *bytes);
 uint32_t bsi_schema(bsi_index *index, uint8_t *text, size_t room, size_t *size);
 
 /* The most bytes of notes, which a caller keeps beside an index. */
-#define BSI_MAX_NOTES 65536
+#define BSI_MAX_NOTES 67108864
 
 /* Writes the bytes that keep the index and the caller's notes: a file of one segment, as docs/FORMATS.md says. *size is
  * how many they are, at BSI_NO_ROOM too, so that a call with no room asks for it. Meanwhile the call takes memory for

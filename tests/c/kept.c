@@ -56,7 +56,7 @@ static void of_saving(bsi_index *index) {
     bool rest = true;
     for (size_t k = size; k < sizeof bytes; k++) rest &= bytes[k] == 0xa5;
     check(rest && size <= ROOM, "save: no byte behind the file is written");
-    check(!memcmp(bytes, "bsikept\1", 8), "save: the bytes begin as a kept index does");
+    check(!memcmp(bytes, "bsikept\2", 8), "save: the bytes begin as a kept index does");
     memcpy(file, bytes, size);
     static uint8_t many[BSI_MAX_NOTES + 1];
     after = 7;
@@ -150,7 +150,7 @@ static void of_each_byte(void) {
     bsi_index index = {0};
     uint64_t whole;
     memcpy(bytes, file, size);
-    bytes[7] = 2;
+    bytes[7] = 3;
     check(open_bytes(&index, bytes, size, &whole) == BSI_OTHER_VERSION, "open: another version");
     bytes[0] = 'B';
     check(open_bytes(&index, bytes, size, &whole) == BSI_NOT_KEPT, "open: another file");
@@ -172,9 +172,8 @@ static void of_false_counts(void) {
 }
 
 /* A file that stays in the repository for good, which the Python package saved. */
-static void of_the_file_for_good(void) {
-    static const char name[] = "../kept/weather-1.bsi";
-    char path[sizeof __FILE__ + sizeof name] = __FILE__;
+static void of_a_file_for_good(const char *name) {
+    char path[sizeof __FILE__ + 64] = __FILE__;
     char *slash = strrchr(path, '/');
     strcpy(slash ? slash + 1 : path, name);
     FILE *from = fopen(path, "rb");
@@ -209,6 +208,7 @@ int main(void) {
     of_many_segments();
     of_each_byte();
     of_false_counts();
-    of_the_file_for_good();
+    of_a_file_for_good("../kept/weather-1.bsi");
+    of_a_file_for_good("../kept/weather-2.bsi");
     return failed != 0;
 }

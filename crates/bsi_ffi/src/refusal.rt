@@ -34,7 +34,7 @@ pub enum Refusal {
     BufferTooSmall,
     /// The schema text has more than 1,000,000 records.
     BadText,
-    /// There are more than 65,536 bytes of notes.
+    /// There are more than 67,108,864 bytes of notes.
     LongNotes,
     /// The bytes are not those of a saved index.
     NotAnIndex,
