@@ -209,8 +209,8 @@ uint32_t bsi_schema(bsi_index *index, uint8_t *text, size_t room, size_t *size);
 uint32_t bsi_save(bsi_index *index, const uint8_t *notes, size_t notes_len, uint8_t *bytes, size_t room, size_t *size);
 
 /* Opens a closed handle with the index that all these bytes keep, and writes the notes of the last segment; room for
- * BSI_MAX_NOTES is enough. *notes_len is their number, at BSI_NO_ROOM too, which leaves the handle closed. Of the bytes
- * nothing is kept after the call. *whole is how many of the first bytes keep an index: all at BSI_OK and BSI_NO_ROOM; at
+ * BSI_MAX_NOTES is enough, and so is room for len. *notes_len is their number, at BSI_NO_ROOM too, which leaves the handle
+ * closed. Of the bytes nothing is kept after the call. *whole is how many of the first bytes keep an index: all at BSI_OK and BSI_NO_ROOM; at
  * BSI_NOT_KEPT, BSI_OTHER_VERSION, BSI_CUT_SHORT, BSI_DAMAGED and BSI_NO_MEMORY those before the fault, which may be
  * opened instead, or 0; 0 at BSI_OPEN. */
 uint32_t bsi_open_kept(bsi_index *index, const uint8_t *bytes, size_t len, uint8_t *notes, size_t notes_room,
