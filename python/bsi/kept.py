@@ -19,7 +19,7 @@ from typing import IO, Any, Dict, Iterable, Iterator, Mapping, NamedTuple, Optio
 
 import numpy as np
 
-from .errors import BadNotes, Error, KeptError, LongNotes, NotKept
+from .errors import BadNotes, Error, HasKinds, KeptError, LongNotes, NotKept
 from .forms import Form
 from .kinds import Decimals, Flags, Kind, Texts, Times, Whole
 from .native import MAX_NOTES, Handle
@@ -188,10 +188,12 @@ def opened_bytes(data: Any, path: Optional[str] = None, so_far: bool = False) ->
     the fault are wanted."""
     given = np.frombuffer(data, np.uint8)
     try:
-        handle, notes = Handle.of_kept(given)
+        handle, notes = _handle_of(given, path)
+    except HasKinds:
+        raise
     except KeptError as why:
         # (what stands whole is opened, to tell how many rows it has)
-        before = Handle.of_kept(given[: why.whole]) if why.whole else None
+        before = _handle_of(given[: why.whole], path) if why.whole else None
         if before is None or not so_far:
             rows = before[0].rows() if before else 0
             raise type(why)(None, path, rows, why.whole) from None
@@ -203,6 +205,14 @@ def opened_bytes(data: Any, path: Optional[str] = None, so_far: bool = False) ->
     except (ValueError, KeyError, TypeError, AttributeError, RecursionError) as why:
         raise BadNotes(f"its notes can't be read: {_reason(why)}", path, handle.rows()) from None
     return Kept(forms, limit, handle, more)
+
+
+def _handle_of(given: np.ndarray, path: Optional[str]) -> Tuple[Handle, bytes]:
+    """Opens the index that all these bytes keep. Where they have a text of kinds, nothing of them can be opened."""
+    try:
+        return Handle.of_kept(given)
+    except HasKinds:
+        raise HasKinds(None, path) from None
 
 
 def _reason(why: BaseException) -> str:

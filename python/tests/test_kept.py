@@ -258,6 +258,18 @@ def test_another_version(path):
         bsi.open(path)
 
 
+def test_a_text_of_kinds_is_not_dropped(path):
+    (segment,) = kept_format.segments(small()._kept().tobytes())
+    data = kept_format.encode(segment._replace(kinds=b"kind,price,decimal 2\n"))
+    for end in (len(data), len(data) + 8):
+        with open(path, "wb") as file:
+            file.write((data + data)[:end])
+        for so_far in (False, True):
+            with pytest.raises(bsi.HasKinds, match="small.bsi: .* text of kinds") as refused:
+                bsi.open(path, so_far=so_far)
+            assert refused.value.status == 19 and refused.value.rows == 0
+
+
 def packed(column=None, **more):
     """Returns notes of one column."""
     return zlib.compress(json.dumps({"bsi": 1, "columns": [{"name": "x", **(column or {})}], **more}).encode())

@@ -1,5 +1,5 @@
 -- What the bytes in memory keep, of which a reader reported what it had.
-use Rattle.std.proofs.Common.{◌≡◌, inl, inr, ℕ, ◌≤◌, List, [], ◌++◌, Option, None, Some, length, take, refl, sym, ap, subst, ◌∙◌, arith, length-append}
+use Rattle.std.proofs.Common.{◌≡◌, inl, inr, ℕ, ◌<◌, ◌≤◌, List, [], ◌++◌, Option, None, Some, length, take, refl, sym, ap, subst, ◌∙◌, arith, length-append}
 use Rattle.std.specs.Prelude.{IfErr, Result, Ok, Err}
 use Rattle.std.specs.Io.KnownBytes.{Consumes}
 use Rattle.std.proofs.lemmas.List.{append-nil, take_at}
@@ -7,7 +7,8 @@ use Rattle.bsi_rows.specs.Table.{Table}
 use Rattle.bsi_storage.specs.Faults.{EndsBy, IsFirstSegmentFault, IsOpened}
 use Rattle.bsi_storage.specs.declared.fault.OpenFault.{OpenFault}
 use Rattle.bsi_storage.specs.declared.fault.OpenFault.TheVariants.{CutShort, Damaged, NoMemory, NotAnIndex, OtherVersion, Read}
-use Rattle.bsi_ffi.specs.Calls.{file_refusal, BeginsWithFile, IsFileOfSomeKinds, IsFileRefusal}
+use Rattle.bsi_storage.specs.Saved.{IsFileOf}
+use Rattle.bsi_ffi.specs.Calls.{file_refusal, BeginsWithFile, IsFileRefusal, IsFileWithKinds}
 use Rattle.bsi_ffi.specs.declared.refusal.Refusal.{Refusal}
 use Rattle.bsi_ffi.specs.declared.refusal.Refusal.TheVariants as refusal
 use Rattle.bsi_syntax.specs.Bytes.{KnownBytes}
@@ -30,10 +31,10 @@ all_bytes bytes t kinds (Some rest) (Some none) first consumed only =
 
 module _ (bytes : List ℕ) (after : KnownBytes) (t : Table) (notes kinds : List ℕ) (size : ℕ) where
   -- where nothing stands behind what was opened, all bytes keep it
-  pub all_are_file : IsOpened (Some bytes) after t notes kinds size None → IsFileOfSomeKinds bytes t notes × (size ≡ length bytes)
+  pub all_are_file : IsOpened (Some bytes) after t notes kinds size None → IsFileOf bytes t notes kinds × (size ≡ length bytes)
   all_are_file opened =
       let same = all_bytes bytes t kinds opened.middle after opened.read.bytes opened.read.consumed opened.end in (
-        subst (λ (bs : List ℕ). IsFileOfSomeKinds bs t notes) (sym same) (kinds, opened.read.file),
+        subst (λ (bs : List ℕ). IsFileOf bs t notes kinds) (sym same) opened.read.file,
         opened.read.size_is ∙ ap (λ (bs : List ℕ). length bs) (sym same),
       )
 
@@ -46,8 +47,15 @@ module _ (bytes : List ℕ) (after : KnownBytes) (t : Table) (notes kinds : List
         omega (arith, opened.read.size_is, first_short bytes opened.middle opened.read.bytes opened.read.consumed),
         t,
         notes,
-        subst (λ (bs : List ℕ). IsFileOfSomeKinds bs t notes) (sym same) (kinds, opened.read.file),
+        kinds,
+        subst (λ (bs : List ℕ). IsFileOf bs t notes kinds) (sym same) opened.read.file,
       )
+
+  -- a text of kinds is refused
+  pub refused_kinds : IsOpened (Some bytes) after t notes kinds size None → 0 < length kinds → IsFileWithKinds bytes size
+  refused_kinds opened some =
+      let all = all_are_file opened in
+      (t, notes, kinds, all.0, some, all.1)
 
   -- a fault behind them is the refusal's
   pub refused_behind : (fault : OpenFault) → IsOpened (Some bytes) after t notes kinds size (Some fault) → IsFileRefusal bytes size (file_refusal fault)
@@ -81,8 +89,8 @@ refused_memory (Ok x) bytes size first is = tt
 refused_memory (Err why) bytes size first is = subst (λ (w : Refusal). IsFileRefusal bytes size w) (sym is) first
 
 -- where all bytes keep an index, the first so many do
-pub whole_file : (bytes : List ℕ) (t : Table) (notes : List ℕ) (whole : ℕ) → IsFileOfSomeKinds bytes t notes → whole ≡ length bytes → BeginsWithFile bytes whole
-whole_file bytes t notes whole file is =
+pub whole_file : (bytes : List ℕ) (t : Table) (notes kinds : List ℕ) (whole : ℕ) → IsFileOf bytes t notes kinds → whole ≡ length bytes → BeginsWithFile bytes whole
+whole_file bytes t notes kinds whole file is =
     let all : take (length bytes) bytes ≡ bytes =
     ap (λ (xs : List ℕ). take (length bytes) xs) (sym (append-nil bytes)) ∙ take_at bytes [] (length bytes) refl in
-    inr (omega (arith, is), t, notes, subst (λ (bs : List ℕ). IsFileOfSomeKinds bs t notes) (sym (ap (λ n. take n bytes) is ∙ all)) file)
+    inr (omega (arith, is), t, notes, kinds, subst (λ (bs : List ℕ). IsFileOf bs t notes kinds) (sym (ap (λ n. take n bytes) is ∙ all)) file)

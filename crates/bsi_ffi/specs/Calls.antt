@@ -32,7 +32,7 @@ use Rattle.bsi_ffi.specs.declared.answers.FlatAnswer.{FlatAnswer}
 use Rattle.bsi_ffi.specs.declared.answers.Origin.{Origin}
 use Rattle.bsi_ffi.specs.declared.columns.ColumnInput.{ColumnInput}
 use Rattle.bsi_ffi.specs.declared.refusal.Refusal.{Refusal}
-use Rattle.bsi_ffi.specs.declared.refusal.Refusal.TheVariants.{BadColumns, BadFeeder, BadQuery, BadRow, BadSchema, BadText, BufferTooSmall, Closed, CutShort, Damaged, IndexFull, LongNotes, NoColumns, NoMemory, NotAnIndex, Open, OtherVersion, Shared}
+use Rattle.bsi_ffi.specs.declared.refusal.Refusal.TheVariants.{BadColumns, BadFeeder, BadQuery, BadRow, BadSchema, BadText, BufferTooSmall, Closed, CutShort, Damaged, HasKinds, IndexFull, LongNotes, NoColumns, NoMemory, NotAnIndex, Open, OtherVersion, Shared}
 use Rattle.bsi_ffi.specs.declared.state.HandleState.{HandleState}
 use Rattle.bsi_ffi.specs.declared.state.HandleState.TheVariants.{Moved, Owned, Shared as shared_state}
 
@@ -283,10 +283,6 @@ file_refusal open_fault.Damaged = Damaged
 file_refusal open_fault.Read = NoMemory
 file_refusal open_fault.NoMemory = NoMemory
 
--- The bytes are a file of the table with these notes, and some text of kinds, which the handle does not have.
-abbrev pub IsFileOfSomeKinds : Bytes → Table → Bytes → Type 0
-IsFileOfSomeKinds bytes t notes = (kinds : Bytes) × IsFileOf bytes t notes kinds
-
 -- The fault is met at the first segment, or after the first `whole` bytes, which are a file.
 abbrev pub MeetsFaultAfter : List ℕ → ℕ → OpenFault → Type 0
 MeetsFaultAfter bytes whole fault =
@@ -296,7 +292,12 @@ MeetsFaultAfter bytes whole fault =
 -- The first `whole` bytes are a file, or there are none.
 abbrev pub BeginsWithFile : List ℕ → ℕ → Type 0
 BeginsWithFile bytes whole =
-    (whole ≡ 0) ⊎ ((whole ≤ length bytes) × (t : Table) × (notes : Bytes) × IsFileOfSomeKinds (take whole bytes) t notes)
+    (whole ≡ 0) ⊎ ((whole ≤ length bytes) × (t : Table) × (notes kinds : Bytes) × IsFileOf (take whole bytes) t notes kinds)
+
+-- All bytes are a file, and it has a text of kinds.
+abbrev pub IsFileWithKinds : List ℕ → ℕ → Type 0
+IsFileWithKinds bytes whole =
+    (t : Table) × (notes kinds : Bytes) × IsFileOf bytes t notes kinds × (0 < length kinds) × (whole ≡ length bytes)
 
 -- The bytes are refused. The first `whole` bytes are a file, or there are none.
 abbrev pub IsFileRefusal : List ℕ → ℕ → Refusal → Type 0
@@ -305,17 +306,18 @@ IsFileRefusal bytes whole OtherVersion = MeetsFaultAfter bytes whole open_fault.
 IsFileRefusal bytes whole CutShort = MeetsFaultAfter bytes whole open_fault.CutShort
 IsFileRefusal bytes whole Damaged = MeetsFaultAfter bytes whole open_fault.Damaged
 IsFileRefusal bytes whole NoMemory = BeginsWithFile bytes whole
+IsFileRefusal bytes whole HasKinds = IsFileWithKinds bytes whole
 IsFileRefusal bytes whole why = ⊥
 
--- The bytes are a file of the index, whose text declares its schema and limit.
+-- The bytes are a file of the index without a text of kinds. The index's text declares its schema and limit.
 pub record IsIndexOfFile (bytes notes : Bytes) (opened : OpenIndex) : Type 0 where
-  pub file : IsFileOfSomeKinds bytes opened.table notes
+  pub file : IsFileOf bytes opened.table notes []
   pub declared : IsSchemaText opened.text opened.table.schema opened.table.limit
 
--- The file has notes of `size` bytes, too many for the buffer.
+-- The file has no text of kinds, and notes of `size` bytes, too many for the buffer.
 abbrev pub AreNotesTooLong : List ℕ → List ℕ → ℕ → Type 0
 AreNotesTooLong bytes out size =
-    (t : Table) × (notes : Bytes) × IsFileOfSomeKinds bytes t notes × (size ≡ length notes) × (length out < size)
+    (t : Table) × (notes : Bytes) × IsFileOf bytes t notes [] × (size ≡ length notes) × (length out < size)
 
 -- A closed handle gets the index of the file, and the buffer gets the notes.
 abbrev pub IsReopening : Option HandleState → List ℕ → List ℕ → ℕ → ℕ → Option HandleState → Ending → Type 0

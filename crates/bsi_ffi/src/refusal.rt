@@ -44,6 +44,8 @@ pub enum Refusal {
     CutShort,
     /// A segment is not as it was written.
     Damaged,
+    /// They have a text of kinds, which no handle has.
+    HasKinds,
 }
 
 impl From<AllocError> for Refusal {
@@ -80,5 +82,6 @@ pub fn status_of(ending: Result<(), Refusal>) -> u32
         Err(Refusal::OtherVersion) => 16,
         Err(Refusal::CutShort) => 17,
         Err(Refusal::Damaged) => 18,
+        Err(Refusal::HasKinds) => 19,
     }
 }
