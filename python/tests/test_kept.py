@@ -291,7 +291,7 @@ NOTES = {
     "bad places": packed({"kind": "decimals", "places": "x", "rounded": False}),
     "too few texts": packed({"kind": "texts", "values": ["a"], "ordered": False, "grows": False}),
     "more than two flags": packed({"kind": "flags"}),
-    "512 MiB of blanks": zlib.compress(b" " * (1 << 29)),
+    "32 MiB of blanks": zlib.compress(b" " * (1 << 25)),
     "cut": packed({"kind": "whole"})[:-3],
 }
 
@@ -303,6 +303,15 @@ def test_notes_that_are_none_of_ours(notes):
     with pytest.raises(bsi.BadNotes, match="notes") as refused:
         kept.opened_bytes(index._store.save(notes, 0), "a.bsi")
     assert isinstance(refused.value, bsi.Error) and refused.value.path == "a.bsi"
+
+
+def test_notes_that_take_too_much_are_not_unpacked(monkeypatch):
+    index = bsi.Index({"x": bsi.slices(8)})
+    data = index._store.save(packed({"kind": "whole"}, more="much" * 100), 0)
+    assert kept.opened_bytes(data).more == {"more": "much" * 100}
+    monkeypatch.setattr(kept, "MAX_UNPACKED", 400)
+    with pytest.raises(bsi.BadNotes, match="not packed as a whole"):
+        kept.opened_bytes(data)
 
 
 def long_texts():
