@@ -1,5 +1,5 @@
 -- What the bytes in memory keep, of which a reader reported what it had.
-use Rattle.std.proofs.Common.{◌≡◌, inl, inr, ℕ, ◌<◌, ◌≤◌, List, [], ◌++◌, Option, None, Some, length, take, refl, sym, ap, subst, ◌∙◌, arith, length-append}
+use Rattle.std.proofs.Common.{◌≡◌, inl, inr, ℕ, ◌<◌, ◌≤◌, List, [], ◌∷◌, ◌++◌, Option, None, Some, length, take, refl, sym, ap, subst, ◌∙◌, arith, length-append}
 use Rattle.std.specs.Prelude.{IfErr, Result, Ok, Err}
 use Rattle.std.specs.Io.KnownBytes.{Consumes}
 use Rattle.std.proofs.lemmas.List.{append-nil, take_at}
@@ -51,12 +51,6 @@ module _ (bytes : List ℕ) (after : KnownBytes) (t : Table) (notes kinds : List
         subst (λ (bs : List ℕ). IsFileOf bs t notes kinds) (sym same) opened.read.file,
       )
 
-  -- a text of kinds is refused
-  pub refused_kinds : IsOpened (Some bytes) after t notes kinds size None → 0 < length kinds → IsFileWithKinds bytes size
-  refused_kinds opened some =
-      let all = all_are_file opened in
-      (t, notes, kinds, all.0, some, all.1)
-
   -- a fault behind them is the refusal's
   pub refused_behind : (fault : OpenFault) → IsOpened (Some bytes) after t notes kinds size (Some fault) → IsFileRefusal bytes size (file_refusal fault)
   refused_behind NotAnIndex opened = inr (after, t, notes, kinds, opened)
@@ -66,7 +60,22 @@ module _ (bytes : List ℕ) (after : KnownBytes) (t : Table) (notes kinds : List
   refused_behind Read opened = begins_with_file (Some Read) opened
   refused_behind NoMemory opened = begins_with_file (Some NoMemory) opened
 
--- and so is one at the first byte
+-- where nothing stands behind it, a text of kinds is refused
+pub refused_kinds : (bytes : List ℕ) (after : KnownBytes) (t : Table) (notes kinds : List ℕ) (size : ℕ) (met : Option OpenFault)
+    → met ≡ None → IsOpened (Some bytes) after t notes kinds size met → 0 < length kinds → IsFileWithKinds bytes size
+refused_kinds bytes after t notes kinds size met is opened some =
+    let all = all_are_file bytes after t notes kinds size (subst (λ (f : Option OpenFault). IsOpened (Some bytes) after t notes kinds size f) is opened) in
+    (t, notes, kinds, all.0, some, all.1)
+
+-- and the rest is a file without such a text
+pub plain_file : (bytes : List ℕ) (after : KnownBytes) (t : Table) (notes kinds : List ℕ) (size : ℕ) (met : Option OpenFault)
+    → met ≡ None → IsOpened (Some bytes) after t notes kinds size met → length kinds ≡ 0 → IsFileOf bytes t notes []
+plain_file bytes after t notes [] size met is opened none =
+    let all = all_are_file bytes after t notes [] size (subst (λ (f : Option OpenFault). IsOpened (Some bytes) after t notes [] size f) is opened) in
+    all.0
+plain_file bytes after t notes (byte ∷ kinds) size met is opened none = absurd (omega (arith, none))
+
+-- the first byte's fault is the refusal's
 pub refused_first : (bytes : List ℕ) (after : KnownBytes) (fault : OpenFault) → IsFirstSegmentFault (Some bytes) after fault → IsFileRefusal bytes 0 (file_refusal fault)
 refused_first bytes after NotAnIndex fault = inl (refl, (after, fault))
 refused_first bytes after OtherVersion fault = inl (refl, (after, fault))
