@@ -118,7 +118,8 @@ enum {
     BSI_NOT_KEPT = 15,      /* the bytes are not those of a kept index, or there are none */
     BSI_OTHER_VERSION = 16, /* they are of another version of the format */
     BSI_CUT_SHORT = 17,     /* they end within a segment */
-    BSI_DAMAGED = 18        /* a segment is not as it was written */
+    BSI_DAMAGED = 18,       /* a segment is not as it was written */
+    BSI_HAS_KINDS = 19      /* they have a text of kinds, which the library does not keep */
 };
 
 /* Opens a closed handle, with no rows. The schema is the text of a schema file, as docs/FORMATS.md says: the records
@@ -201,7 +202,7 @@ uint32_t bsi_memory(bsi_index *index, uint64_t *bytes);
 uint32_t bsi_schema(bsi_index *index, uint8_t *text, size_t room, size_t *size);
 
 /* The most bytes of notes, which a caller keeps beside an index. */
-#define BSI_MAX_NOTES 65536
+#define BSI_MAX_NOTES 67108864
 
 /* Writes the bytes that keep the index and the caller's notes: a file of one segment, as docs/FORMATS.md says. *size is
  * how many they are, at BSI_NO_ROOM too, so that a call with no room asks for it. Meanwhile the call takes memory for
@@ -209,10 +210,10 @@ uint32_t bsi_schema(bsi_index *index, uint8_t *text, size_t room, size_t *size);
 uint32_t bsi_save(bsi_index *index, const uint8_t *notes, size_t notes_len, uint8_t *bytes, size_t room, size_t *size);
 
 /* Opens a closed handle with the index that all these bytes keep, and writes the notes of the last segment; room for
- * BSI_MAX_NOTES is enough. *notes_len is their number, at BSI_NO_ROOM too, which leaves the handle closed. Of the bytes
- * nothing is kept after the call. *whole is how many of the first bytes keep an index: all at BSI_OK and BSI_NO_ROOM; at
- * BSI_NOT_KEPT, BSI_OTHER_VERSION, BSI_CUT_SHORT, BSI_DAMAGED and BSI_NO_MEMORY those before the fault, which may be
- * opened instead, or 0; 0 at BSI_OPEN. */
+ * BSI_MAX_NOTES is enough, and so is room for len. *notes_len is their number, at BSI_NO_ROOM too, which leaves the handle
+ * closed. Of the bytes nothing is kept after the call. *whole is how many of the first bytes keep an index: all at BSI_OK,
+ * BSI_NO_ROOM and BSI_HAS_KINDS; at BSI_NOT_KEPT, BSI_OTHER_VERSION, BSI_CUT_SHORT, BSI_DAMAGED and BSI_NO_MEMORY those
+ * before the fault, which may be opened instead, or 0; 0 at BSI_OPEN. */
 uint32_t bsi_open_kept(bsi_index *index, const uint8_t *bytes, size_t len, uint8_t *notes, size_t notes_room,
                        size_t *notes_len, uint64_t *whole);
 

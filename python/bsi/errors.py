@@ -166,6 +166,12 @@ class Damaged(KeptError):
     status, why = 18, "it is damaged"
 
 
+class HasKinds(KeptError):
+    """A kept index that says by a text of kinds what its numbers stand for."""
+
+    status, why = 19, "it says what its numbers stand for by a text of kinds, which this package does not read"
+
+
 class BadNotes(KeptError):
     """A kept index whose notes say in no known way what its columns mean."""
 
@@ -202,6 +208,6 @@ class Skipped(List[Error]):
 
 _KINDS: Tuple[Type[Error], ...] = (
     Closed, Open, NoMemory, BadSchema, NoColumns, BadFeeder, BadColumns, BadRow, IndexFull, Shared, BadQuery, NoRoom,
-    BadText, LongNotes, NotKept, OtherVersion, CutShort, Damaged,
+    BadText, LongNotes, NotKept, OtherVersion, CutShort, Damaged, HasKinds,
 )  # fmt: skip
 BY_STATUS: Dict[Optional[int], Type[Error]] = {kind.status: kind for kind in _KINDS}

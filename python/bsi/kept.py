@@ -19,18 +19,17 @@ from typing import IO, Any, Dict, Iterable, Iterator, Mapping, NamedTuple, Optio
 
 import numpy as np
 
-from .errors import BadNotes, Error, KeptError, LongNotes, NotKept
+from .errors import BadNotes, Error, HasKinds, KeptError, LongNotes, NotKept
 from .forms import Form
 from .kinds import Decimals, Flags, Kind, Texts, Times, Whole
-from .native import Handle
+from .native import MAX_NOTES, Handle
 from .table import names_within
 
 Path = Union[str, "os.PathLike[str]"]
 VERSION = 1
-MAX_NOTES = 1 << 16
-# What notes may take when they are unpacked: texts that pack well, and not memory without end.
-MAX_UNPACKED = 1 << 24
-# Room in a file for its head, the notes and the schema.
+# What notes may take before they are packed: texts that pack well, and not memory without end.
+MAX_UNPACKED = 1 << 28
+# Room in a file for its head without the notes.
 SPARE = 1 << 17
 MAGIC = b"bsikept"
 
@@ -57,11 +56,13 @@ class Kept(NamedTuple):
 def notes_of(forms: Mapping[str, Form], **more: Any) -> bytes:
     """Returns the notes that say what columns mean, or raises LongNotes."""
     columns = [{"name": name, **_spelt(name, form.kind)} for name, form in forms.items()]
-    packed = zlib.compress(json.dumps({"bsi": VERSION, "columns": columns, **more}).encode(), 9)
-    if len(packed) > MAX_NOTES:
-        texts = sum(len(form.kind.values) for form in forms.values() if isinstance(form.kind, Texts))
-        what = f"the names and the {texts:,} texts of the columns take {len(packed):,} bytes when packed"
-        raise LongNotes(f"{what}, and a file has room for {MAX_NOTES:,}; nothing was written")
+    notes = json.dumps({"bsi": VERSION, "columns": columns, **more}).encode()
+    packed = b"" if len(notes) > MAX_UNPACKED else zlib.compress(notes, 9)
+    for size, most, when in ((len(notes), MAX_UNPACKED, ""), (len(packed), MAX_NOTES, " when packed")):
+        if size > most:
+            texts = sum(len(form.kind.values) for form in forms.values() if isinstance(form.kind, Texts))
+            what = f"the names and the {texts:,} texts of the columns take {size:,} bytes{when}"
+            raise LongNotes(f"{what}, and a file has room for {most:,}; nothing was written")
     return packed
 
 
@@ -179,7 +180,7 @@ def kept_bytes(handle: Handle, forms: Mapping[str, Form], **more: Any) -> np.nda
     """Returns the bytes that keep an index, or raises LongNotes. Of these bytes the library makes a copy besides."""
     notes = notes_of(forms, **more)
     bitmaps = sum(1 + form.places for form in forms.values())
-    return handle.save(notes, 8 * bitmaps * (handle.rows() // 64 + 1) + SPARE)
+    return handle.save(notes, 8 * bitmaps * (handle.rows() // 64 + 2) + len(notes) + SPARE)
 
 
 def opened_bytes(data: Any, path: Optional[str] = None, so_far: bool = False) -> Kept:
@@ -187,10 +188,12 @@ def opened_bytes(data: Any, path: Optional[str] = None, so_far: bool = False) ->
     the fault are wanted."""
     given = np.frombuffer(data, np.uint8)
     try:
-        handle, notes = Handle.of_kept(given)
+        handle, notes = _handle_of(given, path)
+    except HasKinds:
+        raise
     except KeptError as why:
         # (what stands whole is opened, to tell how many rows it has)
-        before = Handle.of_kept(given[: why.whole]) if why.whole else None
+        before = _handle_of(given[: why.whole], path) if why.whole else None
         if before is None or not so_far:
             rows = before[0].rows() if before else 0
             raise type(why)(None, path, rows, why.whole) from None
@@ -202,6 +205,14 @@ def opened_bytes(data: Any, path: Optional[str] = None, so_far: bool = False) ->
     except (ValueError, KeyError, TypeError, AttributeError, RecursionError) as why:
         raise BadNotes(f"its notes can't be read: {_reason(why)}", path, handle.rows()) from None
     return Kept(forms, limit, handle, more)
+
+
+def _handle_of(given: np.ndarray, path: Optional[str]) -> Tuple[Handle, bytes]:
+    """Opens the index that all these bytes keep. Where they have a text of kinds, nothing of them can be opened."""
+    try:
+        return Handle.of_kept(given)
+    except HasKinds:
+        raise HasKinds(None, path) from None
 
 
 def _reason(why: BaseException) -> str:

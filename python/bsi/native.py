@@ -22,7 +22,7 @@ from .predicates import MAX_FIELDS
 from .taking import Found, Moments, kept_of, numbers_of
 
 OK, BAD_SCHEMA, BAD_ROW, INDEX_FULL, NO_ROOM, NO_MEMORY = 0, 4, 8, 9, 12, 3
-MAX_NOTES = 1 << 16
+MAX_NOTES = 1 << 26
 # Of how many numbers that a column may take the library counts each in one pass.
 MAX_TALLIES = 1 << 16
 COUNT, SUM = 1, 2
@@ -360,7 +360,9 @@ class Handle:
     def of_kept(cls, data: np.ndarray) -> Tuple["Handle", bytes]:
         """Opens the index that all these bytes keep, and returns its notes too. Raises a KeptError with how many of the
         first bytes keep one."""
-        handle, notes, size, whole = cls(), np.empty(MAX_NOTES, np.uint8), c_size_t(), c_uint64()
+        # (the notes are some of the bytes)
+        notes = np.empty(min(MAX_NOTES, len(data)), np.uint8)
+        handle, size, whole = cls(), c_size_t(), c_uint64()
         room = (_address(notes), len(notes), byref(size), byref(whole))
         status = handle._call("bsi_open_kept", _address(data), len(data), *room)
         if status != OK and issubclass(errors.BY_STATUS.get(status, errors.Error), errors.KeptError):

@@ -61,7 +61,7 @@ def numbers_of(handle: Any, names: Sequence[bytes], rows: np.ndarray, bitmaps: i
 
 def kept_of(handle: Any, bitmaps: int) -> KeptBitmaps:
     """Returns the bitmaps of an index, whose file has so many, from the bytes that keep it."""
-    return KeptBitmaps(handle.save(b"", 8 * bitmaps * (handle.rows() // 64 + 1) + SPARE))
+    return KeptBitmaps(handle.save(b"", 8 * bitmaps * (handle.rows() // 64 + 2) + SPARE))
 
 
 def numbers_at(handle: Any, name: bytes, rows: np.ndarray) -> Optional[Found]:
@@ -131,19 +131,20 @@ class _Head(NamedTuple):
 
 
 class KeptBitmaps:
-    """The bitmaps of an index in the bytes that keep it as one segment, as docs/FORMATS.md has them."""
+    """The bitmaps of an index in the bytes that keep it as one segment of version 2, as docs/FORMATS.md has them."""
 
     def __init__(self, data: np.ndarray):
-        self._words = data[16 : len(data) & ~7].view("<u8")
+        self._words = data[8 : len(data) & ~7].view("<u8")
         self._at = 0
+        start = self._number() + 2
         rows, _feeders, _limit = (self._number() for _ in range(3))
-        self._text()
+        _notes, _kinds = self._text(), self._text()
         count, _is_offset = self._number(), self._number()
         self._size, self._heads = (rows + 63) // 64, {}  # type: int, Dict[bytes, _Head]
         heads = [(self._text(), *self._bases_and_offset()) for _ in range(count)]
         for name, bases, offset in heads:
-            self._heads[name] = _Head(bases, offset, self._at)
-            self._at += self._size * (1 + sum((base - 1).bit_length() for base in bases))
+            self._heads[name] = _Head(bases, offset, start)
+            start += self._size * (1 + sum((base - 1).bit_length() for base in bases))
 
     def _number(self) -> int:
         self._at += 1

@@ -23,7 +23,7 @@ import kept_format
 import model
 from bsi import kept
 
-OURS = os.path.join(os.path.dirname(os.path.abspath(__file__)), "..", "..", "tests", "kept", "weather-1.bsi")
+KEPT = os.path.join(os.path.dirname(os.path.abspath(__file__)), "..", "..", "tests", "kept")
 
 EPOCH = datetime.datetime(2026, 1, 1)
 
@@ -176,10 +176,12 @@ def test_a_file_is_as_its_page_says():
             assert entries == [int(one) if is_there else None for one, is_there in zip(numbers, there)]
 
 
-def test_a_file_of_version_1_is_opened_for_good():
-    with open(OURS, "rb") as file:
+@pytest.mark.parametrize("version", [1, 2])
+def test_a_file_of_each_version_is_opened_for_good(version):
+    ours = os.path.join(KEPT, f"weather-{version}.bsi")
+    with open(ours, "rb") as file:
         limit, feeders, columns, _ = kept_format.read(file.read())
-    with bsi.open(OURS) as index:
+    with bsi.open(ours) as index:
         assert (index.limit, len(index)) == (limit, len(feeders)) == (1000, 5)
         assert index.columns == ["day", "Station", "°C", "rain", "frost"]
         assert [index.least(name) for name in index.columns] == [
@@ -197,7 +199,12 @@ def test_a_file_of_version_1_is_opened_for_good():
 def test_each_byte_cut_and_turned(path):
     index = bsi.Index({"Who": bsi.equality(3, kind=bsi.Texts(["a", "b", "c"])), "n": bsi.slices(3)})
     index.append({"Who": ["a", None, "c"], "n": [1, 2, None]})
-    data = index._kept().tobytes()
+    check_each_byte(index._kept().tobytes())
+    check_each_byte(kept_format.in_version_1(index._kept().tobytes()))
+
+
+def check_each_byte(data):
+    assert len(kept.opened_bytes(data).forms) == 2
     for end in range(len(data)):
         with pytest.raises(bsi.KeptError):
             kept.opened_bytes(data[:end])
@@ -244,11 +251,23 @@ def test_a_file_that_may_not_be_read(path):
 
 def test_another_version(path):
     data = bytearray(small()._kept().tobytes())
-    data[7] = 2
+    data[7] = 3
     with open(path, "wb") as file:
         file.write(data)
     with pytest.raises(bsi.OtherVersion, match="another version"):
         bsi.open(path)
+
+
+def test_a_text_of_kinds_is_not_dropped(path):
+    (segment,) = kept_format.segments(small()._kept().tobytes())
+    data = kept_format.encode(segment._replace(kinds=b"kind,price,decimal 2\n"))
+    for end in (len(data), len(data) + 8):
+        with open(path, "wb") as file:
+            file.write((data + data)[:end])
+        for so_far in (False, True):
+            with pytest.raises(bsi.HasKinds, match="small.bsi: .* text of kinds") as refused:
+                bsi.open(path, so_far=so_far)
+            assert refused.value.status == 19 and refused.value.rows == 0
 
 
 def packed(column=None, **more):
@@ -286,11 +305,33 @@ def test_notes_that_are_none_of_ours(notes):
     assert isinstance(refused.value, bsi.Error) and refused.value.path == "a.bsi"
 
 
-def test_texts_that_are_too_long(path):
+def test_notes_that_take_too_much_are_not_unpacked(monkeypatch):
+    index = bsi.Index({"x": bsi.slices(8)})
+    data = index._store.save(packed({"kind": "whole"}, more="much" * 100), 0)
+    assert kept.opened_bytes(data).more == {"more": "much" * 100}
+    monkeypatch.setattr(kept, "MAX_UNPACKED", 400)
+    with pytest.raises(bsi.BadNotes, match="not packed as a whole"):
+        kept.opened_bytes(data)
+
+
+def long_texts():
+    """Returns an index whose texts take 240,000 bytes, and half as many when packed."""
     rng = np.random.default_rng(3)
-    texts = [rng.bytes(40).hex() for _ in range(3000)]
-    index = bsi.Index({"x": bsi.slices(12, kind=bsi.Texts(texts))})
-    with pytest.raises(bsi.LongNotes, match="3,000 texts"):
+    return bsi.Index({"x": bsi.slices(12, kind=bsi.Texts([rng.bytes(40).hex() for _ in range(3000)]))})
+
+
+def test_long_texts_are_kept(path):
+    index = long_texts()
+    index.save(path)
+    with bsi.open(path) as opened:
+        assert opened.forms == index.forms
+
+
+@pytest.mark.parametrize("name, most, when", [("MAX_NOTES", 1 << 16, "bytes when packed"), ("MAX_UNPACKED", 1 << 17, "bytes, and")])
+def test_texts_that_are_too_long(path, monkeypatch, name, most, when):
+    index = long_texts()
+    monkeypatch.setattr(kept, name, most)
+    with pytest.raises(bsi.LongNotes, match=f"3,000 texts of the columns take [0-9,]* {when}"):
         index.save(path)
     assert not os.path.exists(path)
 

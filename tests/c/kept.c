@@ -56,7 +56,7 @@ static void of_saving(bsi_index *index) {
     bool rest = true;
     for (size_t k = size; k < sizeof bytes; k++) rest &= bytes[k] == 0xa5;
     check(rest && size <= ROOM, "save: no byte behind the file is written");
-    check(!memcmp(bytes, "bsikept\1", 8), "save: the bytes begin as a kept index does");
+    check(!memcmp(bytes, "bsikept\2", 8), "save: the bytes begin as a kept index does");
     memcpy(file, bytes, size);
     static uint8_t many[BSI_MAX_NOTES + 1];
     after = 7;
@@ -150,11 +150,42 @@ static void of_each_byte(void) {
     bsi_index index = {0};
     uint64_t whole;
     memcpy(bytes, file, size);
-    bytes[7] = 2;
+    bytes[7] = 3;
     check(open_bytes(&index, bytes, size, &whole) == BSI_OTHER_VERSION, "open: another version");
     bytes[0] = 'B';
     check(open_bytes(&index, bytes, size, &whole) == BSI_NOT_KEPT, "open: another file");
     check(open_bytes(&index, bytes, 0, &whole) == BSI_NOT_KEPT, "open: no byte");
+}
+
+static void put_word(uint8_t *at, uint64_t word) {
+    for (int k = 0; k < 8; k++) at[k] = word >> 8 * k;
+}
+
+static uint64_t word_at(const uint8_t *at) {
+    uint64_t word = 0;
+    for (int k = 0; k < 8; k++) word |= (uint64_t)at[k] << 8 * k;
+    return word;
+}
+
+/* A file with a text of kinds, which docs/FORMATS.md says how to write: the handle would lose it. */
+static void of_kinds(void) {
+    uint64_t head = word_at(file + 8), sum = head + 1, whole = 0;
+    size_t kinds = 16 + 8 * (4 + (sizeof notes + 7) / 8), behind = 16 + 8 * head;
+    memcpy(bytes, file, kinds);
+    put_word(bytes + 8, head + 1);
+    put_word(bytes + kinds, 5);
+    memcpy(bytes + kinds + 8, "kinds\0\0", 8);
+    memcpy(bytes + kinds + 16, file + kinds + 8, size - kinds - 8);
+    for (size_t at = 16; at < behind + 8; at += 8) {
+        sum = (sum ^ word_at(bytes + at)) * 0x9e3779b97f4a7c15;
+        sum = sum << 29 | sum >> 35;
+    }
+    put_word(bytes + behind + 8, sum);
+    bsi_index index = {0};
+    check(word_at(file + kinds) == 0, "open: no text of kinds was written");
+    check(open_bytes(&index, bytes, size + 8, &whole) == BSI_HAS_KINDS && whole == size + 8 && !index.at, "open: a text of kinds");
+    bytes[behind + 8] ^= 1;
+    check(open_bytes(&index, bytes, size + 8, &whole) == BSI_DAMAGED && whole == 0, "open: another checksum of the head");
 }
 
 /* The head of a segment that has almost no bytes, and counts many: no memory is asked for before they are there. */
@@ -172,9 +203,8 @@ static void of_false_counts(void) {
 }
 
 /* A file that stays in the repository for good, which the Python package saved. */
-static void of_the_file_for_good(void) {
-    static const char name[] = "../kept/weather-1.bsi";
-    char path[sizeof __FILE__ + sizeof name] = __FILE__;
+static void of_a_file_for_good(const char *name) {
+    char path[sizeof __FILE__ + 64] = __FILE__;
     char *slash = strrchr(path, '/');
     strcpy(slash ? slash + 1 : path, name);
     FILE *from = fopen(path, "rb");
@@ -208,7 +238,9 @@ int main(void) {
     of_segments();
     of_many_segments();
     of_each_byte();
+    of_kinds();
     of_false_counts();
-    of_the_file_for_good();
+    of_a_file_for_good("../kept/weather-1.bsi");
+    of_a_file_for_good("../kept/weather-2.bsi");
     return failed != 0;
 }

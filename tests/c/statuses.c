@@ -330,7 +330,8 @@ static void of_texts(void) {
         {BSI_OTHER_VERSION, "a kept index of another version"},
         {BSI_CUT_SHORT, "a kept index that is cut short"},
         {BSI_DAMAGED, "a kept index that is damaged"},
-        {19, "no status of bsi"},
+        {BSI_HAS_KINDS, "a kept index with a text of kinds"},
+        {20, "no status of bsi"},
         {UINT32_MAX, "no status of bsi"},
     };
     for (size_t k = 0; k < sizeof texts / sizeof *texts; k++)

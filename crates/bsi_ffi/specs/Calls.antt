@@ -1,6 +1,6 @@
 -- What a call does to the index of a handle, what it answers, and when it is refused. `Groups`, `Pairs`, `Numbers`,
 -- `Tops` and `Memory` have further calls.
-use Rattle.std.specs.Prelude.{◌≡◌, ℕ, ◌+◌, ◌*◌, ◌%◌, ◌<◌, ◌≤◌, ◌⊎◌, List, length, map, slice_index_or, take, Option, Some, None, Ok, Err, IsSome, true, false, MatchOption, drop, nat_eq, if◌then◌else◌}
+use Rattle.std.specs.Prelude.{◌≡◌, ℕ, ◌+◌, ◌*◌, ◌%◌, ◌<◌, ◌≤◌, ◌⊎◌, List, [], length, map, slice_index_or, take, Option, Some, None, Ok, Err, IsSome, true, false, MatchOption, drop, nat_eq, if◌then◌else◌}
 use Rattle.std.specs.Int.{cast_unsigned, w128}
 use Rattle.bsi_bits.specs.BitList.{word_count}
 use Rattle.bsi_bits.specs.Packed.{bit_of, end_of_u64}
@@ -20,7 +20,8 @@ use Rattle.bsi_rows.specs.declared.query.Pred.{Pred}
 use Rattle.bsi_rows.specs.declared.query.Query.{Query}
 use Rattle.bsi_input.specs.SchemaTexts.{DeclaresNoColumn, DeclaresTooLong, IsBadDeclaration, IsSchemaText}
 use Rattle.bsi_storage.specs.Faults.{IsFirstSegmentFault, IsOpened}
-use Rattle.bsi_storage.specs.Saved.{max_notes, table_segment, IsFileOf, MayBeSaved}
+use Rattle.bsi_segments.specs.declared.version.Version.TheVariants.{Two}
+use Rattle.bsi_storage.specs.Saved.{head_segment, max_notes, IsFileOf, MayBeSaved}
 use Rattle.bsi_storage.specs.declared.fault.OpenFault.{OpenFault}
 use Rattle.bsi_storage.specs.declared.fault.OpenFault.TheVariants as open_fault
 use Rattle.bsi_ffi.specs.Columns.{are_columns, first_unlike, input_rows, row_count, row_of, AreAccepted, IsFirstMisfit, IsFirstRefusing}
@@ -31,7 +32,7 @@ use Rattle.bsi_ffi.specs.declared.answers.FlatAnswer.{FlatAnswer}
 use Rattle.bsi_ffi.specs.declared.answers.Origin.{Origin}
 use Rattle.bsi_ffi.specs.declared.columns.ColumnInput.{ColumnInput}
 use Rattle.bsi_ffi.specs.declared.refusal.Refusal.{Refusal}
-use Rattle.bsi_ffi.specs.declared.refusal.Refusal.TheVariants.{BadColumns, BadFeeder, BadQuery, BadRow, BadSchema, BadText, BufferTooSmall, Closed, CutShort, Damaged, IndexFull, LongNotes, NoColumns, NoMemory, NotAnIndex, Open, OtherVersion, Shared}
+use Rattle.bsi_ffi.specs.declared.refusal.Refusal.TheVariants.{BadColumns, BadFeeder, BadQuery, BadRow, BadSchema, BadText, BufferTooSmall, Closed, CutShort, Damaged, HasKinds, IndexFull, LongNotes, NoColumns, NoMemory, NotAnIndex, Open, OtherVersion, Shared}
 use Rattle.bsi_ffi.specs.declared.state.HandleState.{HandleState}
 use Rattle.bsi_ffi.specs.declared.state.HandleState.TheVariants.{Moved, Owned, Shared as shared_state}
 
@@ -257,14 +258,14 @@ IsDescribing index bytes size ending = WhereOpen index (λ opened ending. IsDesc
 
 -- ---- saving
 
--- The first bytes are a file of the index with these notes.
+-- The first bytes are a file of the index with these notes, and no text of kinds.
 abbrev pub IsSerialized : OpenIndex → List ℕ → List ℕ → ℕ → Ending → Type 0
 IsSerialized opened notes bytes size (Ok done) =
-    (length notes ≤ max_notes) × (size ≡ length (table_segment opened.table notes))
-    × (take size bytes ≡ table_segment opened.table notes) × MayBeSaved opened.table notes
+    (length notes ≤ max_notes) × (size ≡ length (head_segment opened.table notes []))
+    × (take size bytes ≡ head_segment opened.table notes []) × MayBeSaved Two opened.table notes []
 IsSerialized opened notes bytes size (Err LongNotes) = max_notes < length notes
 IsSerialized opened notes bytes size (Err BufferTooSmall) =
-    (length notes ≤ max_notes) × (size ≡ length (table_segment opened.table notes)) × (length bytes < size)
+    (length notes ≤ max_notes) × (size ≡ length (head_segment opened.table notes [])) × (length bytes < size)
 IsSerialized opened notes bytes size (Err NoMemory) = Unit {0}
 IsSerialized opened notes bytes size (Err why) = ⊥
 
@@ -286,12 +287,17 @@ file_refusal open_fault.NoMemory = NoMemory
 abbrev pub MeetsFaultAfter : List ℕ → ℕ → OpenFault → Type 0
 MeetsFaultAfter bytes whole fault =
     ((whole ≡ 0) × ((after : KnownBytes) × IsFirstSegmentFault (Some bytes) after fault))
-    ⊎ ((after : KnownBytes) × (t : Table) × (notes : Bytes) × IsOpened (Some bytes) after t notes whole (Some fault))
+    ⊎ ((after : KnownBytes) × (t : Table) × (notes kinds : Bytes) × IsOpened (Some bytes) after t notes kinds whole (Some fault))
 
 -- The first `whole` bytes are a file, or there are none.
 abbrev pub BeginsWithFile : List ℕ → ℕ → Type 0
 BeginsWithFile bytes whole =
-    (whole ≡ 0) ⊎ ((whole ≤ length bytes) × (t : Table) × (notes : Bytes) × IsFileOf (take whole bytes) t notes)
+    (whole ≡ 0) ⊎ ((whole ≤ length bytes) × (t : Table) × (notes kinds : Bytes) × IsFileOf (take whole bytes) t notes kinds)
+
+-- All bytes are a file, and it has a text of kinds.
+abbrev pub IsFileWithKinds : List ℕ → ℕ → Type 0
+IsFileWithKinds bytes whole =
+    (t : Table) × (notes kinds : Bytes) × IsFileOf bytes t notes kinds × (0 < length kinds) × (whole ≡ length bytes)
 
 -- The bytes are refused. The first `whole` bytes are a file, or there are none.
 abbrev pub IsFileRefusal : List ℕ → ℕ → Refusal → Type 0
@@ -300,17 +306,18 @@ IsFileRefusal bytes whole OtherVersion = MeetsFaultAfter bytes whole open_fault.
 IsFileRefusal bytes whole CutShort = MeetsFaultAfter bytes whole open_fault.CutShort
 IsFileRefusal bytes whole Damaged = MeetsFaultAfter bytes whole open_fault.Damaged
 IsFileRefusal bytes whole NoMemory = BeginsWithFile bytes whole
+IsFileRefusal bytes whole HasKinds = IsFileWithKinds bytes whole
 IsFileRefusal bytes whole why = ⊥
 
--- The bytes are a file of the index, whose text declares its schema and limit.
+-- The bytes are a file of the index without a text of kinds. The index's text declares its schema and limit.
 pub record IsIndexOfFile (bytes notes : Bytes) (opened : OpenIndex) : Type 0 where
-  pub file : IsFileOf bytes opened.table notes
+  pub file : IsFileOf bytes opened.table notes []
   pub declared : IsSchemaText opened.text opened.table.schema opened.table.limit
 
--- The file has notes of `size` bytes, too many for the buffer.
+-- The file has no text of kinds, and notes of `size` bytes, too many for the buffer.
 abbrev pub AreNotesTooLong : List ℕ → List ℕ → ℕ → Type 0
 AreNotesTooLong bytes out size =
-    (t : Table) × (notes : Bytes) × IsFileOf bytes t notes × (size ≡ length notes) × (length out < size)
+    (t : Table) × (notes : Bytes) × IsFileOf bytes t notes [] × (size ≡ length notes) × (length out < size)
 
 -- A closed handle gets the index of the file, and the buffer gets the notes.
 abbrev pub IsReopening : Option HandleState → List ℕ → List ℕ → ℕ → ℕ → Option HandleState → Ending → Type 0

@@ -34,7 +34,7 @@ pub enum Refusal {
     BufferTooSmall,
     /// The schema text has more than 1,000,000 records.
     BadText,
-    /// There are more than 65,536 bytes of notes.
+    /// There are more than 67,108,864 bytes of notes.
     LongNotes,
     /// The bytes are not those of a saved index.
     NotAnIndex,
@@ -44,6 +44,8 @@ pub enum Refusal {
     CutShort,
     /// A segment is not as it was written.
     Damaged,
+    /// They have a text of kinds, which no handle has.
+    HasKinds,
 }
 
 impl From<AllocError> for Refusal {
@@ -80,5 +82,6 @@ pub fn status_of(ending: Result<(), Refusal>) -> u32
         Err(Refusal::OtherVersion) => 16,
         Err(Refusal::CutShort) => 17,
         Err(Refusal::Damaged) => 18,
+        Err(Refusal::HasKinds) => 19,
     }
 }

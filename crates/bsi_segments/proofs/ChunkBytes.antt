@@ -11,7 +11,8 @@ use Rattle.bsi_input.specs.BufferedOutput.{AppendsPrefix}
 use Rattle.bsi_input.proofs.Waiting.{cut_front, cut_whole}
 use Rattle.bsi_segments.specs.declared.fault.SegmentFault.{SegmentFault}
 use Rattle.bsi_segments.specs.declared.fault.SegmentFault.TheVariants.{CutShort, Damaged, NoMemory, NotASegment, OtherVersion, Read}
-use Rattle.bsi_segments.specs.Segments.{bytes_of, checksum_of, magic, segment_rest, AreWords, EndsWithin, IsRestFault, MeetsFault, ReadsToEnd, ReadsWords, StopsBefore}
+use Rattle.bsi_segments.specs.Segments.{bytes_of, checksum_of, counted_rest, magic, AreWords, EndsWithin, IsRestFault, MeetsFault, ReadsToEnd, ReadsWords, StopsBefore}
+use Rattle.bsi_segments.specs.declared.version.Version.{Version}
 use Rattle.bsi_segments.proofs.Eights.{length-bytes_of}
 use Rattle.bsi_syntax.specs.Bytes.{KnownBytes}
 
@@ -64,7 +65,7 @@ words_cut a b c words chunk at end is before cut =
 
 -- ---- faults
 
-only_more : (a b c : KnownBytes) (first bytes : List ℕ) → Consumes a b first → ReadsToEnd b c bytes → ReadsToEnd a c (first ++ bytes)
+pub only_more : (a b c : KnownBytes) (first bytes : List ℕ) → Consumes a b first → ReadsToEnd b c bytes → ReadsToEnd a c (first ++ bytes)
 only_more a b c first bytes consumed only = record { consumed = Consumes-trans a b c first bytes consumed only.consumed; ended = only.ended }
 
 -- the words that were read, and then fewer bytes than words that are left
@@ -107,20 +108,20 @@ stops_in_sum a b c d count old new Read fits consumed reads stops = tt
 stops_in_sum a b c d count old new NoMemory fits consumed reads stops = tt
 
 -- the first word was read, and then a fault was met
-pub faults_behind : (a b c : KnownBytes) (fault : SegmentFault) → Consumes a b (bytes_of (magic ∷ [])) → IsRestFault b c fault → MeetsFault a c fault
-faults_behind a b c NotASegment consumed meets = absurd meets
-faults_behind a b c OtherVersion consumed meets = absurd meets
-faults_behind a b c CutShort consumed meets =
-    let joined = length-append (bytes_of (magic ∷ [])) meets.0 in (
-      bytes_of (magic ∷ []) ++ meets.0,
-      omega (arith, joined, length-bytes_of (magic ∷ [])),
-      inr (meets.0, refl, meets.1),
-      only_more a b c (bytes_of (magic ∷ [])) meets.0 consumed meets.2,
+pub faults_behind : (version : Version) (a b c : KnownBytes) (fault : SegmentFault) → Consumes a b (bytes_of (magic version ∷ [])) → IsRestFault b c fault → MeetsFault a c fault
+faults_behind version a b c NotASegment consumed meets = absurd meets
+faults_behind version a b c OtherVersion consumed meets = absurd meets
+faults_behind version a b c CutShort consumed meets =
+    let joined = length-append (bytes_of (magic version ∷ [])) meets.0 in (
+      bytes_of (magic version ∷ []) ++ meets.0,
+      omega (arith, joined, length-bytes_of (magic version ∷ [])),
+      inr (version, meets.0, refl, meets.1),
+      only_more a b c (bytes_of (magic version ∷ [])) meets.0 consumed meets.2,
     )
-faults_behind a b c Damaged consumed meets =
-    (meets.0, meets.1, meets.2, Consumes-trans a b c (bytes_of (magic ∷ [])) (bytes_of (segment_rest meets.1 meets.0)) consumed meets.3)
-faults_behind a b c Read consumed meets = tt
-faults_behind a b c NoMemory consumed meets = tt
+faults_behind version a b c Damaged consumed meets =
+    (version, meets.0, meets.1, meets.2, Consumes-trans a b c (bytes_of (magic version ∷ [])) (bytes_of (counted_rest meets.1 meets.0)) consumed meets.3)
+faults_behind version a b c Read consumed meets = tt
+faults_behind version a b c NoMemory consumed meets = tt
 
 pub length-put_mid : (at : ℕ) (old read : List ℕ) → at ≤ length old → length read ≡ length old - at → length (put_mid at (length old - at) old read) ≡ length old
 length-put_mid at old read within same =
@@ -137,6 +138,6 @@ damaged a b c d count sum old new are fits other none first reads last =
     let many : count ≡ length new = sym reads.many ∙ ap length same in
     let middle : Consumes b c (bytes_of new) = subst (λ (ws : List ℕ). Consumes b c (bytes_of ws)) same reads.consumed in
     let head : Consumes a b (bytes_of (length new ∷ [])) = subst (λ (n : ℕ). Consumes a b (bytes_of (n ∷ []))) many first in
-    let all : bytes_of (segment_rest sum new) ≡ bytes_of (length new ∷ []) ++ (bytes_of new ++ bytes_of (sum ∷ [])) = ap (λ bs. bytes_of (length new ∷ []) ++ bs) (flat_map-append (to_le_bytes w64) new (sum ∷ [])) in
+    let all : bytes_of (counted_rest sum new) ≡ bytes_of (length new ∷ []) ++ (bytes_of new ++ bytes_of (sum ∷ [])) = ap (λ bs. bytes_of (length new ∷ []) ++ bs) (flat_map-append (to_le_bytes w64) new (sum ∷ [])) in
     let consumed = Consumes-trans a b d (bytes_of (length new ∷ [])) (bytes_of new ++ bytes_of (sum ∷ [])) head (Consumes-trans b c d (bytes_of new) (bytes_of (sum ∷ [])) middle last) in
     (new, sum, (are, fits, other), subst (Consumes a d) (sym all) consumed)

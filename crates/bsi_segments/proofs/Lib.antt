@@ -5,5 +5,6 @@ pub mod Eights
 pub mod Packing
 pub mod Padding
 pub mod ChunkBytes
+pub mod Lanes
 pub mod OneWord
 pub mod Unique

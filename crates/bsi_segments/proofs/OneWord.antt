@@ -50,16 +50,16 @@ step_same x y small below same =
     product_same x y small below
     (rotation_same (x * multiplier % 2 ^ 64) (y * multiplier % 2 ^ 64) (mod_below (x * multiplier) (2 ^ 64) (omega arith)) (mod_below (y * multiplier) (2 ^ 64) (omega arith)) same)
 
-word_same : (s w v : ℕ) → s < 2 ^ 64 → w < 2 ^ 64 → v < 2 ^ 64 → checksum_step s w ≡ checksum_step s v → w ≡ v
+pub word_same : (s w v : ℕ) → s < 2 ^ 64 → w < 2 ^ 64 → v < 2 ^ 64 → checksum_step s w ≡ checksum_step s v → w ≡ v
 word_same s w v fits small below same = xor_same s w v small below (step_same (bit_xor s w) (bit_xor s v) (xor_lt 64 s w fits small) (xor_lt 64 s v fits below) same)
 
-sum_same : (s t w : ℕ) → s < 2 ^ 64 → t < 2 ^ 64 → w < 2 ^ 64 → checksum_step s w ≡ checksum_step t w → s ≡ t
+pub sum_same : (s t w : ℕ) → s < 2 ^ 64 → t < 2 ^ 64 → w < 2 ^ 64 → checksum_step s w ≡ checksum_step t w → s ≡ t
 sum_same s t w small below fits same =
     xor_same w s t small below (xor_comm w s ∙ step_same (bit_xor s w) (bit_xor t w) (xor_lt 64 s w small fits) (xor_lt 64 t w below fits) same ∙ xor_comm t w)
 
 -- ---- and so is all of it
 
-back_same : (s t : ℕ) (words : List ℕ) → s < 2 ^ 64 → t < 2 ^ 64 → ((k : ℕ) → get_or words k 0 < 2 ^ 64) → checksum_from s words ≡ checksum_from t words → s ≡ t
+pub back_same : (s t : ℕ) (words : List ℕ) → s < 2 ^ 64 → t < 2 ^ 64 → ((k : ℕ) → get_or words k 0 < 2 ^ 64) → checksum_from s words ≡ checksum_from t words → s ≡ t
 unfolding checksum_from
 back_same s t [] small below fits same = same
 back_same s t (w ∷ words) small below fits same =

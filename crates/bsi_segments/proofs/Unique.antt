@@ -1,4 +1,4 @@
--- Bytes that begin with those of a segment begin with those of no others, and meet no fault.
+-- Bytes that begin with counted words begin with no others, and meet no fault.
 use Rattle.std.proofs.Common.{◌≡◌, ℕ, suc, ◌+◌, ◌*◌, ◌/◌, ◌%◌, ◌^◌, ◌<◌, List, [], ◌∷◌, ◌++◌, length, take, drop, Some, None, inl, inr, refl, sym, ap, ap₂, ◌∙◌, arith, length-append, append_assoc, append-nil}
 use Rattle.std.specs.Prelude.{◌⊎◌, bit_xor}
 use Rattle.std.specs.Int.{w64, from_le_bytes, to_le_bytes}
@@ -7,7 +7,9 @@ use Rattle.std.proofs.lemmas.Grind.{flat_map-append}
 use Rattle.std.proofs.lemmas.Nat.{from_le_bytes-to_le_bytes_8, mod_below, or_lt}
 use Rattle.bsi_segments.specs.declared.fault.SegmentFault.{SegmentFault}
 use Rattle.bsi_segments.specs.declared.fault.SegmentFault.TheVariants.{CutShort, Damaged, NoMemory, NotASegment, OtherVersion, Read}
-use Rattle.bsi_segments.specs.Segments.{bytes_of, checksum_from, checksum_of, checksum_step, magic, multiplier, segment, segment_rest, AreWords, IsTruncated, IsTruncatedRest, MeetsFault, ReadsToEnd}
+use Rattle.bsi_segments.specs.declared.version.Version.{Version}
+use Rattle.bsi_segments.specs.declared.version.Version.TheVariants.{One, Two}
+use Rattle.bsi_segments.specs.Segments.{bytes_of, checksum_from, checksum_of, checksum_step, counted, counted_rest, magic, multiplier, signature, AreWords, IsTruncated, IsTruncatedRest, MeetsFault, ReadsToEnd}
 use Rattle.bsi_segments.proofs.Eights.{length-bytes_of}
 use Rattle.bsi_syntax.specs.Bytes.{KnownBytes}
 
@@ -44,41 +46,68 @@ unfolding checksum_from
 sum_fits sum [] small = small
 sum_fits sum (word ∷ words) small = sum_fits (checksum_step sum word) words (step_fits sum word)
 
--- the parts of a segment, with what follows
-rest_is : (sum : ℕ) (words rest : List ℕ) → bytes_of (segment_rest sum words) ++ rest ≡ bytes_of (length words ∷ []) ++ (bytes_of words ++ (bytes_of (sum ∷ []) ++ rest))
+-- ---- first words
+
+pub magic_fits : (version : Version) → magic version < 2 ^ 64
+magic_fits One = omega arith
+magic_fits Two = omega arith
+
+pub magic_signature : (version : Version) → magic version % 2 ^ 56 ≡ signature
+magic_signature One = omega arith
+magic_signature Two = omega arith
+
+pub same_version : (version other : Version) → magic version ≡ magic other → version ≡ other
+same_version One One same = refl
+same_version One Two same = absurd (omega (arith, same))
+same_version Two One same = absurd (omega (arith, same))
+same_version Two Two same = refl
+
+-- ---- counted words
+
+-- their parts, with what follows
+rest_is : (sum : ℕ) (words rest : List ℕ) → bytes_of (counted_rest sum words) ++ rest ≡ bytes_of (length words ∷ []) ++ (bytes_of words ++ (bytes_of (sum ∷ []) ++ rest))
 rest_is sum words rest =
     ap (λ bs. bytes_of (length words ∷ []) ++ (bs ++ rest)) (flat_map-append (to_le_bytes w64) words (sum ∷ []))
     ∙ ap (λ bs. bytes_of (length words ∷ []) ++ bs) (append_assoc (bytes_of words) (bytes_of (sum ∷ [])) rest)
 
-module _ (words rest : List ℕ) (are : AreWords words) where
+module _ (version : Version) (words rest : List ℕ) (are : AreWords words) where
   few : length words < 2 ^ 64
   few = are.few
 
-  -- two segments that begin the same bytes
-  same_segment : (sum other_sum : ℕ) (others more : List ℕ) → sum < 2 ^ 64 → other_sum < 2 ^ 64 → AreWords others
-      → bytes_of (magic ∷ segment_rest sum words) ++ rest ≡ bytes_of (magic ∷ segment_rest other_sum others) ++ more → (words ≡ others) × (sum ≡ other_sum) × (rest ≡ more)
-  same_segment sum other_sum others more fits other_fits others_are same =
-      let behind = same_front magic magic (bytes_of (segment_rest sum words) ++ rest) (bytes_of (segment_rest other_sum others) ++ more) (omega arith) (omega arith) same in
+  -- two that begin the same bytes
+  same_counted : (other : Version) (sum other_sum : ℕ) (others more : List ℕ) → sum < 2 ^ 64 → other_sum < 2 ^ 64 → AreWords others
+      → bytes_of (magic version ∷ counted_rest sum words) ++ rest ≡ bytes_of (magic other ∷ counted_rest other_sum others) ++ more
+      → (version ≡ other) × (words ≡ others) × (sum ≡ other_sum) × (rest ≡ more)
+  same_counted other sum other_sum others more fits other_fits others_are same =
+      let behind = same_front (magic version) (magic other) (bytes_of (counted_rest sum words) ++ rest) (bytes_of (counted_rest other_sum others) ++ more) (magic_fits version) (magic_fits other) same in
       let opened = sym (rest_is sum words rest) ∙ behind.1 ∙ rest_is other_sum others more in
       let counts = same_front (length words) (length others) (bytes_of words ++ (bytes_of (sum ∷ []) ++ rest)) (bytes_of others ++ (bytes_of (other_sum ∷ []) ++ more)) few others_are.few opened in
       let parts = same_words words others (bytes_of (sum ∷ []) ++ rest) (bytes_of (other_sum ∷ []) ++ more) are others_are counts.0 counts.1 in
       let last = same_front sum other_sum rest more fits other_fits parts.1 in
-      (parts.0, last.0, last.1)
+      (same_version version other behind.0, parts.0, last.0, last.1)
 
-  pub only_these : (others : List ℕ) (after : KnownBytes) → AreWords others → Consumes (Some (bytes_of (segment words) ++ rest)) after (bytes_of (segment others)) → (others ≡ words) × (after ≡ Some rest)
-  only_these others None others_are consumed = absurd consumed
-  only_these others (Some more) others_are consumed =
-      let same = same_segment (checksum_of words) (checksum_of others) others more (sum_fits (length words) words few) (sum_fits (length others) others others_are.few) others_are consumed in
-      (sym same.0, ap Some (sym same.2))
+  -- the same bytes are those of the same counted words
+  pub same_all : (other : Version) (others more : List ℕ) → AreWords others → bytes_of (counted version words) ++ rest ≡ bytes_of (counted other others) ++ more
+      → (version ≡ other) × (words ≡ others) × (rest ≡ more)
+  same_all other others more others_are same =
+      let all = same_counted other (checksum_of words) (checksum_of others) others more (sum_fits (length words) words few) (sum_fits (length others) others others_are.few) others_are same in
+      (all.0, all.1, all.3)
 
-  long : length (bytes_of (segment words) ++ rest) ≡ 8 * (3 + length words) + length rest
-  long = omega (arith, length-append (bytes_of (segment words)) rest, length-bytes_of (segment words), length-append words (checksum_of words ∷ []))
+  pub only_these : (other : Version) (others : List ℕ) (after : KnownBytes) → AreWords others → Consumes (Some (bytes_of (counted version words) ++ rest)) after (bytes_of (counted other others))
+      → (other ≡ version) × (others ≡ words) × (after ≡ Some rest)
+  only_these other others None others_are consumed = absurd consumed
+  only_these other others (Some more) others_are consumed =
+      let same = same_all other others more others_are consumed in
+      (sym same.0, sym same.1, ap Some (sym same.2))
 
-  rest_long : length (bytes_of (segment_rest (checksum_of words) words) ++ rest) ≡ 8 * (2 + length words) + length rest
-  rest_long = omega (arith, length-append (bytes_of (segment_rest (checksum_of words) words)) rest, length-bytes_of (segment_rest (checksum_of words) words), length-append words (checksum_of words ∷ []))
+  long : length (bytes_of (counted version words) ++ rest) ≡ 8 * (3 + length words) + length rest
+  long = omega (arith, length-append (bytes_of (counted version words)) rest, length-bytes_of (counted version words), length-append words (checksum_of words ∷ []))
+
+  rest_long : length (bytes_of (counted_rest (checksum_of words) words) ++ rest) ≡ 8 * (2 + length words) + length rest
+  rest_long = omega (arith, length-append (bytes_of (counted_rest (checksum_of words) words)) rest, length-bytes_of (counted_rest (checksum_of words) words), length-append words (checksum_of words ∷ []))
 
   -- all bytes are not too few
-  not_short_rest : (bytes : List ℕ) → bytes ≡ bytes_of (segment_rest (checksum_of words) words) ++ rest → IsTruncatedRest bytes → ⊥
+  not_short_rest : (bytes : List ℕ) → bytes ≡ bytes_of (counted_rest (checksum_of words) words) ++ rest → IsTruncatedRest bytes → ⊥
   not_short_rest bytes all (inl short) = omega (arith, short, ap length all, rest_long)
   not_short_rest bytes all (inr short) =
       let count = short.0 in
@@ -96,39 +125,39 @@ module _ (words rest : List ℕ) (are : AreWords words) where
         length-bytes_of (checksum_of words ∷ []),
       )
 
-  not_short : (bytes : List ℕ) → bytes ≡ bytes_of (segment words) ++ rest → IsTruncated bytes → ⊥
+  not_short : (bytes : List ℕ) → bytes ≡ bytes_of (counted version words) ++ rest → IsTruncated bytes → ⊥
   not_short bytes all (inl short) = omega (arith, short.0, ap length all, long)
   not_short bytes all (inr short) =
-      let same = same_front magic magic (bytes_of (segment_rest (checksum_of words) words) ++ rest) short.0 (omega arith) (omega arith) (sym all ∙ short.1) in
-      not_short_rest short.0 (sym same.1) short.2
+      let same = same_front (magic version) (magic short.0) (bytes_of (counted_rest (checksum_of words) words) ++ rest) short.1 (magic_fits version) (magic_fits short.0) (sym all ∙ short.2) in
+      not_short_rest short.1 (sym same.1) short.3
 
-  pub no_fault : (after : KnownBytes) (fault : SegmentFault) → MeetsFault (Some (bytes_of (segment words) ++ rest)) after fault → (fault ≡ Read) ⊎ (fault ≡ NoMemory)
+  pub no_fault : (after : KnownBytes) (fault : SegmentFault) → MeetsFault (Some (bytes_of (counted version words) ++ rest)) after fault → (fault ≡ Read) ⊎ (fault ≡ NoMemory)
   no_fault None NotASegment (inl meets) = absurd meets.2
   no_fault None NotASegment (inr meets) = absurd meets.2.consumed
   no_fault (Some more) NotASegment (inl meets) =
-      let same = same_front magic meets.0 (bytes_of (segment_rest (checksum_of words) words) ++ rest) more (omega arith) meets.1.0 meets.2 in
-      absurd (meets.1.1 (ap (λ w. w % 2 ^ 56) (sym same.0)))
+      let same = same_front (magic version) meets.0 (bytes_of (counted_rest (checksum_of words) words) ++ rest) more (magic_fits version) meets.1.0 meets.2 in
+      absurd (meets.1.1 (ap (λ w. w % 2 ^ 56) (sym same.0) ∙ magic_signature version))
   no_fault (Some more) NotASegment (inr meets) =
-      let all : meets.0 ≡ bytes_of (segment words) ++ rest = sym (append-nil meets.0) ∙ ap (λ bs. meets.0 ++ bs) (sym meets.2.ended) ∙ sym meets.2.consumed in
+      let all : meets.0 ≡ bytes_of (counted version words) ++ rest = sym (append-nil meets.0) ∙ ap (λ bs. meets.0 ++ bs) (sym meets.2.ended) ∙ sym meets.2.consumed in
       absurd (omega (arith, meets.1.0, ap length all, long))
   no_fault None OtherVersion meets = absurd meets.2
   no_fault (Some more) OtherVersion meets =
-      let same = same_front magic meets.0 (bytes_of (segment_rest (checksum_of words) words) ++ rest) more (omega arith) meets.1.0 meets.2 in
-      absurd (meets.1.2 (sym same.0))
+      let same = same_front (magic version) meets.0 (bytes_of (counted_rest (checksum_of words) words) ++ rest) more (magic_fits version) meets.1.0 meets.2 in
+      absurd (meets.1.2 version (sym same.0))
   no_fault None CutShort meets = absurd meets.3.consumed
   no_fault (Some more) CutShort meets =
-      let all : meets.0 ≡ bytes_of (segment words) ++ rest = sym (append-nil meets.0) ∙ ap (λ bs. meets.0 ++ bs) (sym meets.3.ended) ∙ sym meets.3.consumed in
+      let all : meets.0 ≡ bytes_of (counted version words) ++ rest = sym (append-nil meets.0) ∙ ap (λ bs. meets.0 ++ bs) (sym meets.3.ended) ∙ sym meets.3.consumed in
       absurd (not_short meets.0 all meets.2)
-  no_fault None Damaged meets = absurd meets.3
+  no_fault None Damaged meets = absurd meets.4
   no_fault (Some more) Damaged meets =
-      let same = same_segment (checksum_of words) meets.1 meets.0 more (sum_fits (length words) words few) meets.2.1 meets.2.0 meets.3 in
-      absurd (meets.2.2 (sym same.1 ∙ ap checksum_of same.0))
+      let same = same_counted meets.0 (checksum_of words) meets.2 meets.1 more (sum_fits (length words) words few) meets.3.1 meets.3.0 meets.4 in
+      absurd (meets.3.2 (sym same.2 ∙ ap checksum_of same.1))
   no_fault after Read meets = inl refl
   no_fault after NoMemory meets = inr refl
 
 -- there are bytes
-pub some_bytes : (words rest : List ℕ) (after : KnownBytes) → ReadsToEnd (Some (bytes_of (segment words) ++ rest)) after [] → ⊥
-some_bytes words rest None only = absurd only.consumed
-some_bytes words rest (Some more) only =
-    let none : length (bytes_of (segment words) ++ rest) ≡ 0 = ap length (only.consumed ∙ only.ended) in
-    omega (arith, none, length-append (bytes_of (segment words)) rest, length-bytes_of (segment words))
+pub some_bytes : (version : Version) (words rest : List ℕ) (after : KnownBytes) → ReadsToEnd (Some (bytes_of (counted version words) ++ rest)) after [] → ⊥
+some_bytes version words rest None only = absurd only.consumed
+some_bytes version words rest (Some more) only =
+    let none : length (bytes_of (counted version words) ++ rest) ≡ 0 = ap length (only.consumed ∙ only.ended) in
+    omega (arith, none, length-append (bytes_of (counted version words)) rest, length-bytes_of (counted version words))

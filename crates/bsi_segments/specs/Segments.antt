@@ -1,10 +1,13 @@
--- A segment of words as bytes (`segment`), its checksum, and the faults that a reader of one meets (`MeetsFault`).
+-- Counted words as bytes (`counted`), with which a segment of a file begins, their checksum, and the faults that a reader
+-- of them meets (`MeetsFault`).
 use Rattle.std.specs.Prelude.{◌≡◌, ◌≢◌, ℕ, ◌+◌, ◌*◌, ◌%◌, ◌^◌, ◌<◌, List, [], ◌∷◌, ◌++◌, ◌⊎◌, length, map, take, drop, bit_xor, slice_index}
 use Rattle.std.specs.Int.{w64, from_le_bytes, rotate_left, to_le_bytes}
 use Rattle.std.specs.List.{flat_map, range_with_len}
 use Rattle.std.specs.Io.KnownBytes.{Consumes, IsAtEnd}
 use Rattle.bsi_segments.specs.declared.fault.SegmentFault.{SegmentFault}
 use Rattle.bsi_segments.specs.declared.fault.SegmentFault.TheVariants.{CutShort, Damaged, NoMemory, NotASegment, OtherVersion, Read}
+use Rattle.bsi_segments.specs.declared.version.Version.{Version}
+use Rattle.bsi_segments.specs.declared.version.Version.TheVariants.{One, Two}
 use Rattle.bsi_syntax.specs.Bytes.{Bytes, KnownBytes}
 
 -- ---- bytes
@@ -40,19 +43,25 @@ checksum_from sum (word ∷ words) = checksum_from (checksum_step sum word) word
 abbrev pub checksum_of : List ℕ → ℕ
 checksum_of words = checksum_from (length words) words
 
--- ---- a segment
+-- ---- counted words
 
--- The first word of a segment: the bytes `bsikept`, and the version of the format, 1.
-abbrev pub magic : ℕ
-magic = 0x01_74_70_65_6b_69_73_62
+-- The bytes `bsikept` as a word, with 0 for the version.
+abbrev pub signature : ℕ
+signature = 0x74_70_65_6b_69_73_62
 
--- The words after the first word of a segment: the number of words in the body, the body, and a checksum.
-abbrev pub segment_rest : ℕ → List ℕ → List ℕ
-segment_rest sum words = length words ∷ words ++ sum ∷ []
+-- The first word of a segment: the bytes `bsikept`, and the version of the format.
+abbrev pub magic : Version → ℕ
+magic One = 0x01_74_70_65_6b_69_73_62
+magic Two = 0x02_74_70_65_6b_69_73_62
 
--- A segment: the first word, the number of words in the body, the body, and its checksum.
-abbrev pub segment : List ℕ → List ℕ
-segment words = magic ∷ segment_rest (checksum_of words) words
+-- The words after the first word: the number of the words, these, and a checksum.
+abbrev pub counted_rest : ℕ → List ℕ → List ℕ
+counted_rest sum words = length words ∷ words ++ sum ∷ []
+
+-- Counted words: the first word of a segment, the number of the words, these, and their checksum. In version 1 they are
+-- the whole segment, and the words are its body. In version 2 the words are its head, and its rows follow.
+abbrev pub counted : Version → List ℕ → List ℕ
+counted version words = magic version ∷ counted_rest (checksum_of words) words
 
 -- ---- reading
 
@@ -89,19 +98,19 @@ StopsBefore before after count NoMemory = Unit {0}
 
 -- The first word of no segment, of any version of the format.
 abbrev pub IsForeign : ℕ → Type 0
-IsForeign first = (first < 2 ^ 64) × (first % 2 ^ 56 ≢ magic % 2 ^ 56)
+IsForeign first = (first < 2 ^ 64) × (first % 2 ^ 56 ≢ signature)
 
--- The first word of a segment of another version of the format.
+-- The first word of a segment of a version that is not known.
 abbrev pub IsOtherVersion : ℕ → Type 0
-IsOtherVersion first = (first < 2 ^ 64) × (first % 2 ^ 56 ≡ magic % 2 ^ 56) × (first ≢ magic)
+IsOtherVersion first = (first < 2 ^ 64) × (first % 2 ^ 56 ≡ signature) × ((version : Version) → first ≢ magic version)
 
 -- A proper prefix of the first word of a segment.
 abbrev pub IsMagicPrefix : List ℕ → Type 0
-IsMagicPrefix bytes = (length bytes < 8) × (bytes ≡ take (length bytes) (bytes_of (magic ∷ [])))
+IsMagicPrefix bytes = (length bytes < 8) × (bytes ≡ take (length bytes) (bytes_of (signature ∷ [])))
 
 -- Fewer than eight bytes, with which no segment of any version begins.
 abbrev pub IsNoMagicPrefix : List ℕ → Type 0
-IsNoMagicPrefix bytes = (length bytes < 8) × (bytes ≢ take (length bytes) (bytes_of (magic ∷ [])))
+IsNoMagicPrefix bytes = (length bytes < 8) × (bytes ≢ take (length bytes) (bytes_of (signature ∷ [])))
 
 -- The fault of a reader that ends within the first word, by the bytes that it had.
 abbrev pub IsShortWordFault : List ℕ → SegmentFault → Type 0
@@ -121,7 +130,7 @@ StopsInFirstWord before after Damaged = ⊥
 StopsInFirstWord before after Read = Unit {0}
 StopsInFirstWord before after NoMemory = ⊥
 
--- The fault of a first word that is not the one of this version.
+-- The fault of a first word that is of no version that is known.
 abbrev pub IsFirstWordFault : ℕ → SegmentFault → Type 0
 IsFirstWordFault first NotASegment = IsForeign first
 IsFirstWordFault first OtherVersion = IsOtherVersion first
@@ -140,12 +149,12 @@ abbrev pub IsTruncatedRest : List ℕ → Type 0
 IsTruncatedRest bytes =
     (length bytes < 8) ⊎ ((count : ℕ) × (last : List ℕ) × (count < 2 ^ 64) × (bytes ≡ bytes_of (count ∷ []) ++ last) × (length last < 8 * (count + 1)))
 
--- The first fault after the first word of a segment.
+-- The first fault in counted words after their first word.
 abbrev pub IsRestFault : KnownBytes → KnownBytes → SegmentFault → Type 0
 IsRestFault before after NotASegment = ⊥
 IsRestFault before after OtherVersion = ⊥
 IsRestFault before after CutShort = (bytes : Bytes) × IsTruncatedRest bytes × ReadsToEnd before after bytes
-IsRestFault before after Damaged = (words : List ℕ) × (sum : ℕ) × IsDamaged words sum × Consumes before after (bytes_of (segment_rest sum words))
+IsRestFault before after Damaged = (words : List ℕ) × (sum : ℕ) × IsDamaged words sum × Consumes before after (bytes_of (counted_rest sum words))
 IsRestFault before after Read = Unit {0}
 IsRestFault before after NoMemory = Unit {0}
 
@@ -153,11 +162,12 @@ IsRestFault before after NoMemory = Unit {0}
 abbrev pub MayBegin : KnownBytes → KnownBytes → Type 0
 MayBegin before after =
     ((bytes : Bytes) × IsMagicPrefix bytes × ReadsToEnd before after bytes)
-    ⊎ ((first : ℕ) × (first % 2 ^ 56 ≡ magic % 2 ^ 56) × Consumes before after (bytes_of (first ∷ [])))
+    ⊎ ((first : ℕ) × (first % 2 ^ 56 ≡ signature) × Consumes before after (bytes_of (first ∷ [])))
 
--- A proper prefix of a segment, of at least one byte or of none.
+-- A proper prefix of counted words, of at least one byte or of none.
 abbrev pub IsTruncated : List ℕ → Type 0
-IsTruncated bytes = IsMagicPrefix bytes ⊎ ((rest : List ℕ) × (bytes ≡ bytes_of (magic ∷ []) ++ rest) × IsTruncatedRest rest)
+IsTruncated bytes =
+    IsMagicPrefix bytes ⊎ ((version : Version) × (rest : List ℕ) × (bytes ≡ bytes_of (magic version ∷ []) ++ rest) × IsTruncatedRest rest)
 
 -- The first fault in the bytes that a reader gave, from left to right.
 abbrev pub MeetsFault : KnownBytes → KnownBytes → SegmentFault → Type 0
@@ -166,6 +176,7 @@ MeetsFault before after NotASegment =
     ⊎ ((bytes : Bytes) × IsNoMagicPrefix bytes × ReadsToEnd before after bytes)
 MeetsFault before after OtherVersion = (first : ℕ) × IsOtherVersion first × Consumes before after (bytes_of (first ∷ []))
 MeetsFault before after CutShort = (bytes : Bytes) × (0 < length bytes) × IsTruncated bytes × ReadsToEnd before after bytes
-MeetsFault before after Damaged = (words : List ℕ) × (sum : ℕ) × IsDamaged words sum × Consumes before after (bytes_of (magic ∷ segment_rest sum words))
+MeetsFault before after Damaged =
+    (version : Version) × (words : List ℕ) × (sum : ℕ) × IsDamaged words sum × Consumes before after (bytes_of (magic version ∷ counted_rest sum words))
 MeetsFault before after Read = Unit {0}
 MeetsFault before after NoMemory = Unit {0}

@@ -1,4 +1,4 @@
-//! Why a segment was not read.
+//! Why the counted words of a segment were not read.
 
 ghost use Rattle.std.specs.Prelude.{◌≡◌};
 
@@ -9,7 +9,7 @@ use std::alloc::AllocError;
 pub enum SegmentFault {
     /// The bytes do not begin as those of a segment.
     NotASegment,
-    /// They begin as those of another version of the format.
+    /// They begin as those of a version of the format that is not known.
     OtherVersion,
     /// They end before all words are there.
     CutShort,

@@ -1,15 +1,27 @@
-//! Reads a segment from a reader (`read_segment`), or tests whether what it gives may begin one (`may_begin`).
+//! Reads counted words, with which a segment begins (`read_counted`), and others (`read_words`) from a reader, or tests
+//! whether what it gave may begin a segment (`may_begin`).
 
 ghost use Rattle.std.specs.Prelude.{◌≡◌, ◌≢◌, ◌+◌, ◌*◌, ◌^◌, ◌<◌, ◌≤◌, ◌∷◌, [], true, false, length, take, IfErr, IfNone, IfOk, IfSome, OnOk};
 ghost use Rattle.std.specs.Io.KnownBytes.{Consumes, IsAtEnd};
-ghost use Rattle.bsi_segments.specs.Segments.{bytes_of, checksum_of, magic, segment, segment_rest, AreWords, IsFirstWordFault, IsRestFault, IsShortWordFault, MayBegin, MeetsFault, ReadsToEnd, ReadsWords, StopsBefore, StopsInFirstWord};
+ghost use Rattle.bsi_segments.specs.declared.version.Version.{Version};
+ghost use Rattle.bsi_segments.specs.Segments.{bytes_of, checksum_of, counted, counted_rest, magic, signature, AreWords, IsFirstWordFault, IsRestFault, IsShortWordFault, MayBegin, MeetsFault, ReadsToEnd, ReadsWords, StopsBefore, StopsInFirstWord};
 
 use crate::checksums::checksum;
 use crate::fault::SegmentFault;
+use crate::version::{SIGNATURE, Version, version_of};
 use crate::words::{decode_words, know_words, word_of};
-use crate::writing::{CHUNK_WORDS, MAGIC};
+use crate::writing::CHUNK_WORDS;
 use std::alloc::Global;
 use std::io::Read;
+
+/// The first words of a segment: all of one of version 1, the head of one of version 2.
+#[derive(Debug, Drop)]
+pub struct CountedWords {
+    /// The version of the segment's format.
+    pub version: Version,
+    /// The body in version 1, the head in version 2.
+    pub words: Vec<u64>,
+}
 
 /// The reader failed.
 #[derive(Clone, Copy, Debug)]
@@ -34,8 +46,13 @@ fn fill<R: Read>(reader: &mut R, bytes: &mut [u8]) -> Result<usize, ReadFault>
     Ok(at)
 }
 
-/// Reads `count` words, and appends them. Memory is reserved chunk by chunk, as the words come.
-fn read_words<R: Read>(reader: &mut R, count: u64, words: &mut Vec<u64>) -> Result<(), SegmentFault>
+/// Reads `count` words, and appends them. Memory is reserved chunk by chunk, as the words come, so a false count takes
+/// none. After a fault the list may have some of the words.
+pub fn read_words<R: Read>(
+    reader: &mut R,
+    count: u64,
+    words: &mut Vec<u64>,
+) -> Result<(), SegmentFault>
     ensures read { OnOk result (ReadsWords (R.remaining reader.old) (R.remaining reader.new) count
         words.old.items words.new.items) }
     ensures fault { IfErr result
@@ -86,7 +103,7 @@ fn short_fault(bytes: &[u8]) -> SegmentFault
     requires { length bytes.now < 8 }
     ensures { IsShortWordFault bytes.now result }
 {
-    if bytes == &MAGIC.to_le_bytes()[..bytes.len()] {
+    if bytes == &SIGNATURE.to_le_bytes()[..bytes.len()] {
         SegmentFault::CutShort
     } else {
         SegmentFault::NotASegment
@@ -111,12 +128,12 @@ fn read_word<R: Read>(reader: &mut R) -> Result<u64, SegmentFault>
     Ok(word_of(&bytes))
 }
 
-/// Returns the fault of a first word that is another one than ours.
+/// Returns the fault of a first word that is of no version that is known.
 fn first_fault(first: u64) -> SegmentFault
-    requires { first ≢ magic }
+    requires { (version : Version) → first ≢ magic version }
     ensures { IsFirstWordFault first result }
 {
-    if first % (1 << 56) == MAGIC % (1 << 56) {
+    if first % (1 << 56) == SIGNATURE {
         SegmentFault::OtherVersion
     } else {
         SegmentFault::NotASegment
@@ -133,17 +150,17 @@ pub fn may_begin<R: Read>(reader: &mut R) -> Result<bool, SegmentFault>
     ensures fault { IfErr result (λ fault. fault ≡ SegmentFault.Read) }
 {
     match read_first(reader) {
-        Ok(Some(first)) => Ok(first % (1 << 56) == MAGIC % (1 << 56)),
+        Ok(Some(first)) => Ok(first % (1 << 56) == SIGNATURE),
         Ok(None) | Err(SegmentFault::CutShort) => Ok(true),
         Err(SegmentFault::NotASegment) => Ok(false),
         Err(_) => Err(SegmentFault::Read),
     }
 }
 
-/// Reads what stands behind the first word of a segment, and returns the body.
+/// Reads what follows the first word of counted words, and returns the words that are counted.
 fn read_rest<R: Read>(alloc: Global, reader: &mut R) -> Result<Vec<u64>, SegmentFault>
     ensures read { IfOk result (λ words. Consumes (R.remaining reader.old) (R.remaining reader.new)
-        (bytes_of (segment_rest (checksum_of words.items) words.items))) }
+        (bytes_of (counted_rest (checksum_of words.items) words.items))) }
     ensures fit { IfOk result (λ words. AreWords words.items) }
     ensures fault { IfErr result
         (IsRestFault (R.remaining reader.old) (R.remaining reader.new)) }
@@ -159,14 +176,15 @@ fn read_rest<R: Read>(alloc: Global, reader: &mut R) -> Result<Vec<u64>, Segment
     Ok(words)
 }
 
-/// Reads the next segment, or none where the reader has ended.
-pub fn read_segment<R: Read>(
+/// Reads the counted words of the next segment, or none where the reader has ended. A false count takes no memory.
+pub fn read_counted<R: Read>(
     alloc: Global,
     reader: &mut R,
-) -> Result<Option<Vec<u64>>, SegmentFault>
-    ensures read { IfOk result (λ next. IfSome next (λ words.
-        Consumes (R.remaining reader.old) (R.remaining reader.new) (bytes_of (segment words.items)))) }
-    ensures fit { IfOk result (λ next. IfSome next (λ words. AreWords words.items)) }
+) -> Result<Option<CountedWords>, SegmentFault>
+    ensures read { IfOk result (λ next. IfSome next (λ read.
+        Consumes (R.remaining reader.old) (R.remaining reader.new)
+        (bytes_of (counted read.version read.words.items)))) }
+    ensures fit { IfOk result (λ next. IfSome next (λ read. AreWords read.words.items)) }
     ensures ended { IfOk result (λ next. IfNone next
         (ReadsToEnd (R.remaining reader.old) (R.remaining reader.new) [])) }
     ensures fault { IfErr result (MeetsFault (R.remaining reader.old) (R.remaining reader.new)) }
@@ -174,9 +192,9 @@ pub fn read_segment<R: Read>(
     let Some(first) = read_first(reader)? else {
         return Ok(None);
     };
-    if first != MAGIC {
+    let Some(version) = version_of(first) else {
         return Err(first_fault(first));
-    }
+    };
     let words = read_rest(alloc, reader)?;
-    Ok(Some(words))
+    Ok(Some(CountedWords { version, words }))
 }

@@ -1,6 +1,6 @@
--- The words of a body: each is a number of 64 bits, and so is how many there are.
+-- The words of a segment, by its parts: each is a number of 64 bits, and so is how many there are.
 use Rattle.std.proofs.Common.{◌≡◌, ℕ, zero, suc, ◌+◌, ◌-◌, ◌*◌, ◌<◌, ◌≤◌, ◌^◌, Bool, true, false, List, [], ◌∷◌, ◌++◌, All, length, map, get_or, take, drop, inl, inr, refl, sym, ap, subst, ◌∙◌, arith, length-append, length-take, get_or-take, get_or-drop}
-use Rattle.std.specs.Prelude.{nat_eq, nat_le, if◌then◌else◌, ◌&&◌, not, IsTrue}
+use Rattle.std.specs.Prelude.{None, nat_eq, nat_le, if◌then◌else◌, ◌&&◌, not, IsTrue}
 use Rattle.std.specs.Cmp.{first_so, second_so}
 use Rattle.std.specs.Int.{w64, cast_unsigned, div_ceil}
 use Rattle.std.specs.List.{flat_map, list_all, range_with_len}
@@ -22,39 +22,40 @@ use Rattle.bsi_schema.specs.Names.{begins_lower, is_name, is_name_byte, is_word}
 use Rattle.bsi_schema.specs.declared.form.Form.{Form}
 use Rattle.bsi_schema.specs.declared.form.Form.TheVariants.{Slices, Equality, Range}
 use Rattle.bsi_rows.specs.Rows.{column_of, feeders_of, SourcedRow}
+use Rattle.bsi_rows.specs.Refusals.{index_refusal}
 use Rattle.bsi_rows.specs.Table.{Table}
 use Rattle.bsi_table.proofs.Refusing.{limit_within}
 use Rattle.bsi_table.specs.Bitmaps.{bitmap_count, bitmaps_of}
 use Rattle.bsi_segments.specs.Bitmaps.{packed, value, word_of_bits}
 use Rattle.bsi_segments.specs.Bytes.{packed_bytes, text_words, AreBytes}
 use Rattle.bsi_segments.specs.Schemas.{column_words, encoded_schema, form_words, FitsWords}
-use Rattle.bsi_segments.specs.Segments.{word_at, AreWords}
+use Rattle.bsi_segments.specs.Segments.{word_at}
 use Rattle.bsi_segments.proofs.Coding.{all_fit}
-use Rattle.bsi_storage.specs.Saved.{body, columns_words, feeder_words, rows_words, AreRows, MayBeSaved}
+use Rattle.bsi_storage.specs.Saved.{columns_words, feeder_words, rows_words, AreRows}
 use Rattle.bsi_storage.proofs.ColumnWords.{column_entries, feeders_below, feeders_long}
 use Rattle.bsi_storage.proofs.Cutting.{bitmaps_long, feeders_are_bytes}
 
 -- ---- words
 
 -- each is a number of 64 bits, and there are at most n
-record Fit (n : ℕ) (ws : List ℕ) : Type 0 where
-  each : (k : ℕ) → get_or ws k 0 < 2 ^ 64
-  few : length ws ≤ n
+pub record Fit (n : ℕ) (ws : List ℕ) : Type 0 where
+  pub each : (k : ℕ) → get_or ws k 0 < 2 ^ 64
+  pub few : length ws ≤ n
 
-none : Fit 0 []
+pub none : Fit 0 []
 none = record { each = λ k. omega arith; few = omega arith }
 
-wider : (n m : ℕ) (ws : List ℕ) → n ≤ m → Fit n ws → Fit m ws
+pub wider : (n m : ℕ) (ws : List ℕ) → n ≤ m → Fit n ws → Fit m ws
 wider n m ws more fit = record { each = fit.each; few = omega (arith, more, fit.few) }
 
-one_more : (n w : ℕ) (ws : List ℕ) → w < 2 ^ 64 → Fit n ws → Fit (1 + n) (w ∷ ws)
+pub one_more : (n w : ℕ) (ws : List ℕ) → w < 2 ^ 64 → Fit n ws → Fit (1 + n) (w ∷ ws)
 one_more n w ws small fit = record { each = λ k. at k; few = omega (arith, fit.few) }
   where
     at : (k : ℕ) → get_or (w ∷ ws) k 0 < 2 ^ 64
     at zero = small
     at (suc k) = fit.each k
 
-both : (n m : ℕ) (xs ys : List ℕ) → Fit n xs → Fit m ys → Fit (n + m) (xs ++ ys)
+pub both : (n m : ℕ) (xs ys : List ℕ) → Fit n xs → Fit m ys → Fit (n + m) (xs ++ ys)
 both n m xs ys a b = record {
   each = λ k. elim (cases_lt k (length xs)) [
     | inl within ↦ omega (arith, get_or_append_left xs ys 0 k within, a.each k)
@@ -63,7 +64,7 @@ both n m xs ys a b = record {
   few = omega (arith, length-append xs ys, a.few, b.few);
 }
 
-each_of : {X : Type 0} (n : ℕ) (f : X → List ℕ) (xs : List X) → All (λ x. Fit n (f x)) xs → Fit (length xs * n) (flat_map f xs)
+pub each_of : {X : Type 0} (n : ℕ) (f : X → List ℕ) (xs : List X) → All (λ x. Fit n (f x)) xs → Fit (length xs * n) (flat_map f xs)
 each_of n f [] all = record { each = λ k. omega arith; few = omega arith }
 each_of n f (x ∷ xs) all =
     wider (n + length xs * n) (length (x ∷ xs) * n) (f x ++ flat_map f xs) (omega arith)
@@ -79,7 +80,7 @@ counted f n small = record {
 }
 
 -- what holds of each of the first numbers
-all_range : (P : ℕ → Type 0) (n : ℕ) → ((k : ℕ) → k < n → P k) → All P (range_with_len 0 n)
+pub all_range : (P : ℕ → Type 0) (n : ℕ) → ((k : ℕ) → k < n → P k) → All P (range_with_len 0 n)
 all_range P n holds = λ i d within.
     (let below : i < n = omega (arith, within, length-range_with_len 0 n) in
     let at : i ≡ get_or (range_with_len 0 n) i d = sym (get_or-range_with_len 0 n i d below ∙ omega arith) in
@@ -99,7 +100,7 @@ unfolding value
 value_below zero f = omega arith
 value_below (suc n) f = omega (arith, two_pow n, bit_small (f 0), value_below n (λ i. f (suc i)))
 
-packed_fit : (bits : List Bool) → Fit (word_count (length bits)) (packed bits)
+pub packed_fit : (bits : List Bool) → Fit (word_count (length bits)) (packed bits)
 packed_fit bits = counted (word_of_bits bits) (word_count (length bits)) (λ w. value_below 64 (λ i. get_or bits (64 * w + i) false))
 
 -- ---- bytes
@@ -122,12 +123,12 @@ word_small bytes are k =
       | inr past ↦ omega (arith, get_or_past (take 8 (drop (8 * k) bytes)) i 0 (omega (arith, past, length-take 8 (drop (8 * k) bytes))))
     ]
 
-bytes_fit : (bytes : List ℕ) → AreBytes bytes → Fit (div_ceil (length bytes) 8) (packed_bytes bytes)
+pub bytes_fit : (bytes : List ℕ) → AreBytes bytes → Fit (div_ceil (length bytes) 8) (packed_bytes bytes)
 bytes_fit bytes are = counted (word_at bytes) (div_ceil (length bytes) 8) (word_small bytes are)
 
-text_fit : (text : List ℕ) → AreBytes text → length text ≤ 2 ^ 16 → Fit (2 ^ 16) (text_words text)
+pub text_fit : (text : List ℕ) → AreBytes text → length text ≤ 2 ^ 26 → Fit (2 ^ 26) (text_words text)
 text_fit text are few =
-    wider (1 + div_ceil (length text) 8) (2 ^ 16) (text_words text) (omega (arith, few))
+    wider (1 + div_ceil (length text) 8) (2 ^ 26) (text_words text) (omega (arith, few))
     (one_more (div_ceil (length text) 8) (length text) (packed_bytes text) (omega (arith, few)) (bytes_fit text are))
 
 -- ---- schemas
@@ -153,11 +154,11 @@ name_short text name =
     let long : nat_le (length text) 32 ≡ true = second_so (begins_lower text) (nat_le (length text) 32) (first_so start (list_all is_name_byte text) spelled) in
     grind (arith, nat_tests, long)
 
-column_fit : (column : NamedColumn) → FitsWords column → IsTrue (is_name column.name) → IsForm column.form → Fit (2 ^ 17) (column_words column)
+column_fit : (column : NamedColumn) → FitsWords column → IsTrue (is_name column.name) → IsForm column.form → Fit (2 ^ 27) (column_words column)
 column_fit column fits name valid =
     let offset_small : cast_unsigned w64 column.offset < 2 ^ 64 = let signed = fits.offset in search (arith, ints) in
-    wider (2 ^ 16 + (65 + 1)) (2 ^ 17) (column_words column) (omega arith)
-    (both (2 ^ 16) (65 + 1) (text_words column.name) (form_words column.form ++ cast_unsigned w64 column.offset ∷ [])
+    wider (2 ^ 26 + (65 + 1)) (2 ^ 27) (column_words column) (omega arith)
+    (both (2 ^ 26) (65 + 1) (text_words column.name) (form_words column.form ++ cast_unsigned w64 column.offset ∷ [])
     (text_fit column.name fits.name (omega (arith, name_short column.name name)))
     (both 65 1 (form_words column.form) (cast_unsigned w64 column.offset ∷ []) (form_fit column.form valid) (one_more 0 (cast_unsigned w64 column.offset) [] offset_small none)))
 
@@ -170,13 +171,13 @@ few_columns schema declared = elim (cases_lt 0 (length schema.columns)) [
   | inr none ↦ omega (arith, none)
 ]
 
-schema_fit : (schema : Declared) → IsDeclared schema → Fit (2 ^ 24) (encoded_schema schema)
+pub schema_fit : (schema : Declared) → IsDeclared schema → Fit (2 ^ 34) (encoded_schema schema)
 schema_fit schema declared =
-    wider (1 + (1 + length schema.columns * 2 ^ 17)) (2 ^ 24) (encoded_schema schema) (omega (arith, few_columns schema declared))
-    (one_more (1 + length schema.columns * 2 ^ 17) (length schema.columns) ((if schema.signed then 1 else 0) ∷ flat_map column_words schema.columns) (omega (arith, few_columns schema declared))
-    (one_more (length schema.columns * 2 ^ 17) (if schema.signed then 1 else 0) (flat_map column_words schema.columns) (omega (arith, bit_small schema.signed))
-    (each_of (2 ^ 17) column_words schema.columns
-    (All-from_get_or (λ column. Fit (2 ^ 17) (column_words column)) schema.columns no_column (λ c within.
+    wider (1 + (1 + length schema.columns * 2 ^ 27)) (2 ^ 34) (encoded_schema schema) (omega (arith, few_columns schema declared))
+    (one_more (1 + length schema.columns * 2 ^ 27) (length schema.columns) ((if schema.signed then 1 else 0) ∷ flat_map column_words schema.columns) (omega (arith, few_columns schema declared))
+    (one_more (length schema.columns * 2 ^ 27) (if schema.signed then 1 else 0) (flat_map column_words schema.columns) (omega (arith, bit_small schema.signed))
+    (each_of (2 ^ 27) column_words schema.columns
+    (All-from_get_or (λ column. Fit (2 ^ 27) (column_words column)) schema.columns no_column (λ c within.
     let may = declared.each c within in
     column_fit (column_at schema.columns c) (all_fit schema declared c within) may.name may.valid.form)))))
 
@@ -214,14 +215,14 @@ module _ (schema : Declared) (rows : List SourcedRow) (feeders : ℕ) (declared 
       let this : length (get_or bits k []) ≡ n = long.each k (omega (arith, inside, long.many)) in
       wider (word_count (length (get_or bits k []))) (2 ^ 27) (packed (get_or bits k [])) (omega (arith, this, few)) (packed_fit (get_or bits k [])))))
 
-  columns_fit : Fit (2 ^ 44) (columns_words schema rows 0 (length schema.columns))
+  pub columns_fit : Fit (2 ^ 44) (columns_words schema rows 0 (length schema.columns))
   columns_fit =
       let f : ℕ → List ℕ = λ k. flat_map packed (bitmaps_of schema rows k) in
       let range = range_with_len 0 (length schema.columns) in
       wider (length range * 2 ^ 38) (2 ^ 44) (flat_map f range) (omega (arith, length-range_with_len 0 (length schema.columns), few_columns schema declared))
       (each_of (2 ^ 38) f range (all_range (λ k. Fit (2 ^ 38) (f k)) (length schema.columns) bitmaps_fit))
 
-  feeders_fit : feeders ≤ 64 → Fit (2 ^ 30) (feeder_words feeders (feeders_of rows))
+  pub feeders_fit : feeders ≤ 64 → Fit (2 ^ 30) (feeder_words feeders (feeders_of rows))
   feeders_fit small = by (nat_eq feeders 1)
     where
       by : (b : Bool) → Fit (2 ^ 30) (if b then [] else packed_bytes (feeders_of rows))
@@ -230,20 +231,20 @@ module _ (schema : Declared) (rows : List SourcedRow) (feeders : ℕ) (declared 
           wider (div_ceil (length (feeders_of rows)) 8) (2 ^ 30) (packed_bytes (feeders_of rows)) (omega (arith, few, feeders_long rows))
           (bytes_fit (feeders_of rows) (feeders_are_bytes feeders (feeders_of rows) small (feeders_below feeders rows are.from)))
 
--- ---- a body
+-- the words of rows are words
+module _ (t : Table) (declared : IsDeclared t.schema) (accepted : index_refusal t.schema t.limit ≡ None) (within : length t.rows ≤ t.limit) (few_feeders : t.feeders ≤ 64) (are : AreRows t.schema t.feeders t.rows) where
+  pub few_rows : length t.rows ≤ 2 ^ 32
+  few_rows = omega (arith, (limit_within t.schema t.limit accepted).1, within)
 
--- the words of a body are words
-pub are_words : (t : Table) (notes : List ℕ) → MayBeSaved t notes → AreWords (body t notes)
-are_words t notes valid =
-    let limit = (limit_within t.schema t.limit valid.accepted).1 in
-    let few : length t.rows ≤ 2 ^ 32 = omega (arith, limit, valid.within) in
-    let rows = both (2 ^ 44) (2 ^ 30) (columns_words t.schema t.rows 0 (length t.schema.columns)) (feeder_words t.feeders (feeders_of t.rows))
-    (columns_fit t.schema t.rows t.feeders valid.declared valid.rows few) (feeders_fit t.schema t.rows t.feeders valid.declared valid.rows few valid.feeders.1) in
-    let behind = both (2 ^ 24) (2 ^ 44 + 2 ^ 30) (encoded_schema t.schema) (rows_words t.schema t.feeders t.rows) (schema_fit t.schema valid.declared) rows in
-    let texts = both (2 ^ 16) (2 ^ 24 + (2 ^ 44 + 2 ^ 30)) (text_words notes) (encoded_schema t.schema ++ rows_words t.schema t.feeders t.rows)
-    (text_fit notes valid.bytes valid.few) behind in
-    let words = text_words notes ++ (encoded_schema t.schema ++ rows_words t.schema t.feeders t.rows) in
-    let n = 2 ^ 16 + (2 ^ 24 + (2 ^ 44 + 2 ^ 30)) in
-    let all = one_more (1 + (1 + n)) (length t.rows) (t.feeders ∷ t.limit ∷ words) (omega (arith, few))
-    (one_more (1 + n) t.feeders (t.limit ∷ words) (omega (arith, valid.feeders.1)) (one_more n t.limit words (omega (arith, limit)) texts)) in
-    record { each = all.each; few = omega (arith, all.few) }
+  pub rows_fit : Fit (2 ^ 44 + 2 ^ 30) (rows_words t.schema t.feeders t.rows)
+  rows_fit =
+      both (2 ^ 44) (2 ^ 30) (columns_words t.schema t.rows 0 (length t.schema.columns)) (feeder_words t.feeders (feeders_of t.rows))
+      (columns_fit t.schema t.rows t.feeders declared are few_rows) (feeders_fit t.schema t.rows t.feeders declared are few_rows few_feeders)
+
+  -- with three sizes
+  pub sizes_fit : (n : ℕ) (words : List ℕ) → Fit n words → Fit (3 + n) (length t.rows ∷ t.feeders ∷ t.limit ∷ words)
+  sizes_fit n words fit =
+      let limit = (limit_within t.schema t.limit accepted).1 in
+      wider (1 + (1 + (1 + n))) (3 + n) (length t.rows ∷ t.feeders ∷ t.limit ∷ words) (omega arith)
+      (one_more (1 + (1 + n)) (length t.rows) (t.feeders ∷ t.limit ∷ words) (omega (arith, few_rows))
+      (one_more (1 + n) t.feeders (t.limit ∷ words) (omega (arith, few_feeders)) (one_more n t.limit words (omega (arith, limit)) fit)))

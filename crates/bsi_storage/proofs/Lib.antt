@@ -1,9 +1,15 @@
-mod Bodies
 pub mod BodyWords
 mod ColumnBitmaps
+mod ColumnHeads
 mod ColumnWords
 mod Cutting
 mod Files
+mod FrontWords
+mod HeadWords
+mod NoTables
 mod OneTable
 mod Openings
+mod RowCounts
+mod SegmentParts
 mod WholeSegments
+mod Zones

@@ -1,5 +1,5 @@
--- Bytes keep at most one table.
-use Rattle.std.proofs.Common.{◌≡◌, ℕ, zero, suc, ◌+◌, ◌<◌, ◌≤◌, List, [], ◌∷◌, ◌++◌, Some, None, All, length, get_or, drop, inl, inr, refl, sym, ap, ap₂, subst, ◌∙◌, arith, length-append, append_assoc, ext_get_or, false}
+-- Bytes have at most one table, with one list of notes and one text of kinds.
+use Rattle.std.proofs.Common.{◌≡◌, ℕ, zero, suc, ◌+◌, ◌<◌, ◌≤◌, List, [], ◌∷◌, ◌++◌, All, length, get_or, inl, inr, refl, sym, ap, ap₂, subst, ◌∙◌, arith, length-append, append_assoc, ext_get_or, false}
 use Rattle.std.specs.Prelude.{nat_eq}
 use Rattle.std.specs.List.{flat_map, range_with_len}
 use Rattle.std.proofs.Math.Seq.{get_or-append_seam}
@@ -12,16 +12,20 @@ use Rattle.bsi_rows.specs.Table.{Table}
 use Rattle.bsi_table.specs.Bitmaps.{bitmap_count, bitmaps_of}
 use Rattle.bsi_table.proofs.RowBitmaps.{same_rows}
 use Rattle.bsi_segments.specs.Bitmaps.{packed}
-use Rattle.bsi_segments.specs.Schemas.{encoded_schema}
-use Rattle.bsi_segments.proofs.Coding.{same_schema, same_text}
+use Rattle.bsi_segments.specs.Segments.{bytes_of, counted, magic, AreWords}
+use Rattle.bsi_segments.specs.declared.version.Version.{Version}
+use Rattle.bsi_segments.specs.declared.version.Version.TheVariants.{One, Two}
 use Rattle.bsi_segments.proofs.Padding.{same_bytes}
-use Rattle.bsi_segments.proofs.Unique.{only_these}
-use Rattle.bsi_storage.specs.Saved.{body, feeder_words, part_bytes, rows_words, table_segment, with_only, AreRows, IsFileOf, MayBeSaved, Part}
-use Rattle.bsi_storage.proofs.BodyWords.{are_words}
+use Rattle.bsi_segments.proofs.Unique.{same_all, same_words}
+use Rattle.bsi_storage.specs.Decoding.{front_words, rows_word_count}
+use Rattle.bsi_storage.specs.Heads.{rows_head}
+use Rattle.bsi_storage.specs.Saved.{feeder_words, part_bytes, rows_words, segment, with_only, AreRows, IsFileOf, IsPartOf, MayBeSaved, Part}
 use Rattle.bsi_storage.proofs.ColumnWords.{column_entries, feeders_below, feeders_long, range_next}
 use Rattle.bsi_storage.proofs.Cutting.{bitmaps_long, feeders_are_bytes, same_bitmaps, same_parts, several, words_long}
-use Rattle.bsi_storage.proofs.Files.{file_of, length-file_of}
-use Rattle.bsi_syntax.specs.Bytes.{KnownBytes}
+use Rattle.bsi_storage.proofs.FrontWords.{same_fronts, texts_of, AreSameFronts}
+use Rattle.bsi_storage.proofs.HeadWords.{first_are, last_are}
+use Rattle.bsi_storage.proofs.RowCounts.{length-rows_words}
+use Rattle.bsi_storage.proofs.SegmentParts.{first_words, last_words, parts_with, segment_long}
 
 -- ---- rows
 
@@ -92,110 +96,149 @@ module _ (schema : Declared) (feeders : ℕ) (xs ys : List SourcedRow) (declared
   pub rows_same : xs ≡ ys
   rows_same = same_rows schema columns_are xs ys xs_are.fits ys_are.fits feeders_same bitmaps_same
 
--- ---- bodies
-
--- a body is that of one table and one text
-module _ (t u : Table) (notes others : List ℕ) (valid : MayBeSaved t notes) (other : MayBeSaved u others) (same : body t notes ≡ body u others) where
-  sizes : (length t.rows ≡ length u.rows) × (t.feeders ≡ u.feeders) × (t.limit ≡ u.limit)
-  sizes = (ap (λ ws. get_or ws 0 0) same, ap (λ ws. get_or ws 1 0) same, ap (λ ws. get_or ws 2 0) same)
-
-  texts : (notes ≡ others) × (encoded_schema t.schema ++ rows_words t.schema t.feeders t.rows ≡ encoded_schema u.schema ++ rows_words u.schema u.feeders u.rows)
-  texts =
-      same_text notes others (encoded_schema t.schema ++ rows_words t.schema t.feeders t.rows) (encoded_schema u.schema ++ rows_words u.schema u.feeders u.rows)
-      valid.bytes other.bytes (ap (drop 3) same)
-
-  schemas : (t.schema ≡ u.schema) × (rows_words t.schema t.feeders t.rows ≡ rows_words u.schema u.feeders u.rows)
-  schemas =
-      same_schema t.schema u.schema (rows_words t.schema t.feeders t.rows) (rows_words u.schema u.feeders u.rows)
-      valid.declared other.declared texts.1
-
-  rows : t.rows ≡ u.rows
-  rows =
-      rows_same t.schema t.feeders t.rows u.rows valid.declared valid.feeders.1 valid.rows
-      (subst (λ s. AreRows s t.feeders u.rows) (sym schemas.0) (subst (λ n. AreRows u.schema n u.rows) (sym sizes.1) other.rows))
-      sizes.0
-      (schemas.1 ∙ ap (λ s. rows_words s u.feeders u.rows) (sym schemas.0) ∙ ap (λ n. rows_words t.schema n u.rows) (sym sizes.1))
-
-  pub body_same : (t ≡ u) × (notes ≡ others)
-  body_same = (
-    (λ i. record { schema = schemas.0 i; feeders = sizes.1 i; limit = sizes.2 i; rows = rows i }),
-    texts.0,
-  )
-
 -- ---- segments
 
-some_is : (x y : List ℕ) → Some x ≡ Some y → x ≡ y
-some_is x y same = ap or_x same
-  where
-    or_x : KnownBytes → List ℕ
-    or_x None = x
-    or_x (Some z) = z
+-- what begins so, and has the same rows, is one table with the same texts
+module _ (version : Version) (t u : Table) (notes others kinds more xs ys : List ℕ) (valid : MayBeSaved version t notes kinds) (other : MayBeSaved version u others more)
+    (same : front_words version (length t.rows) t.feeders t.limit notes kinds t.schema xs ≡ front_words version (length u.rows) u.feeders u.limit others more u.schema ys) where
+  fronts : AreSameFronts (length t.rows) t.feeders t.limit notes kinds t.schema xs (length u.rows) u.feeders u.limit others more u.schema ys
+  fronts =
+      same_fronts version (length t.rows) t.feeders t.limit notes kinds t.schema xs (length u.rows) u.feeders u.limit others more u.schema ys
+      (texts_of version t notes kinds valid) (texts_of version u others more other) same
 
--- bytes that begin with those of a segment
-module _ (t u : Table) (notes others : List ℕ) (valid : MayBeSaved t notes) (other : MayBeSaved u others) (rest more : List ℕ)
-    (same : table_segment t notes ++ rest ≡ table_segment u others ++ more) where
-  words : (body u others ≡ body t notes) × (Some more ≡ Some rest)
-  words =
-      only_these (body t notes) rest (are_words t notes valid) (body u others) (Some more) (are_words u others other)
-      (ap (λ bs. bs ++ rest) (file_of (body t notes) t notes refl) ∙ same ∙ ap (λ bs. bs ++ more) (sym (file_of (body u others) u others refl)))
+  -- as many words of rows
+  pub rows_long : length (rows_words t.schema t.feeders t.rows) ≡ length (rows_words u.schema u.feeders u.rows)
+  rows_long =
+      length-rows_words t.schema t.feeders t.rows valid.rows
+      ∙ (λ i. rows_word_count (fronts.schema_same i) (fronts.feeders_same i) (fronts.rows_same i))
+      ∙ sym (length-rows_words u.schema u.feeders u.rows other.rows)
 
-  pub segment_same : (t ≡ u) × (notes ≡ others)
-  segment_same = body_same t u notes others valid other (sym words.0)
+  module _ (words : rows_words t.schema t.feeders t.rows ≡ rows_words u.schema u.feeders u.rows) where
+    rows : t.rows ≡ u.rows
+    rows =
+        rows_same t.schema t.feeders t.rows u.rows valid.declared valid.feeders.1 valid.rows
+        (subst (λ s. AreRows s t.feeders u.rows) (sym fronts.schema_same) (subst (λ n. AreRows u.schema n u.rows) (sym fronts.feeders_same) other.rows))
+        fronts.rows_same
+        (words ∙ (λ i. rows_words (sym fronts.schema_same i) (sym fronts.feeders_same i) u.rows))
 
-  pub rest_same : rest ≡ more
-  rest_same = some_is rest more (sym words.1)
+    pub content_same : (t ≡ u) × (notes ≡ others) × (kinds ≡ more)
+    content_same = (
+      (λ i. record { schema = fronts.schema_same i; feeders = fronts.feeders_same i; limit = fronts.limit_same i; rows = rows i }),
+      fronts.notes_same,
+      fronts.kinds_same,
+    )
+
+-- bytes that begin with counted words and with a segment
+module _ (version : Version) (words : List ℕ) (any : Version) (t : Table) (notes kinds : List ℕ) (are : AreWords words) (valid : MayBeSaved any t notes kinds) (more rest : List ℕ)
+    (same : bytes_of (counted version words) ++ more ≡ segment any t notes kinds ++ rest) where
+  pub begun_as : (version ≡ any) × (words ≡ first_words any t notes kinds) × (more ≡ bytes_of (last_words any t) ++ rest)
+  begun_as =
+      same_all version words more are any (first_words any t notes kinds) (bytes_of (last_words any t) ++ rest) (first_are any t notes kinds valid)
+      (same ∙ parts_with any t notes kinds rest)
+
+-- two segments of one version with which the same bytes begin
+pub record AreSameSegments (version other : Version) (t u : Table) (notes others kinds more rest tail : List ℕ) : Type 0 where
+  pub version_same : version ≡ other
+  pub table_same : t ≡ u
+  pub notes_same : notes ≡ others
+  pub kinds_same : kinds ≡ more
+  pub rest_same : rest ≡ tail
+
+same_by_version : (version other : Version) (t u : Table) (notes others kinds more rest tail : List ℕ) → MayBeSaved version t notes kinds → MayBeSaved other u others more
+    → version ≡ other → first_words version t notes kinds ≡ first_words other u others more → bytes_of (last_words version t) ++ rest ≡ bytes_of (last_words other u) ++ tail
+    → AreSameSegments version other t u notes others kinds more rest tail
+same_by_version One One t u notes others kinds more rest tail valid valid' is first last =
+    let xs = rows_words t.schema t.feeders t.rows in
+    let ys = rows_words u.schema u.feeders u.rows in
+    let all = fronts One t u notes others kinds more xs ys valid valid' first in
+    let content = content_same One t u notes others kinds more xs ys valid valid' first all.behind_same in
+    record { version_same = refl; table_same = content.0; notes_same = content.1; kinds_same = content.2; rest_same = last }
+same_by_version One Two t u notes others kinds more rest tail valid valid' is first last = absurd (omega (arith, ap magic is))
+same_by_version Two One t u notes others kinds more rest tail valid valid' is first last = absurd (omega (arith, ap magic is))
+same_by_version Two Two t u notes others kinds more rest tail valid valid' is first last =
+    let xs = rows_head t.schema t.feeders t.rows in
+    let ys = rows_head u.schema u.feeders u.rows in
+    let long = rows_long Two t u notes others kinds more xs ys valid valid' first in
+    let words = same_words (rows_words t.schema t.feeders t.rows) (rows_words u.schema u.feeders u.rows) rest tail
+    (last_are Two t notes kinds valid) (last_are Two u others more valid') long last in
+    let content = content_same Two t u notes others kinds more xs ys valid valid' first words.0 in
+    record { version_same = refl; table_same = content.0; notes_same = content.1; kinds_same = content.2; rest_same = words.1 }
+
+-- bytes that begin with two segments
+pub segment_same : (version other : Version) (t u : Table) (notes others kinds more rest tail : List ℕ) → MayBeSaved version t notes kinds → MayBeSaved other u others more
+    → segment version t notes kinds ++ rest ≡ segment other u others more ++ tail → AreSameSegments version other t u notes others kinds more rest tail
+segment_same version other t u notes others kinds more rest tail valid valid' same =
+    let all = begun_as version (first_words version t notes kinds) other u others more (first_are version t notes kinds valid) valid' (bytes_of (last_words version t) ++ rest) tail
+    (sym (parts_with version t notes kinds rest) ∙ same) in
+    same_by_version version other t u notes others kinds more rest tail valid valid' all.0 all.1 all.2
+
+-- a segment has bytes
+pub some_bytes : (version : Version) (t : Table) (notes kinds : List ℕ) → 0 < length (segment version t notes kinds)
+some_bytes version t notes kinds = omega (arith, segment_long version t notes kinds)
 
 -- ---- files
 
-abbrev pub AreKept : Table → List Part → Type 0
-AreKept t ps = All (λ p. MayBeSaved (with_only t p.rows) p.notes) ps
+abbrev pub ArePartsOf : Table → List ℕ → List Part → Type 0
+ArePartsOf t kinds ps = All (IsPartOf t kinds) ps
 
-pub no_bytes : (t : Table) (p : Part) (rest : List ℕ) → [] ≡ part_bytes t p ++ rest → ⊥
-no_bytes t p rest same =
-    omega (arith, ap (λ (bs : List ℕ). length bs) same, length-append (part_bytes t p) rest, length-file_of (body (with_only t p.rows) p.notes) (with_only t p.rows) p.notes refl)
+pub no_bytes : (t : Table) (kinds : List ℕ) (p : Part) (rest : List ℕ) → [] ≡ part_bytes t kinds p ++ rest → ⊥
+no_bytes t kinds p rest same =
+    omega (arith, ap (λ (bs : List ℕ). length bs) same, length-append (part_bytes t kinds p) rest, some_bytes p.version (with_only t p.rows) p.notes kinds)
 
-module _ (t u : Table) where
+-- the first parts of the same bytes
+module _ (t u : Table) (kinds more : List ℕ) (p q : Part) (p_is : IsPartOf t kinds p) (q_is : IsPartOf u more q) (us vs : List ℕ) (same : part_bytes t kinds p ++ us ≡ part_bytes u more q ++ vs) where
+  firsts : AreSameSegments p.version q.version (with_only t p.rows) (with_only u q.rows) p.notes q.notes kinds more us vs
+  firsts = segment_same p.version q.version (with_only t p.rows) (with_only u q.rows) p.notes q.notes kinds more us vs p_is q_is same
+
+  pub first_part : p ≡ q
+  first_part = λ i. record { version = firsts.version_same i; rows = (firsts.table_same i).rows; notes = firsts.notes_same i }
+
+  pub first_frame : (with_only t [] ≡ with_only u []) × (kinds ≡ more)
+  first_frame = (ap (λ (v : Table). with_only v []) firsts.table_same, firsts.kinds_same)
+
+  pub behind_first : us ≡ vs
+  behind_first = firsts.rest_same
+
+module _ (t u : Table) (kinds more : List ℕ) where
   -- the same bytes are those of the same parts
-  same_all : (ps qs : List Part) → AreKept t ps → AreKept u qs → flat_map (part_bytes t) ps ≡ flat_map (part_bytes u) qs → ps ≡ qs
-  same_all [] [] ps_are qs_are same = refl
-  same_all [] (q ∷ qs) ps_are qs_are same = absurd (no_bytes u q (flat_map (part_bytes u) qs) same)
-  same_all (p ∷ ps) [] ps_are qs_are same = absurd (no_bytes t p (flat_map (part_bytes t) ps) (sym same))
-  same_all (p ∷ ps) (q ∷ qs) ps_are qs_are same =
-      let p_is = All-head (λ (r : Part). MayBeSaved (with_only t r.rows) r.notes) p ps ps_are in
-      let q_is = All-head (λ (r : Part). MayBeSaved (with_only u r.rows) r.notes) q qs qs_are in
-      let first = segment_same (with_only t p.rows) (with_only u q.rows) p.notes q.notes p_is q_is (flat_map (part_bytes t) ps) (flat_map (part_bytes u) qs) same in
-      let behind = rest_same (with_only t p.rows) (with_only u q.rows) p.notes q.notes p_is q_is (flat_map (part_bytes t) ps) (flat_map (part_bytes u) qs) same in
-      let here : p ≡ q = λ i. record { rows = (first.0 i).rows; notes = first.1 i } in
-      ap₂ (λ (r : Part) rs. r ∷ rs) here
-      (same_all ps qs (All-tail (λ (r : Part). MayBeSaved (with_only t r.rows) r.notes) p ps ps_are) (All-tail (λ (r : Part). MayBeSaved (with_only u r.rows) r.notes) q qs qs_are) behind)
+  same_parts_all : (ps qs : List Part) → ArePartsOf t kinds ps → ArePartsOf u more qs → flat_map (part_bytes t kinds) ps ≡ flat_map (part_bytes u more) qs → ps ≡ qs
+  same_parts_all [] [] ps_are qs_are same = refl
+  same_parts_all [] (q ∷ qs) ps_are qs_are same = absurd (no_bytes u more q (flat_map (part_bytes u more) qs) same)
+  same_parts_all (p ∷ ps) [] ps_are qs_are same = absurd (no_bytes t kinds p (flat_map (part_bytes t kinds) ps) (sym same))
+  same_parts_all (p ∷ ps) (q ∷ qs) ps_are qs_are same =
+      let p_is = All-head (IsPartOf t kinds) p ps ps_are in
+      let q_is = All-head (IsPartOf u more) q qs qs_are in
+      let us = flat_map (part_bytes t kinds) ps in
+      let vs = flat_map (part_bytes u more) qs in
+      ap₂ (λ (r : Part) rs. r ∷ rs) (first_part t u kinds more p q p_is q_is us vs same)
+      (same_parts_all ps qs (All-tail (IsPartOf t kinds) p ps ps_are) (All-tail (IsPartOf u more) q qs qs_are) (behind_first t u kinds more p q p_is q_is us vs same))
 
-  -- and of the same schema, feeders and limit
-  same_frame : (ps qs : List Part) → 0 < length ps → AreKept t ps → AreKept u qs → flat_map (part_bytes t) ps ≡ flat_map (part_bytes u) qs
-      → with_only t [] ≡ with_only u []
+  -- and of the same schema, feeders, limit and kinds
+  same_frame : (ps qs : List Part) → 0 < length ps → ArePartsOf t kinds ps → ArePartsOf u more qs → flat_map (part_bytes t kinds) ps ≡ flat_map (part_bytes u more) qs
+      → (with_only t [] ≡ with_only u []) × (kinds ≡ more)
   same_frame [] qs some ps_are qs_are same = absurd (omega (arith, some))
-  same_frame (p ∷ ps) [] some ps_are qs_are same = absurd (no_bytes t p (flat_map (part_bytes t) ps) (sym same))
+  same_frame (p ∷ ps) [] some ps_are qs_are same = absurd (no_bytes t kinds p (flat_map (part_bytes t kinds) ps) (sym same))
   same_frame (p ∷ ps) (q ∷ qs) some ps_are qs_are same =
-      let p_is = All-head (λ (r : Part). MayBeSaved (with_only t r.rows) r.notes) p ps ps_are in
-      let q_is = All-head (λ (r : Part). MayBeSaved (with_only u r.rows) r.notes) q qs qs_are in
-      let first = segment_same (with_only t p.rows) (with_only u q.rows) p.notes q.notes p_is q_is (flat_map (part_bytes t) ps) (flat_map (part_bytes u) qs) same in
-      ap (λ (v : Table). with_only v []) first.0
+      first_frame t u kinds more p q (All-head (IsPartOf t kinds) p ps ps_are) (All-head (IsPartOf u more) q qs qs_are)
+      (flat_map (part_bytes t kinds) ps) (flat_map (part_bytes u more) qs) same
 
 pub last_is : (ps qs : List Part) (p q : Part) → ps ++ p ∷ [] ≡ qs ++ q ∷ [] → p ≡ q
 last_is ps qs p q same =
     let long : length ps ≡ length qs = omega (arith, ap (λ (rs : List Part). length rs) same, length-append ps (p ∷ []), length-append qs (q ∷ [])) in
     sym (get_or-append_seam ps p [] p) ∙ ap (λ rs. get_or rs (length ps) p) same ∙ ap (λ i. get_or (qs ++ q ∷ []) i p) long ∙ get_or-append_seam qs q [] p
 
--- bytes keep at most one table
-pub one_table : (bytes : List ℕ) (t u : Table) (notes others : List ℕ) → IsFileOf bytes t notes → IsFileOf bytes u others → (t ≡ u) × (notes ≡ others)
-one_table bytes t u notes others valid other =
+-- bytes have at most one table
+pub one_table : (bytes : List ℕ) (t u : Table) (notes others kinds more : List ℕ) → IsFileOf bytes t notes kinds → IsFileOf bytes u others more → (t ≡ u) × (notes ≡ others) × (kinds ≡ more)
+one_table bytes t u notes others kinds more valid other =
     let ps = valid.before ++ valid.last ∷ [] in
     let qs = other.before ++ other.last ∷ [] in
     let same = sym valid.bytes_are ∙ other.bytes_are in
-    let parts : ps ≡ qs = same_all t u ps qs valid.each other.each same in
+    let parts : ps ≡ qs = same_parts_all t u kinds more ps qs valid.each other.each same in
     let some : 0 < length ps = omega (arith, length-append valid.before (valid.last ∷ [])) in
-    let frame : with_only t [] ≡ with_only u [] = same_frame t u ps qs some valid.each other.each same in
+    let frame = same_frame t u kinds more ps qs some valid.each other.each same in
     let rows : t.rows ≡ u.rows = valid.rows_are ∙ ap (flat_map (λ (p : Part). p.rows)) parts ∙ sym other.rows_are in
     let last : valid.last ≡ other.last = last_is valid.before other.before valid.last other.last parts in (
-      (λ i. record { schema = (frame i).schema; feeders = (frame i).feeders; limit = (frame i).limit; rows = rows i }),
+      (λ i. record { schema = (frame.0 i).schema; feeders = (frame.0 i).feeders; limit = (frame.0 i).limit; rows = rows i }),
       valid.notes_are ∙ ap (λ (p : Part). p.notes) last ∙ sym other.notes_are,
+      frame.1,
     )

@@ -10,8 +10,8 @@ use Rattle.std.proofs.lemmas.List.Elements.{All-cons, All-head, All-nil, All-tai
 use Rattle.bsi_rows.specs.Rows.{SourcedRow}
 use Rattle.bsi_rows.specs.Table.{Table}
 use Rattle.bsi_storage.specs.Opens.{IsCutFile, IsCutSegment, IsFileOfFirst}
-use Rattle.bsi_storage.specs.Saved.{part_bytes, with_only, IsFileOf, MayBeSaved, Part}
-use Rattle.bsi_storage.proofs.OneTable.{AreKept}
+use Rattle.bsi_storage.specs.Saved.{part_bytes, with_only, IsFileOf, IsPartOf, Part}
+use Rattle.bsi_storage.proofs.OneTable.{ArePartsOf}
 
 -- the shorter one of two first parts is a first part of the other
 module _ (a b c d : List ℕ) (short : length c ≤ length a) (same : a ++ b ≡ c ++ d) where
@@ -24,7 +24,7 @@ module _ (a b c d : List ℕ) (short : length c ≤ length a) (same : a ++ b ≡
   ends : drop (length c) a ++ b ≡ d
   ends = sym (drop-append-le (length c) a b short) ∙ ap (drop (length c)) same ∙ drop-append_seam c d
 
-module _ (t : Table) where
+module _ (t : Table) (kinds : List ℕ) where
   -- so many whole ones, and how many bytes of the next one
   record CutAt (ps : List Part) (first : List ℕ) : Type 0 where
     whole : List Part
@@ -32,33 +32,35 @@ module _ (t : Table) where
     cut : List ℕ
     parts : ps ≡ whole ++ more
     is_cut : IsCutSegment cut
-    bytes : first ≡ flat_map (part_bytes t) whole ++ cut
-    valid : AreKept t whole
+    bytes : first ≡ flat_map (part_bytes t kinds) whole ++ cut
+    valid : ArePartsOf t kinds whole
 
-  find : (ps : List Part) (first rest : List ℕ) → AreKept t ps → flat_map (part_bytes t) ps ≡ first ++ rest → 0 < length rest → CutAt ps first
+  find : (ps : List Part) (first rest : List ℕ) → ArePartsOf t kinds ps → flat_map (part_bytes t kinds) ps ≡ first ++ rest → 0 < length rest → CutAt ps first
   find [] first rest are same some = absurd (omega (arith, some, ap (λ (bs : List ℕ). length bs) same, length-append first rest))
-  find (p ∷ ps) first rest are same some = elim (cases_lt (length first) (length (part_bytes t p))) [
+  find (p ∷ ps) first rest are same some = elim (cases_lt (length first) (length (part_bytes t kinds p))) [
     | inl within ↦ record {
       whole = [];
       more = p ∷ ps;
       cut = first;
       parts = refl;
       is_cut = record {
+        version = p.version;
         table = with_only t p.rows;
         notes = p.notes;
-        valid = All-head (λ (r : Part). MayBeSaved (with_only t r.rows) r.notes) p ps are;
-        rest = drop (length first) (part_bytes t p);
+        kinds = kinds;
+        valid = All-head (IsPartOf t kinds) p ps are;
+        rest = drop (length first) (part_bytes t kinds p);
         some =
-            (let long = ap (λ (bs : List ℕ). length bs) (begins (part_bytes t p) (flat_map (part_bytes t) ps) first rest (omega (arith, within)) same) in
-            omega (arith, within, long, length-append first (drop (length first) (part_bytes t p))));
-        whole = begins (part_bytes t p) (flat_map (part_bytes t) ps) first rest (omega (arith, within)) same;
+            (let long = ap (λ (bs : List ℕ). length bs) (begins (part_bytes t kinds p) (flat_map (part_bytes t kinds) ps) first rest (omega (arith, within)) same) in
+            omega (arith, within, long, length-append first (drop (length first) (part_bytes t kinds p))));
+        whole = begins (part_bytes t kinds p) (flat_map (part_bytes t kinds) ps) first rest (omega (arith, within)) same;
       };
       bytes = refl;
-      valid = All-nil (λ (r : Part). MayBeSaved (with_only t r.rows) r.notes);
+      valid = All-nil (IsPartOf t kinds);
     }
     | inr past ↦
-        let behind = find ps (drop (length (part_bytes t p)) first) rest (All-tail (λ (r : Part). MayBeSaved (with_only t r.rows) r.notes) p ps are)
-        (sym (ends first rest (part_bytes t p) (flat_map (part_bytes t) ps) past (sym same))) some in
+        let behind = find ps (drop (length (part_bytes t kinds p)) first) rest (All-tail (IsPartOf t kinds) p ps are)
+        (sym (ends first rest (part_bytes t kinds p) (flat_map (part_bytes t kinds) ps) past (sym same))) some in
         record {
           whole = p ∷ behind.whole;
           more = behind.more;
@@ -66,12 +68,12 @@ module _ (t : Table) where
           parts = ap (λ rs. p ∷ rs) behind.parts;
           is_cut = behind.is_cut;
           bytes =
-              begins first rest (part_bytes t p) (flat_map (part_bytes t) ps) past (sym same)
-              ∙ ap (λ bs. part_bytes t p ++ bs) behind.bytes
-              ∙ sym (append_assoc (part_bytes t p) (flat_map (part_bytes t) behind.whole) behind.cut);
+              begins first rest (part_bytes t kinds p) (flat_map (part_bytes t kinds) ps) past (sym same)
+              ∙ ap (λ bs. part_bytes t kinds p ++ bs) behind.bytes
+              ∙ sym (append_assoc (part_bytes t kinds p) (flat_map (part_bytes t kinds) behind.whole) behind.cut);
           valid =
-              All-cons (λ (r : Part). MayBeSaved (with_only t r.rows) r.notes) p behind.whole
-              (All-head (λ (r : Part). MayBeSaved (with_only t r.rows) r.notes) p ps are) behind.valid;
+              All-cons (IsPartOf t kinds) p behind.whole
+              (All-head (IsPartOf t kinds) p ps are) behind.valid;
         }
   ]
 
@@ -85,14 +87,14 @@ last_of : {X : Type 0} (x : X) (xs : List X) → Last (x ∷ xs)
 last_of x [] = record { before = []; last = x; is = refl }
 last_of x (y ∷ ys) = (let behind = last_of y ys in record { before = x ∷ behind.before; last = behind.last; is = ap (λ zs. x ∷ zs) behind.is })
 
-module _ (bytes first rest : List ℕ) (t : Table) (notes : List ℕ) (file : IsFileOf bytes t notes) (same : bytes ≡ first ++ rest) (some : 0 < length rest) where
-  cut_at : CutAt t (file.before ++ file.last ∷ []) first
-  cut_at = find t (file.before ++ file.last ∷ []) first rest file.each (sym file.bytes_are ∙ same) some
+module _ (bytes first rest : List ℕ) (t : Table) (notes kinds : List ℕ) (file : IsFileOf bytes t notes kinds) (same : bytes ≡ first ++ rest) (some : 0 < length rest) where
+  cut_at : CutAt t kinds (file.before ++ file.last ∷ []) first
+  cut_at = find t kinds (file.before ++ file.last ∷ []) first rest file.each (sym file.bytes_are ∙ same) some
 
   rows : List Part → List SourcedRow
   rows parts = flat_map (λ (p : Part). p.rows) parts
 
-  file_of_first : (whole : List Part) → 0 < length whole → cut_at.whole ≡ whole → IsFileOfFirst (flat_map (part_bytes t) whole) t
+  file_of_first : (whole : List Part) → 0 < length whole → cut_at.whole ≡ whole → IsFileOfFirst (flat_map (part_bytes t kinds) whole) t kinds
   unfolding cut_at rows
   file_of_first [] none is = absurd (omega (arith, none))
   file_of_first (w ∷ ws) many is =
@@ -105,24 +107,24 @@ module _ (bytes first rest : List ℕ) (t : Table) (notes : List ℕ) (file : Is
         file = record {
           before = last.before;
           last = last.last;
-          bytes_are = ap (flat_map (part_bytes t)) last.is;
+          bytes_are = ap (flat_map (part_bytes t kinds)) last.is;
           rows_are = ap rows last.is;
           notes_are = refl;
-          each = subst (AreKept t) (is ∙ last.is) cut_at.valid;
+          each = subst (ArePartsOf t kinds) (is ∙ last.is) cut_at.valid;
           within = omega (arith, file.within, ap (λ (rs : List SourcedRow). length rs) all, length-append (rows (w ∷ ws)) (rows cut_at.more));
         };
         all = λ i. record t { rows = all i };
       }
 
-  pub are_cut : IsCutFile first t
+  pub are_cut : IsCutFile first t kinds
   are_cut = record {
-    whole = flat_map (part_bytes t) cut_at.whole;
+    whole = flat_map (part_bytes t kinds) cut_at.whole;
     cut = cut_at.cut;
     are = cut_at.bytes;
     is_cut = cut_at.is_cut;
     valid = by cut_at.whole refl;
   }
     where
-      by : (whole : List Part) → cut_at.whole ≡ whole → (flat_map (part_bytes t) whole ≡ []) ⊎ IsFileOfFirst (flat_map (part_bytes t) whole) t
+      by : (whole : List Part) → cut_at.whole ≡ whole → (flat_map (part_bytes t kinds) whole ≡ []) ⊎ IsFileOfFirst (flat_map (part_bytes t kinds) whole) t kinds
       by [] is = inl refl
       by (w ∷ ws) is = inr (file_of_first (w ∷ ws) (omega arith) is)

@@ -1,19 +1,66 @@
--- The rows, sizes and entries that the words of a segment's body are decoded to.
-use Rattle.std.specs.Prelude.{◌≡◌, ℕ, ◌≤◌, List, All, length, IsTrue}
-use Rattle.std.specs.List.{flat_map, range_with_len}
-use Rattle.bsi_schema.specs.Columns.{column_at, is_accepted_by, Declared, Entries, NamedColumn}
+-- What the words of a segment are decoded to: with what its body or its head begins, and its rows.
+use Rattle.std.specs.Prelude.{◌≡◌, ℕ, ◌+◌, ◌*◌, ◌<◌, ◌≤◌, List, ◌∷◌, ◌++◌, All, length, nat_eq, if◌then◌else◌, IsTrue}
+use Rattle.std.specs.Int.{div_ceil}
+use Rattle.std.specs.List.{flat_map, range_with_len, sum_by}
+use Rattle.bsi_bits.specs.BitList.{word_count}
+use Rattle.bsi_schema.specs.Columns.{column_at, is_accepted_by, Declared, Entries, IsDeclared, NamedColumn}
 use Rattle.bsi_shift.specs.Shifted.{shifted_entries, OffsetColumn}
 use Rattle.bsi_rows.specs.Table.{max_feeders, max_rows, Table}
-use Rattle.bsi_table.specs.Bitmaps.{entries_bitmaps}
+use Rattle.bsi_table.specs.Bitmaps.{bitmap_count, entries_bitmaps}
 use Rattle.bsi_table.specs.Encoded.{encoded_at}
 use Rattle.bsi_segments.specs.Bitmaps.{packed}
-use Rattle.bsi_storage.specs.Saved.{rows_words, AreRows}
+use Rattle.bsi_segments.specs.Bytes.{text_words, AreBytes}
+use Rattle.bsi_segments.specs.Schemas.{encoded_schema}
+use Rattle.bsi_segments.specs.declared.version.Version.{Version}
+use Rattle.bsi_segments.specs.declared.version.Version.TheVariants.{One, Two}
+use Rattle.bsi_storage.specs.Saved.{kinds_limit, notes_limit, rows_words, AreRows}
+use Rattle.bsi_syntax.specs.Bytes.{Bytes}
 
 -- The numbers of rows and feeders and the limit are those of some index.
 pub record AreSizes (rows feeders limit : ℕ) : Type 0 where
   pub feeders_are : (1 ≤ feeders) × (feeders ≤ max_feeders)
   pub limit_is : (1 ≤ limit) × (limit ≤ max_rows)
   pub within : rows ≤ limit
+
+-- The words of a text of kinds, and those behind it. Version 1 has no such text.
+abbrev pub kinds_words : Version → Bytes → List ℕ → List ℕ
+kinds_words One kinds behind = behind
+kinds_words Two kinds behind = text_words kinds ++ behind
+
+-- With what a body or a head begins: the sizes, the notes, in version 2 the kinds, and the schema; and the words behind.
+abbrev pub front_words : Version → ℕ → ℕ → ℕ → Bytes → Bytes → Declared → List ℕ → List ℕ
+front_words version rows feeders limit notes kinds schema behind =
+    rows ∷ feeders ∷ limit ∷ text_words notes ++ kinds_words version kinds (encoded_schema schema ++ behind)
+
+-- Notes, a text of kinds and a schema that a segment of a version may have.
+pub record AreTexts (version : Version) (notes kinds : Bytes) (schema : Declared) : Type 0 where
+  pub notes_are : AreBytes notes
+  pub few : length notes ≤ notes_limit version
+  pub kinds_are : AreBytes kinds
+  pub few_kinds : length kinds ≤ kinds_limit version
+  pub declared : IsDeclared schema
+  pub some : 0 < length schema.columns
+
+-- A body or a head begins with these numbers of rows and feeders, and has this schema.
+pub record IsFront (version : Version) (words : List ℕ) (rows feeders : ℕ) (schema : Declared) : Type 0 where
+  pub limit : ℕ
+  pub notes : Bytes
+  pub kinds : Bytes
+  pub behind : List ℕ
+  pub are : words ≡ front_words version rows feeders limit notes kinds schema behind
+  pub texts : AreTexts version notes kinds schema
+
+-- How many bitmaps columns have.
+abbrev pub bitmaps_in : List NamedColumn → ℕ
+bitmaps_in columns = sum_by (λ column. bitmap_count column.form) columns
+
+-- How many words the feeders of so many rows have.
+abbrev pub feeder_word_count : ℕ → ℕ → ℕ
+feeder_word_count feeders rows = if nat_eq feeders 1 then 0 else div_ceil rows 8
+
+-- How many words so many rows have: those of the bitmaps, and of the feeders.
+abbrev pub rows_word_count : Declared → ℕ → ℕ → ℕ
+rows_word_count schema feeders rows = bitmaps_in schema.columns * word_count rows + feeder_word_count feeders rows
 
 -- `rows` entries, each of which the column accepts.
 pub record HasEntries (column : NamedColumn) (rows : ℕ) (entries : Entries) : Type 0 where

@@ -1,4 +1,5 @@
+pub mod Decoding
 pub mod Faults
+pub mod Heads
 pub mod Opens
 pub mod Saved
-pub mod Decoding

@@ -1,92 +1,114 @@
-//! Decodes an index and its notes from the words of a segment's body.
+//! Decodes the content of a segment from its words: an index, notes and a text of kinds.
 
-ghost use Rattle.std.specs.Prelude.{◌≡◌, ◌<◌, ◌≤◌, ◌++◌, ℕ, List, None, All, IfNone, IfOk, IfSome, IsTrue, length};
+ghost use Rattle.std.specs.Prelude.{◌≡◌, ◌<◌, ◌≤◌, ◌++◌, ℕ, List, [], All, IfNone, IfOk, IfSome, length};
 ghost use Rattle.std.specs.List.{flat_map};
 ghost use Rattle.bsi_bits.specs.BitList.{max_len};
-ghost use Rattle.bsi_schema.specs.Columns.{column_at, is_accepted_by, Declared, Entries, IsDeclared};
+ghost use Rattle.bsi_schema.specs.Columns.{column_at, Entries, IsDeclared};
 ghost use Rattle.bsi_shift.specs.Shifted.{shifted_entries};
-ghost use Rattle.bsi_rows.specs.Refusals.{index_refusal};
 ghost use Rattle.bsi_rows.specs.Rows.{SourcedRow};
 ghost use Rattle.bsi_rows.specs.Table.{max_feeders, Table};
 ghost use Rattle.bsi_table.specs.Bitmaps.{entries_bitmaps};
 ghost use Rattle.bsi_table.specs.Index.{table_of};
-ghost use Rattle.bsi_table.specs.Encoded.{encoded_at, AreEncoded, Encodes};
+ghost use Rattle.bsi_table.specs.Encoded.{AreEncoded, Encodes};
 ghost use Rattle.bsi_segments.specs.Bitmaps.{packed};
+ghost use Rattle.bsi_segments.specs.Segments.{AreWords};
+ghost use Rattle.bsi_storage.specs.Heads.{head};
 ghost use Rattle.bsi_storage.specs.Saved.{body, columns_words, feeder_words, rows_words, AreRows, MayBeSaved};
-ghost use Rattle.bsi_storage.specs.Decoding.{encoded_words, AreSizes, HasEntries, HasRowsOf};
+ghost use Rattle.bsi_storage.specs.Decoding.{encoded_words, front_words, AreSizes, AreTexts, HasEntries, HasRowsOf};
 
 use crate::NoMemory;
-use crate::writing::MAX_NOTES;
+use crate::fronts::{Front, Sizes, decode_front};
+use crate::heads::encode_head;
 use bsi_origins::Origins;
-use bsi_segments::{decode_bitmaps, decode_bytes, decode_schema, decode_text};
+use bsi_segments::{Version, decode_bitmaps, decode_bytes};
 use bsi_shift::Shifted;
-use bsi_table::{Index, MAX_FEEDERS, MAX_ROWS, Schema, column_from_bitmaps, count_bitmaps};
+use bsi_table::{Index, Schema, column_from_bitmaps, count_bitmaps};
 use std::alloc::Global;
 
-/// The content of a segment: an index and notes.
+/// The content of a segment: an index, notes and a text of kinds.
 #[derive(Drop)]
 pub(crate) struct Part {
+    pub(crate) version: Version,
     pub(crate) index: Index,
     pub(crate) notes: Vec<u8>,
+    pub(crate) kinds: Vec<u8>,
 }
 
-/// The numbers that a body begins with.
-#[derive(Clone, Copy, Debug)]
-struct Sizes {
-    rows: u64,
-    feeders: u32,
-    limit: u64,
-}
-
-/// Makes the content of a segment with this body, or none if it is the body of no segment.
-pub(crate) fn decode_part(alloc: Global, words: &[u64]) -> Result<Option<Part>, NoMemory>
+/// Makes the content of a segment of version 1 with this body, or none if it is the body of no segment.
+pub(crate) fn decode_body(alloc: Global, words: &[u64]) -> Result<Option<Part>, NoMemory>
     ensures made { IfOk result (λ decoded. IfSome decoded (λ part.
         words.now ≡ body (table_of part.index) part.notes.items)) }
+    ensures version { IfOk result (λ decoded. IfSome decoded (λ part. part.version ≡ Version.One)) }
     ensures valid { IfOk result (λ decoded. IfSome decoded (λ part.
-        MayBeSaved (table_of part.index) part.notes.items)) }
-    ensures none { IfOk result (λ decoded. IfNone decoded ((t : Table) → (notes : List ℕ) →
-        MayBeSaved t notes → words.now ≡ body t notes → ⊥)) }
+        MayBeSaved Version.One (table_of part.index) part.notes.items part.kinds.items)) }
+    ensures none { IfOk result (λ decoded. IfNone decoded ((t : Table) → (notes kinds : List ℕ) →
+        MayBeSaved Version.One t notes kinds → words.now ≡ body t notes → ⊥)) }
 {
-    let [rows, feeders, limit, rest @ ..] = words else {
+    let version = Version::One;
+    let Some((front, rest)) = decode_front(alloc, version, words)? else {
         return Ok(None);
     };
-    let Some(sizes) = read_sizes(*rows, *feeders, *limit) else {
-        return Ok(None);
-    };
-    let Some((notes, rest)) = decode_text(alloc, rest)? else {
-        return Ok(None);
-    };
-    if notes.len() > MAX_NOTES {
-        return Ok(None);
-    }
-    let Some((schema, rest)) = decode_schema(alloc, rest)? else {
-        return Ok(None);
-    };
-    if schema.columns() == 0 {
-        return Ok(None);
-    }
+    let Front {
+        sizes,
+        notes,
+        kinds,
+        schema,
+    } = front;
     let Some(index) = decode_index(alloc, sizes, schema, rest)? else {
         return Ok(None);
     };
-    Ok(Some(Part { index, notes }))
+    Ok(Some(Part {
+        version,
+        index,
+        notes,
+        kinds,
+    }))
 }
 
-/// Makes the sizes of an index of these numbers, or none if no index has them.
-fn read_sizes(rows: u64, feeders: u64, limit: u64) -> Option<Sizes>
-    ensures some { IfSome result (λ sizes. (sizes.rows ≡ rows) × (sizes.feeders ≡ feeders)
-        × (sizes.limit ≡ limit)) }
-    ensures fit { IfSome result (λ sizes. AreSizes sizes.rows sizes.feeders sizes.limit) }
-    ensures none { IfNone result (AreSizes rows feeders limit → ⊥) }
+/// Makes the content of a segment of version 2 with the head `first`, of which `front` was decoded, and these words of rows; or
+/// none if no segment has them. The head is compared with that of the index, which tests zones and checksums.
+pub(crate) fn decode_headed(
+    alloc: Global,
+    first: &[u64],
+    front: Front,
+    rows: &[u64],
+) -> Result<Option<Part>, NoMemory>
+    requires front { (behind : List ℕ) × (first.now
+        ≡ front_words Version.Two front.sizes.rows front.sizes.feeders front.sizes.limit
+        front.notes.items front.kinds.items front.schema behind) }
+    requires sizes { AreSizes front.sizes.rows front.sizes.feeders front.sizes.limit }
+    requires texts { AreTexts Version.Two front.notes.items front.kinds.items front.schema }
+    ensures made { IfOk result (λ decoded. IfSome decoded (λ part. first.now
+        ≡ head (table_of part.index) part.notes.items part.kinds.items)) }
+    ensures rows { IfOk result (λ decoded. IfSome decoded (λ part. rows.now
+        ≡ rows_words part.index.schema part.index.feeders part.index.rows)) }
+    ensures version { IfOk result (λ decoded. IfSome decoded (λ part. part.version ≡ Version.Two)) }
+    ensures valid { IfOk result (λ decoded. IfSome decoded (λ part.
+        MayBeSaved Version.Two (table_of part.index) part.notes.items part.kinds.items)) }
+    ensures none { IfOk result (λ decoded. IfNone decoded ((t : Table) → (notes kinds : List ℕ) →
+        MayBeSaved Version.Two t notes kinds → first.now ≡ head t notes kinds →
+        rows.now ≡ rows_words t.schema t.feeders t.rows → ⊥)) }
+    ensures fit { AreWords rows.now }
 {
-    let fits = 1 <= feeders && feeders <= u64::from(MAX_FEEDERS);
-    if !fits || limit == 0 || limit > MAX_ROWS || rows > limit {
-        return None;
+    let Front {
+        sizes,
+        notes,
+        kinds,
+        schema,
+    } = front;
+    let Some(index) = decode_index(alloc, sizes, schema, rows)? else {
+        return Ok(None);
+    };
+    let expected = encode_head(alloc, &index, &notes, &kinds, rows)?;
+    if first != expected.as_slice() {
+        return Ok(None);
     }
-    Some(Sizes {
-        rows,
-        feeders: feeders as u32,
-        limit,
-    })
+    Ok(Some(Part {
+        version: Version::Two,
+        index,
+        notes,
+        kinds,
+    }))
 }
 
 /// Makes the index of so many rows whose words these are, or none if they are those of no such rows.

@@ -19,7 +19,7 @@ pub enum SaveFault {
 pub enum OpenFault {
     /// The bytes are not those of a saved index. Where no index was opened, there may be no bytes.
     NotAnIndex,
-    /// They are of another version of the format.
+    /// They are of a version of the format that is not known.
     OtherVersion,
     /// They end within a segment.
     CutShort,

@@ -1,15 +1,17 @@
 //! An index in a file: written, added to and opened.
 #![tactic(auto)]
 
-mod body;
 mod columns;
 mod decoding;
 mod fault;
+mod fronts;
+mod heads;
 mod laws;
 mod opening;
+mod rows;
 mod writing;
 
-pub use bsi_segments::may_begin;
+pub use bsi_segments::{Version, may_begin};
 pub use bsi_table::NoMemory;
 pub use fault::{OpenFault, SaveFault};
 pub use laws::{
@@ -17,4 +19,4 @@ pub use laws::{
     a_further_segment_adds_rows, a_saved_table_is_opened,
 };
 pub use opening::{LoadedIndex, accepts_rows_of, read_index};
-pub use writing::{MAX_NOTES, write_index};
+pub use writing::{MAX_KINDS, MAX_NOTES, write_index};

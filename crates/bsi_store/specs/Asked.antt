@@ -28,12 +28,14 @@ pub record IsSavedIn {S : Type 0} (rem : S → KnownBytes) (so_far : Bool) (t : 
   pub after : KnownBytes
   -- The notes of the last segment that was read.
   pub notes : Bytes
+  -- The text of kinds of the segments that were read.
+  pub kinds : Bytes
   -- The number of bytes of the segments that were read.
   pub size : ℕ
   -- The fault that ended the file, or none.
   pub fault : Option OpenFault
-  -- The table was opened from the file, with these notes, this size and this fault.
-  pub opened : IsOpened (rem file) after t notes size fault
+  -- The table was opened from the file, with these notes and kinds, this size and this fault.
+  pub opened : IsOpened (rem file) after t notes kinds size fault
   -- If a fault ended the file, the fault is one of its bytes.
   pub known : IfSome fault IsAboutBytes
   -- Without `so_far`, the file was read to its end.

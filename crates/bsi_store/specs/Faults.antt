@@ -67,8 +67,8 @@ IsFirstFileFault path bytes reported =
 abbrev pub IsFileFault : Bor (List ℕ) → KnownBytes → StoreFault → Type 0
 IsFileFault path bytes reported =
     IsFirstFileFault path bytes reported
-    ⊎ ((fault : OpenFault) × (after : KnownBytes) × (t : Table) × (notes : Bytes) × (size : ℕ)
-    × IsOpened bytes after t notes size (Some fault) × (reported ≡ cut_off path fault (length t.rows)))
+    ⊎ ((fault : OpenFault) × (after : KnownBytes) × (t : Table) × (notes kinds : Bytes) × (size : ℕ)
+    × IsOpened bytes after t notes kinds size (Some fault) × (reported ≡ cut_off path fault (length t.rows)))
 
 -- The fault of a file from which no row can be had: of its first segment, or the file can't be read further.
 abbrev pub IsUnrecoverable : Bor (List ℕ) → KnownBytes → StoreFault → Type 0

@@ -14,7 +14,8 @@ use Rattle.bsi_answers.specs.declared.faults.FilesFault.TheVariants.{IndexFull, 
 use Rattle.bsi_files.specs.RunFaults.{IsFaultOf, IsFaultOver}
 use Rattle.bsi_input.specs.SchemaTexts.{IsSchemaText}
 use Rattle.bsi_input.specs.BufferedOutput.{AppendsPrefix}
-use Rattle.bsi_storage.specs.Saved.{table_segment, MayBeSaved}
+use Rattle.bsi_segments.specs.declared.version.Version.TheVariants.{Two}
+use Rattle.bsi_storage.specs.Saved.{head_segment, MayBeSaved}
 use Rattle.bsi_storage.specs.declared.fault.OpenFault.TheVariants.{OtherVersion}
 use Rattle.bsi_store.specs.Asked.{IsSavedIn}
 use Rattle.bsi_store.specs.Faults.{IsFileFault}
@@ -29,9 +30,9 @@ use Rattle.bsi_syntax.specs.Bytes.{Bytes, KnownBytes}
 abbrev pub loaded_lines : List ℕ → List FedCounts → ℕ → List ℕ
 loaded_lines word counts number = concat (fed_lines 0 counts) ++ number_line word number
 
--- The rows of some files were written to an index file, as one segment.
+-- The rows of some files were written to an index file, as one segment of version 2.
 pub record WroteSegment {S : Type 0} (rem put : S → KnownBytes) (count : ℕ) (word : List ℕ) (schema : Declared) (limit : ℕ)
-    (notes : Bytes) (table : Table) (before after : KnownBytes) : Type 0 where
+    (notes kinds : Bytes) (table : Table) (before after : KnownBytes) : Type 0 where
   -- The row files that were opened.
   pub files : List S
   -- There are `count` row files.
@@ -48,10 +49,10 @@ pub record WroteSegment {S : Type 0} (rem put : S → KnownBytes) (count : ℕ) 
   pub old : S
   -- The index file after the write.
   pub new : S
-  -- An index may have this table, and these notes.
-  pub valid : MayBeSaved table notes
+  -- An index may have this table, with these notes and this text of kinds.
+  pub valid : MayBeSaved Two table notes kinds
   -- The index file is the old one, followed by the segment of the table.
-  pub appended : Appends (put old) (put new) (table_segment table notes)
+  pub appended : Appends (put old) (put new) (head_segment table notes kinds)
   -- The summary was written to the output.
   pub lines : Appends before after (loaded_lines word counts (length table.rows))
 
@@ -65,15 +66,18 @@ pub record HasSaved {S : Type 0} (rem put : S → KnownBytes) (count : ℕ) (bef
   pub declared : IfSome (rem schema_file) (λ bytes. IsSchemaText bytes table.schema table.limit)
   -- The table has a feeder for each row file.
   pub feeders_are : table.feeders ≡ count
-  -- The table was written as one segment, without notes, and is reported under the word `saved`.
-  pub saved : WroteSegment rem put count (codes "saved") table.schema table.limit [] table before after
+  -- The table was written as one segment, without notes and kinds, and is reported under the word `saved`.
+  pub saved : WroteSegment rem put count (codes "saved") table.schema table.limit [] [] table before after
 
 -- A saved index was read.
-pub record IsReadOf {S : Type 0} (rem : S → KnownBytes) (so_far : Bool) (t : Table) (notes : Bytes) (left : KnownBytes) : Type 0 where
+pub record IsReadOf {S : Type 0} (rem : S → KnownBytes) (so_far : Bool) (t : Table) (notes kinds : Bytes) (left : KnownBytes)
+    : Type 0 where
   -- The table was opened from a file.
   pub saved : IsSavedIn rem so_far t
   -- The notes are those of the file.
   pub notes_are : saved.notes ≡ notes
+  -- The text of kinds is that of the file.
+  pub kinds_are : saved.kinds ≡ kinds
   -- `left` is what is left of the file.
   pub left_is : saved.after ≡ left
   -- No segment of another version follows.
@@ -94,8 +98,8 @@ pub record HasAdded {S : Type 0} (rem put : S → KnownBytes) (so_far : Bool) (c
   pub feeders_are : more.feeders ≡ saved.feeders
   -- The rows of both tables together are within the limit of the saved table.
   pub within : length saved.rows + length more.rows ≤ saved.limit
-  -- The rows were written as one segment, with the notes of the file, and reported under the word `added`.
-  pub added : WroteSegment rem put count (codes "added") saved.schema saved.limit opened.notes more before after
+  -- The rows were written as one segment, with the notes and the kinds of the file, and reported under the word `added`.
+  pub added : WroteSegment rem put count (codes "added") saved.schema saved.limit opened.notes opened.kinds more before after
   -- The file that was written to had left what the read left of the index file.
   pub same : rem added.old ≡ opened.after
 

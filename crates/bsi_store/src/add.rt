@@ -6,7 +6,7 @@ ghost use Rattle.bsi_answers.specs.RowFiles.{fed_counts};
 ghost use Rattle.bsi_answers.specs.Runs.{HasLoaded};
 ghost use Rattle.bsi_rows.specs.Table.{max_feeders, no_rows, with_rows};
 ghost use Rattle.bsi_storage.specs.Faults.{AcceptsRowsOf};
-ghost use Rattle.bsi_storage.specs.Saved.{max_notes, table_segment, MayBeSaved};
+ghost use Rattle.bsi_storage.specs.Saved.{head_segment, max_kinds, max_notes, MayBeSaved};
 ghost use Rattle.bsi_store.specs.Saving.{HasAdded, IsAddFault, IsMet, IsNotAboutBytes, IsReadOf, IsRunFaultOver, LeavesReported, ReportsOn};
 ghost use Rattle.std.specs.List.{Contains};
 ghost use Rattle.bsi_store.specs.Faults.{IsFileFault, NamesPath};
@@ -17,7 +17,7 @@ use crate::summary::summary_lines;
 use crate::{FileFault, LockFile, StoreFault, read_saved};
 use bsi_files::{FilesFault, Gate, Loaded, Stopping, load_files};
 use bsi_input::write_bytes;
-use bsi_storage::{LoadedIndex, OpenFault, accepts_rows_of, write_index};
+use bsi_storage::{LoadedIndex, OpenFault, Version, accepts_rows_of, write_index};
 use bsi_table::{Index, NoMemory};
 use std::alloc::Global;
 use std::fs::OpenFile;
@@ -88,13 +88,13 @@ fn add_and_summarize<
     let text = summary_lines(rt.alloc(), "added", &more)?;
     lock_to_add(rt, paths.index, &file)?;
     let saved = reread_if_changed(rt.alloc(), paths.index, saved, &mut file, paths.so_far)?;
-    check_rows_fit(paths.index, &saved.index, &more.table)?;
+    check_rows_fit(paths.index, &saved, &more.table)?;
     append_segment(rt.alloc(), paths.index, &saved, &more.table, &mut file)?;
     Ok(text)
 }
 
-/// Reads the index of a file, as `read_saved` does. It refuses segments of another version behind it, which are never
-/// cut off.
+/// Reads the index of a file, as `read_saved` does. It refuses segments behind it of a version that is not known, which
+/// are never cut off.
 fn read_to_add<'a, S: Read>(
     alloc: Global,
     path: &'a str,
@@ -102,8 +102,9 @@ fn read_to_add<'a, S: Read>(
     so_far: bool,
 ) -> Result<LoadedIndex, StoreFault<'a>>
     ensures read { IfOk result (λ opened. IsReadOf S.remaining so_far (table_of opened.index)
-        opened.notes.items (S.remaining file.new)) }
-    ensures few { IfOk result (λ opened. length opened.notes.items ≤ max_notes) }
+        opened.notes.items opened.kinds.items (S.remaining file.new)) }
+    ensures few { IfOk result (λ opened. (length opened.notes.items ≤ max_notes)
+        × (length opened.kinds.items ≤ max_kinds)) }
     ensures fault { IfErr result (IsFileFault path.entry (S.remaining file.old)) }
     ensures named { IfErr result (NamesPath (λ named. named ≡ path.entry)) }
 {
@@ -125,11 +126,13 @@ fn reread_if_changed<'a, S: Read + OpenFile + LockFile>(
     file: &mut S,
     so_far: bool,
 ) -> Result<LoadedIndex, StoreFault<'a>>
-    ensures read { IsReadOf S.remaining so_far (table_of saved.index) saved.notes.items (S.remaining file.old) →
+    ensures read { IsReadOf S.remaining so_far (table_of saved.index) saved.notes.items
+        saved.kinds.items (S.remaining file.old) →
         IfOk result (λ opened. IsReadOf S.remaining so_far (table_of opened.index)
-        opened.notes.items (S.remaining file.new)) }
-    ensures few { length saved.notes.items ≤ max_notes →
-        IfOk result (λ opened. length opened.notes.items ≤ max_notes) }
+        opened.notes.items opened.kinds.items (S.remaining file.new)) }
+    ensures few { (length saved.notes.items ≤ max_notes) × (length saved.kinds.items ≤ max_kinds) →
+        IfOk result (λ opened. (length opened.notes.items ≤ max_notes)
+        × (length opened.kinds.items ≤ max_kinds)) }
     ensures fault { IfErr result (IsMet S.remaining) }
     ensures named { IfErr result (NamesPath (λ named. named ≡ path.entry)) }
 {
@@ -149,17 +152,22 @@ fn reread_if_changed<'a, S: Read + OpenFile + LockFile>(
 }
 
 /// Refuses rows for which a saved index has no space, or which are not encoded as its own are.
-fn check_rows_fit<'a>(path: &'a str, saved: &Index, more: &Index) -> Result<(), StoreFault<'a>>
-    ensures follows { OnOk result (AcceptsRowsOf (table_of saved.now) (table_of more.now)) }
+fn check_rows_fit<'a>(
+    path: &'a str,
+    saved: &LoadedIndex,
+    more: &Index,
+) -> Result<(), StoreFault<'a>>
+    ensures follows { OnOk result (AcceptsRowsOf (table_of saved.now.index) saved.now.kinds.items
+        (table_of more.now) saved.now.kinds.items) }
     ensures fault { IfErr result (λ fault. IsNotAboutBytes fault
         ⊎ ((fault ≡ StoreFault.Run FilesFault.IndexFull)
-        × (saved.now.limit < length saved.now.rows + length more.now.rows))) }
+        × (saved.now.index.limit < length saved.now.index.rows + length more.now.rows))) }
     ensures named { IfErr result (NamesPath (λ named. named ≡ path.entry)) }
 {
-    if more.len() > saved.limit() - saved.len() {
+    if more.len() > saved.index.limit() - saved.index.len() {
         return Err(StoreFault::Run(FilesFault::IndexFull));
     }
-    if !accepts_rows_of(saved, more) {
+    if !accepts_rows_of(&saved.index, &saved.kinds, more, &saved.kinds) {
         return Err(StoreFault::Unusable(path, FileFault::InUse));
     }
     Ok(())
@@ -222,17 +230,18 @@ fn append_segment<'a, S: Write + OpenFile>(
     more: &Index,
     file: &mut S,
 ) -> Result<(), StoreFault<'a>>
-    requires { length saved.now.notes.items ≤ max_notes }
+    requires { (length saved.now.notes.items ≤ max_notes) × (length saved.now.kinds.items ≤ max_kinds) }
     ensures appended { OnOk result (Appends (S.contents file.old) (S.contents file.new)
-        (table_segment (table_of more.now) saved.now.notes.items)) }
-    ensures valid { OnOk result (MayBeSaved (table_of more.now) saved.now.notes.items) }
+        (head_segment (table_of more.now) saved.now.notes.items saved.now.kinds.items)) }
+    ensures valid { OnOk result (MayBeSaved Version.Two (table_of more.now)
+        saved.now.notes.items saved.now.kinds.items) }
     ensures fault { IfErr result IsNotAboutBytes }
     ensures named { IfErr result (NamesPath (λ named. named ≡ path.entry)) }
 {
     if saved.fault.is_some() && file.set_len(saved.bytes).is_err() {
         return Err(StoreFault::CannotWrite(path));
     }
-    let written = write_index(alloc, more, &saved.notes, file);
+    let written = write_index(alloc, more, &saved.notes, &saved.kinds, file);
     let fault = match written {
         Ok(()) if file.sync_all().is_ok() => return Ok(()),
         Ok(()) => StoreFault::CannotWrite(path),

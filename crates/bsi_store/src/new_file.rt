@@ -3,13 +3,13 @@
 ghost use Rattle.std.specs.Prelude.{◌≡◌, [], IfErr, IfOk, OnOk};
 ghost use Rattle.std.specs.Io.KnownBytes.{Appends};
 ghost use Rattle.bsi_table.specs.Index.{table_of};
-ghost use Rattle.bsi_storage.specs.Saved.{table_segment, MayBeSaved};
+ghost use Rattle.bsi_storage.specs.Saved.{head_segment, MayBeSaved};
 ghost use Rattle.bsi_store.specs.Saving.{IsNotAboutBytes};
 ghost use Rattle.bsi_store.specs.Faults.{NamesPath};
 
 use crate::target::SaveTarget;
 use crate::{FileFault, LockFile, StoreFault};
-use bsi_storage::write_index;
+use bsi_storage::{Version, write_index};
 use bsi_table::{Index, NoMemory};
 use std::alloc::Global;
 use std::fs::{OpenFile, OpenOptions, Permissions};
@@ -51,16 +51,16 @@ impl<'a, S: Read + Write + OpenFile + LockFile + Drop> NewFile<'a, S> {
         })
     }
 
-    /// Writes the segment of an index that has no notes.
+    /// Writes the segment of an index that has no notes and no kinds.
     pub(crate) fn write(&mut self, alloc: Global, index: &Index) -> Result<(), StoreFault<'a>>
         ensures written { OnOk result (Appends (S.contents self.old.file) (S.contents self.new.file)
-            (table_segment (table_of index.now) [])) }
-        ensures valid { OnOk result (MayBeSaved (table_of index.now) []) }
+            (head_segment (table_of index.now) [] [])) }
+        ensures valid { OnOk result (MayBeSaved Version.Two (table_of index.now) [] []) }
         ensures fault { IfErr result IsNotAboutBytes }
         ensures named { IfErr result (NamesPath (λ named. named ≡ self.old.target.path)) }
         ensures path { self.new.target.path ≡ self.old.target.path }
     {
-        match write_index(alloc, index, &[], &mut self.file) {
+        match write_index(alloc, index, &[], &[], &mut self.file) {
             Ok(()) => Ok(()),
             Err(fault) => Err(StoreFault::unsaved(self.target.path, fault)),
         }

@@ -49,7 +49,8 @@ pub fn read_saved<'a, S: Read>(
     so_far: bool,
 ) -> Result<LoadedIndex, StoreFault<'a>>
     ensures opened { IfOk result (λ opened. IsOpened (S.remaining file.old) (S.remaining file.new)
-        (table_of opened.index) opened.notes.items opened.bytes opened.fault) }
+        (table_of opened.index) opened.notes.items opened.kinds.items
+        opened.bytes opened.fault) }
     ensures known { IfOk result (λ opened. IfSome opened.fault IsAboutBytes) }
     ensures whole { so_far ≡ false → IfOk result (λ opened. opened.fault ≡ None) }
     ensures fault { IfErr result (IsFileFault path.entry (S.remaining file.old)) }

@@ -7,7 +7,7 @@ ghost use Rattle.bsi_answers.specs.RowFiles.{fed_counts};
 ghost use Rattle.bsi_answers.specs.Runs.{HasLoaded};
 ghost use Rattle.bsi_input.specs.SchemaTexts.{IsSchemaText};
 ghost use Rattle.bsi_rows.specs.Table.{max_feeders};
-ghost use Rattle.bsi_storage.specs.Saved.{table_segment, MayBeSaved};
+ghost use Rattle.bsi_storage.specs.Saved.{head_segment, MayBeSaved};
 ghost use Rattle.bsi_table.specs.Index.{table_of};
 ghost use Rattle.std.specs.List.{Contains};
 ghost use Rattle.bsi_store.specs.Faults.{NamesPath};
@@ -19,6 +19,7 @@ use crate::target::SaveTarget;
 use crate::{LockFile, StoreFault, open_file};
 use bsi_files::{FilesFault, Gate, Loaded, Stopping, load_files};
 use bsi_input::{read_schema, write_bytes};
+use bsi_storage::Version;
 use bsi_syntax::DeclaredTable;
 use bsi_table::{Index, MAX_FEEDERS};
 use std::fs::OpenFile;
@@ -126,8 +127,8 @@ fn write_or_remove<
     S: Read + Write + OpenFile + LockFile + Drop,
 >(rt: &R, table: &Index, new: &mut NewFile<'a, S>) -> Result<(), StoreFault<'a>>
     ensures appended { OnOk result (Appends (S.contents new.old.file) (S.contents new.new.file)
-        (table_segment (table_of table.now) [])) }
-    ensures valid { OnOk result (MayBeSaved (table_of table.now) []) }
+        (head_segment (table_of table.now) [] [])) }
+    ensures valid { OnOk result (MayBeSaved Version.Two (table_of table.now) [] []) }
     ensures fault { IfErr result IsNotAboutBytes }
     ensures named { IfErr result (NamesPath (λ named. named ≡ new.old.target.path)) }
     ensures path { new.new.target.path ≡ new.old.target.path }
@@ -148,8 +149,8 @@ fn write_and_replace<
     S: Read + Write + OpenFile + LockFile + Drop,
 >(rt: &R, table: &Index, new: &mut NewFile<'a, S>) -> Result<(), StoreFault<'a>>
     ensures appended { OnOk result (Appends (S.contents new.old.file) (S.contents new.new.file)
-        (table_segment (table_of table.now) [])) }
-    ensures valid { OnOk result (MayBeSaved (table_of table.now) []) }
+        (head_segment (table_of table.now) [] [])) }
+    ensures valid { OnOk result (MayBeSaved Version.Two (table_of table.now) [] []) }
     ensures fault { IfErr result IsNotAboutBytes }
     ensures named { IfErr result (NamesPath (λ named. named ≡ new.old.target.path)) }
     ensures path { new.new.target.path ≡ new.old.target.path }

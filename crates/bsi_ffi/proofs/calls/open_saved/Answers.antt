@@ -7,4 +7,4 @@ use Rattle.bsi_ffi.proofs.calls.open_saved.Goals as goal
 pub returns-in_default-clause-ending : goal.returns-in_default-clause-ending
 returns-in_default-clause-ending c =
     let closed : opened_in c.args.index.now.pointer.value ≡ None = search rules in
-    (closed, whole_file c.args.bytes.now _ _ c.open_bytes.new.whole c.in_ok-loaded.ensures.loaded c.in_ok-loaded.ensures.whole)
+    (closed, whole_file c.args.bytes.now _ _ _ c.open_bytes.new.whole c.in_ok-loaded.ensures.loaded c.in_ok-loaded.ensures.whole)

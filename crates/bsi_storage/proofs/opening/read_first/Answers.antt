@@ -7,5 +7,6 @@ returns-clause-read g c =
     let consumed = rw c.in-Some.is at c.in_ok-part.ensures.read in
     let valid = rw c.in-Some.is at c.in_ok-part.ensures.valid in
     let long = rw c.in-Some.is at c.in_ok-part.ensures.bytes in
-    first_read (g.R.Read.remaining c.args.reader.now) (g.R.Read.remaining c.read_part.new.reader)
-    (table_of c.in-Some.field-0.part.index) c.in-Some.field-0.part.notes.items c.in-Some.field-0.bytes consumed valid long
+    let part = c.in-Some.field-0.part in
+    first_read part.version (g.R.Read.remaining c.args.reader.now) (g.R.Read.remaining c.read_part.new.reader)
+    (table_of part.index) part.notes.items part.kinds.items c.in-Some.field-0.bytes consumed valid long

@@ -11,10 +11,12 @@ returns-clause-more g c = λ yes before read.
     let valid = rw c.in-Some.is at c.in_ok-part.ensures.valid in
     let long = rw c.in-Some.is at c.in_ok-part.ensures.bytes in
     let t = table_of c.args.whole.now.index in
-    let more = table_of c.in-Some.field-0.part.index in
-    let may : AcceptsRowsOf t more = search rules in
+    let part = c.in-Some.field-0.part in
+    let more = table_of part.index in
+    let may : AcceptsRowsOf t c.args.whole.now.kinds.items more part.kinds.items = search rules in
     let joined : table_of c.append_index.new.self ≡ with_rows t more.rows = search rules in
     let sum : c.in-Some-checked_add.bytes ≡ c.args.whole.now.bytes + c.in-Some.field-0.bytes = search rules in
-    more_read before (g.R.Read.remaining c.args.reader.now) (g.R.Read.remaining c.read_part.new.reader) t more c.args.whole.now.notes.items c.in-Some.field-0.part.notes.items
+    more_read part.version before (g.R.Read.remaining c.args.reader.now) (g.R.Read.remaining c.read_part.new.reader) t more c.args.whole.now.notes.items part.notes.items
+    c.args.whole.now.kinds.items part.kinds.items
     c.args.whole.now.bytes read consumed valid may (table_of c.append_index.new.self) c.in-Some-checked_add.bytes joined
     (sum ∙ ap (λ n. c.args.whole.now.bytes + n) long))

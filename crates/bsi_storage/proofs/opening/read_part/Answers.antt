@@ -1,18 +1,14 @@
-use Rattle.std.proofs.Common.{arith, subst, sym, ◌∙◌}
-use Rattle.std.specs.Io.KnownBytes.{Consumes}
-use Rattle.bsi_table.specs.Index.{table_of}
-use Rattle.bsi_storage.proofs.Files.{file_of, length-file_of}
+use Rattle.std.proofs.lemmas.Result.{err_from_is_err_and}
 use Rattle.bsi_storage.proofs.opening.read_part.Goals as goal
 
 pub returns-clause-read : goal.returns-clause-read
 returns-clause-read g c =
-    let consumed = rw c.in-Some.is at c.in_ok-words.ensures.read in
-    let made = rw c.in-Some-2.is at c.in_ok-part.ensures.made in
-    subst (Consumes (g.R.Read.remaining c.args.reader.now) (g.R.Read.remaining c.read_segment.new.reader))
-    (file_of c.in-Some.words.items (table_of c.in-Some-2.part.index) c.in-Some-2.part.notes.items (sym c.deref.ensures.value ∙ made)) consumed
+    let consumed = rw c.in-Some.is at c.in_ok-first.ensures.read in
+    c.in_ok-read.ensures.read (g.R.Read.remaining c.args.reader.now) consumed
 
-pub returns-clause-bytes : goal.returns-clause-bytes
-returns-clause-bytes g c =
-    let made = rw c.in-Some-2.is at c.in_ok-part.ensures.made in
-    let long = length-file_of c.in-Some.words.items (table_of c.in-Some-2.part.index) c.in-Some-2.part.notes.items (sym c.deref.ensures.value ∙ made) in
-    omega (arith, long, c.len.ensures)
+pub returns-in_err-read-clause-fault : goal.returns-in_err-read-clause-fault
+returns-in_err-read-clause-fault g c =
+    let consumed = rw c.in-Some.is at c.in_ok-first.ensures.read in
+    let p = err_from_is_err_and c.from_residual-in_err-read.result c.from_residual-in_err-read.ensures.1 in
+    let met = c.in_err-read.ensures.fault (g.R.Read.remaining c.args.reader.now) consumed in
+    rw (p.1, p.2) met

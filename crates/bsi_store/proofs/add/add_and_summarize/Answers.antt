@@ -5,7 +5,8 @@ use Rattle.bsi_answers.proofs.Passing.{if_err}
 use Rattle.bsi_answers.specs.RowFiles.{fed_counts}
 use Rattle.bsi_answers.specs.Runs.{HasLoaded}
 use Rattle.bsi_storage.specs.Faults.{AcceptsRowsOf}
-use Rattle.bsi_storage.specs.Saved.{table_segment, MayBeSaved}
+use Rattle.bsi_segments.specs.declared.version.Version.TheVariants.{Two}
+use Rattle.bsi_storage.specs.Saved.{head_segment, MayBeSaved}
 use Rattle.bsi_schema.specs.Columns.{Declared}
 use Rattle.bsi_store.specs.declared.fault.StoreFault.{StoreFault}
 use Rattle.bsi_store.specs.Saving.{IsAddFault, IsReadOf}
@@ -23,9 +24,9 @@ returns-clause-added g c = λ before after reported.
     let more = c.in_ok-more.more in
     let counts = map fed_counts more.fed.items in
     let table = table_of more.table in
-    let read : IsReadOf g.S.Read.remaining c.args.paths.now.so_far (table_of saved.index) saved.notes.items (g.S.Read.remaining c.reread_if_changed.new.file) =
+    let read : IsReadOf g.S.Read.remaining c.args.paths.now.so_far (table_of saved.index) saved.notes.items saved.kinds.items (g.S.Read.remaining c.reread_if_changed.new.file) =
     c.in_ok-saved-2.ensures.read c.in_ok-saved.ensures.read in
-    let follows : AcceptsRowsOf (table_of saved.index) table = c.in_ok-check_rows_fit.ensures.follows in
+    let follows : AcceptsRowsOf (table_of saved.index) saved.kinds.items table saved.kinds.items = c.in_ok-check_rows_fit.ensures.follows in
     let schema_is : first.index.schema ≡ saved.index.schema = sym c.in_ok-more.ensures.schema ∙ follows.schema in
     let limit_is : first.index.limit ≡ saved.index.limit = sym c.in_ok-more.ensures.limit ∙ follows.limit in
     record {
@@ -45,9 +46,12 @@ returns-clause-added g c = λ before after reported.
             (subst (λ (s : Declared). HasLoaded s first.index.limit texts table.rows counts) schema_is (c.in_ok-more.ensures.rows texts are));
         old = c.reread_if_changed.new.file;
         new = c.append_segment.new.file;
-        valid = subst (λ (notes : List ℕ). MayBeSaved table notes) (sym read.notes_are) c.in_ok-append_segment.ensures.valid;
-        appended = subst (λ (notes : List ℕ). Appends (g.S.Write.contents c.reread_if_changed.new.file) (g.S.Write.contents c.append_segment.new.file) (table_segment table notes))
-            (sym read.notes_are) c.in_ok-append_segment.ensures.appended;
+        valid = subst (λ (notes : List ℕ). MayBeSaved Two table notes read.saved.kinds) (sym read.notes_are)
+            (subst (λ (kinds : List ℕ). MayBeSaved Two table saved.notes.items kinds) (sym read.kinds_are) c.in_ok-append_segment.ensures.valid);
+        appended = subst (λ (notes : List ℕ). Appends (g.S.Write.contents c.reread_if_changed.new.file) (g.S.Write.contents c.append_segment.new.file) (head_segment table notes read.saved.kinds))
+            (sym read.notes_are)
+            (subst (λ (kinds : List ℕ). Appends (g.S.Write.contents c.reread_if_changed.new.file) (g.S.Write.contents c.append_segment.new.file) (head_segment table saved.notes.items kinds))
+            (sym read.kinds_are) c.in_ok-append_segment.ensures.appended);
         lines = subst (λ (bytes : List ℕ). Appends before after bytes) c.in_ok-text.ensures reported;
       };
       same = sym read.left_is;
@@ -72,7 +76,7 @@ returns-in_err-check_rows_fit-clause-fault g c =
     let so_far = c.args.paths.now.so_far in
     let reported = c.in_err-check_rows_fit.field-0.0 in
     let saved = c.in_ok-saved-2.saved in
-    let read : IsReadOf rem so_far (table_of saved.index) saved.notes.items (rem c.reread_if_changed.new.file) = c.in_ok-saved-2.ensures.read c.in_ok-saved.ensures.read in
+    let read : IsReadOf rem so_far (table_of saved.index) saved.notes.items saved.kinds.items (rem c.reread_if_changed.new.file) = c.in_ok-saved-2.ensures.read c.in_ok-saved.ensures.read in
     let failed : IsAddFault rem so_far (length c.args.paths.now.rows.items) reported = elim c.in_err-check_rows_fit.ensures.fault [
       | inl none ↦ inl (inl none)
       | inr past ↦ inr (inr (inl (

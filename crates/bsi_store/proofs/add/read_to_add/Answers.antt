@@ -1,6 +1,6 @@
 use Rattle.std.proofs.Common.{◌≡◌, Some, arith, refl, rules}
 use Rattle.bsi_storage.specs.declared.fault.OpenFault.TheVariants.{OtherVersion}
-use Rattle.bsi_store.proofs.Notes.{notes_few}
+use Rattle.bsi_store.proofs.Notes.{texts_few}
 use Rattle.bsi_store.proofs.add.read_to_add.Goals as goal
 use Rattle.bsi_table.specs.Index.{table_of}
 
@@ -8,7 +8,7 @@ pub returns-in_default-clause-few : goal.returns-in_default-clause-few
 returns-in_default-clause-few g c =
     let saved = c.in_ok-saved.saved in
     let opened = c.in_ok-saved.ensures.opened in
-    notes_few (g.S.Read.remaining c.args.file.now) opened.middle (table_of saved.index) saved.notes.items saved.bytes opened.read
+    texts_few (g.S.Read.remaining c.args.file.now) opened.middle (table_of saved.index) saved.notes.items saved.kinds.items saved.bytes opened.read
 
 pub returns-in_default-clause-read : goal.returns-in_default-clause-read
 returns-in_default-clause-read g c =
@@ -18,6 +18,7 @@ returns-in_default-clause-read g c =
         file = c.args.file.now;
         after = g.S.Read.remaining c.read_saved.new.file;
         notes = saved.notes.items;
+        kinds = saved.kinds.items;
         size = saved.bytes;
         fault = saved.fault;
         opened = c.in_ok-saved.ensures.opened;
@@ -25,6 +26,7 @@ returns-in_default-clause-read g c =
         whole = c.in_ok-saved.ensures.whole;
       };
       notes_are = refl;
+      kinds_are = refl;
       left_is = refl;
       ours = λ is. first_of (cc is, search (rules, is), grind (arith, is));
     }

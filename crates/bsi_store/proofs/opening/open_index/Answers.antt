@@ -14,6 +14,7 @@ returns-clause-saved g c =
       file = c.in_ok-file.file;
       after = g.S.Read.remaining c.read_saved.new.file;
       notes = opened.notes.items;
+      kinds = opened.kinds.items;
       size = opened.bytes;
       fault = opened.fault;
       opened = is;
