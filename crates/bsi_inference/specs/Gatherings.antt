@@ -1,5 +1,4 @@
--- Whether a field is among the gathered texts of a column, if all were gathered (`HasText`), and whether it would be
--- one too many (`IsFullFor`).
+-- Whether a field is among the gathered texts of a column, if all were gathered (`HasText`).
 use Rattle.std.specs.Prelude.{◌≡◌, List, length}
 use Rattle.std.specs.List.{Contains}
 use Rattle.bsi_kinds.specs.Decimals.{Field}
