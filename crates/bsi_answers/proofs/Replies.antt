@@ -17,7 +17,9 @@ use Rattle.bsi_aggregates.specs.QuestionReplies.{IsArrangedReply, IsQuestionRepl
 use Rattle.bsi_aggregates.specs.declared.answering.QuestionReply.{QuestionReply}
 use Rattle.bsi_aggregates.specs.declared.answering.QuestionReply.TheVariants as reply
 use Rattle.bsi_answers.specs.AskLines.{IsQuestionLine}
-use Rattle.bsi_answers.specs.ReplyLines.{question_reply_line, HasRowsWithin}
+use Rattle.bsi_answers.specs.ReplyLines.{total_column, HasRowsWithin, IsReplyLine}
+use Rattle.bsi_syntax.specs.Notations.{whole_texts}
+use Rattle.bsi_answers.proofs.WholeNumbers.{only_total}
 
 -- a row that has a number in a column is one of the rows
 row_within : (rows : List SourcedRow) (c r : ℕ) (n : ℤ) → slice_index_or (column_of rows c) r None ≡ Some n → r < length rows
@@ -47,13 +49,13 @@ module _ (schema : Declared) (rows : List SourcedRow) where
   rows_within (question.Quantile share c pred) (reply.Top (Ok listed)) is = absurd is
 
   -- the line of a total
-  pub total_line : (query : Query) (line : List ℕ) → IsQuestionLine schema rows (question.Total query) line
+  pub total_line : (query : Query) (line : List ℕ) → IsQuestionLine whole_texts schema rows (question.Total query) line
       → (replied : Result Answer AskError) × IsArrangedReply schema rows query replied × (line ≡ ask_line replied)
   total_line query line has = by has.0 has.1 has.2
     where
-      by : (r : QuestionReply) → IsQuestionReply schema rows (question.Total query) r → line ≡ question_reply_line (feeders_of rows) r
+      by : (r : QuestionReply) → IsQuestionReply schema rows (question.Total query) r → IsReplyLine whole_texts (feeders_of rows) (question.Total query) r line
           → (replied : Result Answer AskError) × IsArrangedReply schema rows query replied × (line ≡ ask_line replied)
-      by (reply.Total replied) is same = (replied, is, same)
+      by (reply.Total replied) is same = (replied, is, only_total (total_column query.total) replied line same)
       by (reply.Groups replied) is same = absurd is
       by (reply.Top replied) is same = absurd is
       by (reply.Distinct replied) is same = absurd is
