@@ -66,7 +66,7 @@ out_after fault head lines before middle after written out = (
       (subst (Appends before after) (sym (concat-append head (take out.0 lines))) (appends-more before middle after (concat head) (concat (take out.0 lines)) written out.1)),
 )
 
-concat_more : (lines : List (List ℕ)) (line : List ℕ) → concat (lines ++ line ∷ []) ≡ concat lines ++ line
+pub concat_more : (lines : List (List ℕ)) (line : List ℕ) → concat (lines ++ line ∷ []) ≡ concat lines ++ line
 concat_more lines line = concat-append lines (line ∷ []) ∙ ap (λ last. concat lines ++ last) (append-nil line)
 
 -- ---- records and their lines

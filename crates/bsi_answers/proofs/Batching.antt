@@ -10,7 +10,8 @@ use Rattle.csv.specs.Reading.{reader_state, source_of}
 use Rattle.csv.specs.declared.reader.Reader.{Reader}
 use Rattle.bsi_syntax.specs.Bytes.{KnownBytes}
 use Rattle.bsi_syntax.specs.Questions.{IsQuestion}
-use Rattle.bsi_syntax.specs.Vocabularies.{schema_vocabulary}
+use Rattle.bsi_syntax.specs.Notations.{NumberTexts}
+use Rattle.bsi_syntax.specs.Vocabularies.{Words}
 use Rattle.bsi_syntax.specs.declared.grammar.Grammar.{Grammar}
 use Rattle.bsi_syntax.specs.Lines.{bad_line}
 use Rattle.bsi_syntax.specs.Numbers.{Field}
@@ -25,7 +26,7 @@ use Rattle.bsi_rows.specs.declared.question.Question.{Question}
 use Rattle.bsi_schema.specs.Columns.{Declared}
 use Rattle.bsi_answers.proofs.Asking.{out_after, out_all, wrote_all, wrote_more, wrote_part, HasWritten}
 use Rattle.bsi_answers.proofs.Passing.{emptied}
-use Rattle.bsi_answers.specs.AskLines.{IsAskLine, IsQuestionLine}
+use Rattle.bsi_answers.specs.AskLines.{IsAskLineBy, IsQuestionLine}
 use Rattle.bsi_answers.specs.Writing.{AreWrittenBefore, WritesAll, WritesFirst}
 use Rattle.bsi_answers.specs.declared.faults.FilesFault.{FilesFault}
 use Rattle.bsi_answers.specs.declared.faults.FilesFault.TheVariants.{NoMemory, TooLong, Write}
@@ -36,44 +37,44 @@ use Rattle.bsi_answers.specs.declared.batches.BatchEnd.TheVariants.{Bad, End, Mo
 
 -- ---- the questions of a batch
 
-module _ {R : Type 0} (rem : R → KnownBytes) (grammar : Grammar) (schema : Declared) where
-  gives_push : (old at new : Reader R) (questions : List Question) (question : Question) (fields : List Field) → GivesQuestions rem grammar schema old questions at
-      → HasReadRecords rem at new (fields ∷ []) → IsQuestion grammar (schema_vocabulary schema) fields question → GivesQuestions rem grammar schema old (questions ++ question ∷ []) new
+module _ {R : Type 0} (rem : R → KnownBytes) (grammar : Grammar) (words : Words) where
+  gives_push : (old at new : Reader R) (questions : List Question) (question : Question) (fields : List Field) → GivesQuestions rem grammar words old questions at
+      → HasReadRecords rem at new (fields ∷ []) → IsQuestion grammar words fields question → GivesQuestions rem grammar words old (questions ++ question ∷ []) new
   gives_push old at new [] question fields same read asks = (fields, new, subst (λ r. HasReadRecords rem r new (fields ∷ [])) (sym same) read, asks, refl)
   gives_push old at new (first ∷ questions) question fields gives read asks =
       (gives.0, gives.1, gives.2, gives.3, gives_push gives.1 at new questions question fields gives.4 read asks)
 
-  pub given_none : (old : RecordSource R) (questions : List Question) → old.read_so_far ≤ max_records → questions ≡ [] → GaveQuestions rem grammar schema old questions old.input old.read_so_far
-  given_none old questions few none = subst (λ qs. GaveQuestions rem grammar schema old qs old.input old.read_so_far) (sym none) (record { gives = refl; counted = omega arith; few = few })
+  pub given_none : (old : RecordSource R) (questions : List Question) → old.read_so_far ≤ max_records → questions ≡ [] → GaveQuestions rem grammar words old questions old.input old.read_so_far
+  given_none old questions few none = subst (λ qs. GaveQuestions rem grammar words old qs old.input old.read_so_far) (sym none) (record { gives = refl; counted = omega arith; few = few })
 
-  pub given_push : (old middle new : RecordSource R) (questions after : List Question) (question : Question) → GaveQuestions rem grammar schema old questions middle.input middle.read_so_far
-      → after ≡ questions ++ question ∷ [] → ReadsQuestion rem grammar schema middle new question → GaveQuestions rem grammar schema old after new.input new.read_so_far
-  given_push old middle new questions after question given is reads = subst (λ qs. GaveQuestions rem grammar schema old qs new.input new.read_so_far) (sym is) (record {
+  pub given_push : (old middle new : RecordSource R) (questions after : List Question) (question : Question) → GaveQuestions rem grammar words old questions middle.input middle.read_so_far
+      → after ≡ questions ++ question ∷ [] → ReadsQuestion rem grammar words middle new question → GaveQuestions rem grammar words old after new.input new.read_so_far
+  given_push old middle new questions after question given is reads = subst (λ qs. GaveQuestions rem grammar words old qs new.input new.read_so_far) (sym is) (record {
     gives = gives_push old.input middle.input new.input questions question reads.fields given.gives reads.read reads.asks;
     counted = omega (arith, length-append questions (question ∷ []), given.counted, reads.counted);
     few = reads.few;
   })
 
   -- a batch ends where a record was taken, or none was left
-  pub batch_of : (old middle new : RecordSource R) (questions after : List Question) (batch_end : BatchEnd) → GaveQuestions rem grammar schema old questions middle.input middle.read_so_far
-      → ReadsAsk rem grammar schema middle new questions after batch_end → ReadsBatch rem grammar schema old new after batch_end
+  pub batch_of : (old middle new : RecordSource R) (questions after : List Question) (batch_end : BatchEnd) → GaveQuestions rem grammar words old questions middle.input middle.read_so_far
+      → ReadsAsk rem grammar words middle new questions after batch_end → ReadsBatch rem grammar words old new after batch_end
   batch_of old middle new questions after More given reads = (
     given_push old middle new questions after reads.0 given reads.1 reads.2,
     omega (arith, length-append questions (reads.0 ∷ []), subst (λ qs. length qs ≡ length (questions ++ reads.0 ∷ [])) (sym reads.1) refl),
     reads.2.going,
   )
   batch_of old middle new questions after Bad given reads =
-      (middle.input, middle.read_so_far, subst (λ qs. GaveQuestions rem grammar schema old qs middle.input middle.read_so_far) (sym reads.0) given, reads.1)
+      (middle.input, middle.read_so_far, subst (λ qs. GaveQuestions rem grammar words old qs middle.input middle.read_so_far) (sym reads.0) given, reads.1)
   batch_of old middle new questions after End given reads =
-      (middle.input, middle.read_so_far, subst (λ qs. GaveQuestions rem grammar schema old qs middle.input middle.read_so_far) (sym reads.0) given, reads.1)
+      (middle.input, middle.read_so_far, subst (λ qs. GaveQuestions rem grammar words old qs middle.input middle.read_so_far) (sym reads.0) given, reads.1)
 
 -- ---- the records of a batch
 
-module _ {R : Type 0} (rem : R → KnownBytes) (grammar : Grammar) (schema : Declared) (bytes : List ℕ) where
+module _ {R : Type 0} (rem : R → KnownBytes) (grammar : Grammar) (words : Words) (bytes : List ℕ) where
   -- the records that ask them were read on
-  records_on : (old at : Reader R) (questions : List Question) (records : List (List Field)) → GivesQuestions rem grammar schema old questions at
+  records_on : (old at : Reader R) (questions : List Question) (records : List (List Field)) → GivesQuestions rem grammar words old questions at
       → HasReadFirst bytes (reader_state old) (source_of rem old) records
-      → (more : List (List Field)) × HasReadFirst bytes (reader_state at) (source_of rem at) (records ++ more) × AllZip (IsQuestion grammar (schema_vocabulary schema)) more questions
+      → (more : List (List Field)) × HasReadFirst bytes (reader_state at) (source_of rem at) (records ++ more) × AllZip (IsQuestion grammar words) more questions
       × (length more ≡ length questions)
   records_on old at [] records same read = (
     [],
@@ -92,8 +93,8 @@ module _ {R : Type 0} (rem : R → KnownBytes) (grammar : Grammar) (schema : Dec
       )
 
   -- and those of the first ones
-  gives_first : (count : ℕ) (old at : Reader R) (questions : List Question) → GivesQuestions rem grammar schema old questions at
-      → (middle : Reader R) × GivesQuestions rem grammar schema old (take count questions) middle
+  gives_first : (count : ℕ) (old at : Reader R) (questions : List Question) → GivesQuestions rem grammar words old questions at
+      → (middle : Reader R) × GivesQuestions rem grammar words old (take count questions) middle
   gives_first zero old at [] gives = (old, refl)
   gives_first zero old at (question ∷ questions) gives = (old, refl)
   gives_first (suc count) old at [] gives = (at, gives)
@@ -109,14 +110,14 @@ matched_append Is [] xs' (y ∷ ys) ys' first last = absurd first
 matched_append Is (x ∷ xs) xs' [] ys' first last = absurd first
 matched_append Is (x ∷ xs) xs' (y ∷ ys) ys' first last = (first.0, matched_append Is xs xs' ys ys' first.1 last)
 
-module _ (grammar : Grammar) (schema : Declared) (rows : List SourcedRow) where
-  line_of : (fields : List Field) (question : Question) (line : List ℕ) → IsQuestion grammar (schema_vocabulary schema) fields question → IsQuestionLine schema rows question line
-      → IsAskLine grammar schema rows fields line
+module _ (grammar : Grammar) (words : Words) (Of : NumberTexts) (schema : Declared) (rows : List SourcedRow) where
+  line_of : (fields : List Field) (question : Question) (line : List ℕ) → IsQuestion grammar words fields question → IsQuestionLine Of schema rows question line
+      → IsAskLineBy grammar words Of schema rows fields line
   line_of fields question line asked answered =
       inr (record { asked = question; is = asked; answered = answered })
 
-  lines_of : (records : List (List Field)) (questions : List Question) (lines : List (List ℕ)) → AllZip (IsQuestion grammar (schema_vocabulary schema)) records questions
-      → AllZip (IsQuestionLine schema rows) questions lines → AllZip (IsAskLine grammar schema rows) records lines
+  lines_of : (records : List (List Field)) (questions : List Question) (lines : List (List ℕ)) → AllZip (IsQuestion grammar words) records questions
+      → AllZip (IsQuestionLine Of schema rows) questions lines → AllZip (IsAskLineBy grammar words Of schema rows) records lines
   lines_of [] [] [] asked answered = tt
   lines_of [] [] (line ∷ lines) asked answered = absurd answered
   lines_of [] (question ∷ questions) lines asked answered = absurd asked
@@ -136,32 +137,32 @@ take_few zero (x ∷ xs) = omega arith
 take_few (suc count) [] = omega arith
 take_few (suc count) (x ∷ xs) = let few = take_few count xs in omega (arith, few)
 
-module _ (grammar : Grammar) (schema : Declared) (rows : List SourcedRow) {R : Type 0} (rem : R → KnownBytes) (bytes : List ℕ) (old : RecordSource R)
+module _ (grammar : Grammar) (words : Words) (Of : NumberTexts) (schema : Declared) (rows : List SourcedRow) {R : Type 0} (rem : R → KnownBytes) (bytes : List ℕ) (old : RecordSource R)
     (before now after : KnownBytes)
-    (stands : HasWritten (IsAskLine grammar schema rows) bytes (reader_state old.input) (source_of rem old.input) old.read_so_far before now)
-    (questions : List Question) (at : Reader R) (read_so_far : ℕ) (given : GaveQuestions rem grammar schema old questions at read_so_far) where
+    (stands : HasWritten (IsAskLineBy grammar words Of schema rows) bytes (reader_state old.input) (source_of rem old.input) old.read_so_far before now)
+    (questions : List Question) (at : Reader R) (read_so_far : ℕ) (given : GaveQuestions rem grammar words old questions at read_so_far) where
   -- the lines of the batch were written too
-  pub batch_stands : WritesAnswers (IsQuestionLine schema rows) questions now after
-      → HasWritten (IsAskLine grammar schema rows) bytes (reader_state at) (source_of rem at) read_so_far before after
+  pub batch_stands : WritesAnswers (IsQuestionLine Of schema rows) questions now after
+      → HasWritten (IsAskLineBy grammar words Of schema rows) bytes (reader_state at) (source_of rem at) read_so_far before after
   batch_stands tells =
-      let on = records_on rem grammar schema bytes old.input at questions stands.records given.gives stands.begun in
+      let on = records_on rem grammar words bytes old.input at questions stands.records given.gives stands.begun in
       record {
         records = stands.records ++ on.0;
         lines = stands.lines ++ tells.lines;
         begun = on.1;
         many = omega (arith, length-append stands.records on.0, stands.many, on.3, given.counted);
-        each = matched_append (IsAskLine grammar schema rows) stands.records on.0 stands.lines tells.lines stands.each
-            (lines_of grammar schema rows on.0 questions tells.lines on.2 tells.each);
+        each = matched_append (IsAskLineBy grammar words Of schema rows) stands.records on.0 stands.lines tells.lines stands.each
+            (lines_of grammar words Of schema rows on.0 questions tells.lines on.2 tells.each);
         written = subst (Appends before after) (sym (concat-append stands.lines tells.lines))
             (appends-more before now after (concat stands.lines) (concat tells.lines) stands.written tells.written);
       }
 
   -- lines of its first questions were, before a fault
-  pub batch_prefix : (fault : FilesFault) → WritesFirstAnswers (IsQuestionLine schema rows) questions now after fault
-      → WritesFirst (AllZip (IsAskLine grammar schema rows)) bytes fault before after
+  pub batch_prefix : (fault : FilesFault) → WritesFirstAnswers (IsQuestionLine Of schema rows) questions now after fault
+      → WritesFirst (AllZip (IsAskLineBy grammar words Of schema rows)) bytes fault before after
   batch_prefix fault tells =
-      let first = gives_first rem grammar schema bytes tells.count old.input at questions given.gives in
-      let on = records_on rem grammar schema bytes old.input first.0 (take tells.count questions) stands.records first.1 stands.begun in
+      let first = gives_first rem grammar words bytes tells.count old.input at questions given.gives in
+      let on = records_on rem grammar words bytes old.input first.0 (take tells.count questions) stands.records first.1 stands.begun in
       let few = take_few tells.count questions in
       record {
         records = stands.records ++ on.0;
@@ -171,51 +172,51 @@ module _ (grammar : Grammar) (schema : Declared) (rows : List SourcedRow) {R : T
         first = on.1.first;
         few = omega (arith, length-append stands.records on.0, stands.many, on.3, given.counted, given.few, few);
         too_long = λ is. absurd (late_fault fault tells.late is);
-        are = matched_append (IsAskLine grammar schema rows) stands.records on.0 stands.lines tells.lines stands.each
-            (lines_of grammar schema rows on.0 (take tells.count questions) tells.lines on.2 tells.each);
+        are = matched_append (IsAskLineBy grammar words Of schema rows) stands.records on.0 stands.lines tells.lines stands.each
+            (lines_of grammar words Of schema rows on.0 (take tells.count questions) tells.lines on.2 tells.each);
         out = out_after fault stands.lines tells.lines before now after stands.written tells.out;
       }
 
 -- whatever stands batch_end a batch, the source gave its questions
-pub given_some : {R : Type 0} (rem : R → KnownBytes) (grammar : Grammar) (schema : Declared) (old new : RecordSource R) (questions : List Question) (read : Result BatchEnd FilesFault)
-    → IfOk read (ReadsBatch rem grammar schema old new questions) → IfErr read (StopsInBatch rem grammar schema old questions)
-    → (at : Reader R) × (read_so_far : ℕ) × GaveQuestions rem grammar schema old questions at read_so_far
-given_some rem grammar schema old new questions (Ok More) reads stops = (new.input, new.read_so_far, reads.0)
-given_some rem grammar schema old new questions (Ok Bad) reads stops = (reads.0, reads.1, reads.2)
-given_some rem grammar schema old new questions (Ok End) reads stops = (reads.0, reads.1, reads.2)
-given_some rem grammar schema old new questions (Err fault) reads stops = (stops.at, stops.read_so_far, stops.given)
+pub given_some : {R : Type 0} (rem : R → KnownBytes) (grammar : Grammar) (words : Words) (old new : RecordSource R) (questions : List Question) (read : Result BatchEnd FilesFault)
+    → IfOk read (ReadsBatch rem grammar words old new questions) → IfErr read (StopsInBatch rem grammar words old questions)
+    → (at : Reader R) × (read_so_far : ℕ) × GaveQuestions rem grammar words old questions at read_so_far
+given_some rem grammar words old new questions (Ok More) reads stops = (new.input, new.read_so_far, reads.0)
+given_some rem grammar words old new questions (Ok Bad) reads stops = (reads.0, reads.1, reads.2)
+given_some rem grammar words old new questions (Ok End) reads stops = (reads.0, reads.1, reads.2)
+given_some rem grammar words old new questions (Err fault) reads stops = (stops.at, stops.read_so_far, stops.given)
 
 -- unless the text ends batch_end it, the source goes on with more records taken
-pub goes_on : {R : Type 0} (rem : R → KnownBytes) (grammar : Grammar) (schema : Declared) (old new : RecordSource R) (questions : List Question) (batch_end : BatchEnd)
-    → ReadsBatch rem grammar schema old new questions batch_end → (batch_end ≡ More) ⊎ (batch_end ≡ Bad) → (new.end ≡ None) × (old.read_so_far + 1 ≤ new.read_so_far) × (new.read_so_far ≤ max_records)
-goes_on rem grammar schema old new questions More reads way = (reads.2, omega (arith, reads.0.counted, reads.1), reads.0.few)
-goes_on rem grammar schema old new questions Bad reads way = (reads.3.going, omega (arith, reads.2.counted, reads.3.counted), reads.3.few)
-goes_on rem grammar schema old new questions End reads (inl way) = absurd (cc (way))
-goes_on rem grammar schema old new questions End reads (inr way) = absurd (cc (way))
+pub goes_on : {R : Type 0} (rem : R → KnownBytes) (grammar : Grammar) (words : Words) (old new : RecordSource R) (questions : List Question) (batch_end : BatchEnd)
+    → ReadsBatch rem grammar words old new questions batch_end → (batch_end ≡ More) ⊎ (batch_end ≡ Bad) → (new.end ≡ None) × (old.read_so_far + 1 ≤ new.read_so_far) × (new.read_so_far ≤ max_records)
+goes_on rem grammar words old new questions More reads way = (reads.2, omega (arith, reads.0.counted, reads.1), reads.0.few)
+goes_on rem grammar words old new questions Bad reads way = (reads.3.going, omega (arith, reads.2.counted, reads.3.counted), reads.3.few)
+goes_on rem grammar words old new questions End reads (inl way) = absurd (cc (way))
+goes_on rem grammar words old new questions End reads (inr way) = absurd (cc (way))
 
 -- what follows once the lines of a batch were written
-module _ (grammar : Grammar) (schema : Declared) (rows : List SourcedRow) {R : Type 0} (rem : R → KnownBytes) (bytes : List ℕ) (old new : RecordSource R)
+module _ (grammar : Grammar) (words : Words) (Of : NumberTexts) (schema : Declared) (rows : List SourcedRow) {R : Type 0} (rem : R → KnownBytes) (bytes : List ℕ) (old new : RecordSource R)
     (before now middle : KnownBytes)
-    (stands : HasWritten (IsAskLine grammar schema rows) bytes (reader_state old.input) (source_of rem old.input) old.read_so_far before now)
-    (questions : List Question) (tells : WritesAnswers (IsQuestionLine schema rows) questions now middle) where
+    (stands : HasWritten (IsAskLineBy grammar words Of schema rows) bytes (reader_state old.input) (source_of rem old.input) old.read_so_far before now)
+    (questions : List Question) (tells : WritesAnswers (IsQuestionLine Of schema rows) questions now middle) where
   -- the record batch_end it asks no question
-  bad_line_of : (fields : List Field) → ((question : Question) → IsQuestion grammar (schema_vocabulary schema) fields question → ⊥) → IsAskLine grammar schema rows fields bad_line
+  bad_line_of : (fields : List Field) → ((question : Question) → IsQuestion grammar words fields question → ⊥) → IsAskLineBy grammar words Of schema rows fields bad_line
   bad_line_of fields none = inl (record {
     none = none;
     line_is = refl;
   })
 
-  pub stands_bad : (after : KnownBytes) → ReadsBatch rem grammar schema old new questions Bad → Appends middle after bad_line
-      → HasWritten (IsAskLine grammar schema rows) bytes (reader_state new.input) (source_of rem new.input) new.read_so_far before after
+  pub stands_bad : (after : KnownBytes) → ReadsBatch rem grammar words old new questions Bad → Appends middle after bad_line
+      → HasWritten (IsAskLineBy grammar words Of schema rows) bytes (reader_state new.input) (source_of rem new.input) new.read_so_far before after
   stands_bad after reads written =
-      wrote_more (IsAskLine grammar schema rows) rem bytes reads.0 new.input reads.1 reads.2.few before middle
-      (batch_stands grammar schema rows rem bytes old before now middle stands questions reads.0 reads.1 reads.2 tells)
+      wrote_more (IsAskLineBy grammar words Of schema rows) rem bytes reads.0 new.input reads.1 reads.2.few before middle
+      (batch_stands grammar words Of schema rows rem bytes old before now middle stands questions reads.0 reads.1 reads.2 tells)
       reads.3.fields bad_line new.read_so_far after reads.3.read reads.3.counted (bad_line_of reads.3.fields reads.3.none) written
 
-  pub prefix_bad : (after : KnownBytes) (fault : FilesFault) → ReadsBatch rem grammar schema old new questions Bad → AreWrittenBefore fault (bad_line ∷ []) middle after
-      → (fault ≡ NoMemory) ⊎ (fault ≡ Write) → WritesFirst (AllZip (IsAskLine grammar schema rows)) bytes fault before after
+  pub prefix_bad : (after : KnownBytes) (fault : FilesFault) → ReadsBatch rem grammar words old new questions Bad → AreWrittenBefore fault (bad_line ∷ []) middle after
+      → (fault ≡ NoMemory) ⊎ (fault ≡ Write) → WritesFirst (AllZip (IsAskLineBy grammar words Of schema rows)) bytes fault before after
   prefix_bad after fault reads out late =
-      let stood = batch_stands grammar schema rows rem bytes old before now middle stands questions reads.0 reads.1 reads.2 tells in
+      let stood = batch_stands grammar words Of schema rows rem bytes old before now middle stands questions reads.0 reads.1 reads.2 tells in
       let fields = reads.3.fields in
       let begun = first_more rem bytes reads.0 new.input stood.records fields stood.begun reads.3.read in
       record {
@@ -226,31 +227,31 @@ module _ (grammar : Grammar) (schema : Declared) (rows : List SourcedRow) {R : T
         first = begun.first;
         few = omega (arith, length-append stood.records (fields ∷ []), stood.many, reads.3.counted, reads.3.few);
         too_long = λ is. absurd (late_fault fault late is);
-        are = matched_append (IsAskLine grammar schema rows) stood.records (fields ∷ []) stood.lines (bad_line ∷ []) stood.each
+        are = matched_append (IsAskLineBy grammar words Of schema rows) stood.records (fields ∷ []) stood.lines (bad_line ∷ []) stood.each
             (bad_line_of fields reads.3.none, tt);
         out = out_after fault stood.lines (bad_line ∷ []) before middle after stood.written out;
       }
 
   -- no record stands batch_end it
-  pub all_end : ReadsBatch rem grammar schema old new questions End → WritesAll (AllZip (IsAskLine grammar schema rows)) bytes before middle
+  pub all_end : ReadsBatch rem grammar words old new questions End → WritesAll (AllZip (IsAskLineBy grammar words Of schema rows)) bytes before middle
   all_end reads =
-      wrote_all (IsAskLine grammar schema rows) rem bytes reads.0 reads.0 reads.1 reads.2.few before middle
-      (batch_stands grammar schema rows rem bytes old before now middle stands questions reads.0 reads.1 reads.2 tells) reads.3
+      wrote_all (IsAskLineBy grammar words Of schema rows) rem bytes reads.0 reads.0 reads.1 reads.2.few before middle
+      (batch_stands grammar words Of schema rows rem bytes old before now middle stands questions reads.0 reads.1 reads.2 tells) reads.3
 
   -- a fault stands batch_end it
-  pub prefix_stopped : (fault : FilesFault) → StopsInBatch rem grammar schema old questions fault
-      → WritesFirst (AllZip (IsAskLine grammar schema rows)) bytes fault before middle
+  pub prefix_stopped : (fault : FilesFault) → StopsInBatch rem grammar words old questions fault
+      → WritesFirst (AllZip (IsAskLineBy grammar words Of schema rows)) bytes fault before middle
   prefix_stopped fault stops =
-      wrote_part (IsAskLine grammar schema rows) rem bytes stops.at stops.at stops.read_so_far stops.given.few before middle
-      (batch_stands grammar schema rows rem bytes old before now middle stands questions stops.at stops.read_so_far stops.given tells) fault stops.too_long
+      wrote_part (IsAskLineBy grammar words Of schema rows) rem bytes stops.at stops.at stops.read_so_far stops.given.few before middle
+      (batch_stands grammar words Of schema rows rem bytes old before now middle stands questions stops.at stops.read_so_far stops.given tells) fault stops.too_long
 
   -- the next batch is read batch_end it, or batch_end a record that asks no question
-  pub stands_on : (after : KnownBytes) (batch_end : BatchEnd) → ReadsBatch rem grammar schema old new questions batch_end
+  pub stands_on : (after : KnownBytes) (batch_end : BatchEnd) → ReadsBatch rem grammar words old new questions batch_end
       → ((batch_end ≡ More) × (after ≡ middle)) ⊎ ((batch_end ≡ Bad) × Appends middle after bad_line)
-      → HasWritten (IsAskLine grammar schema rows) bytes (reader_state new.input) (source_of rem new.input) new.read_so_far before after
+      → HasWritten (IsAskLineBy grammar words Of schema rows) bytes (reader_state new.input) (source_of rem new.input) new.read_so_far before after
   stands_on after More reads (inl way) =
-      subst (HasWritten (IsAskLine grammar schema rows) bytes (reader_state new.input) (source_of rem new.input) new.read_so_far before) (sym way.1)
-      (batch_stands grammar schema rows rem bytes old before now middle stands questions new.input new.read_so_far reads.0 tells)
+      subst (HasWritten (IsAskLineBy grammar words Of schema rows) bytes (reader_state new.input) (source_of rem new.input) new.read_so_far before) (sym way.1)
+      (batch_stands grammar words Of schema rows rem bytes old before now middle stands questions new.input new.read_so_far reads.0 tells)
   stands_on after Bad reads (inr way) = stands_bad after reads way.1
   stands_on after More reads (inr way) = absurd (cc (way.0))
   stands_on after Bad reads (inl way) = absurd (cc (way.0))

@@ -38,6 +38,7 @@ use Rattle.bsi_answers.specs.RowFiles.{file_counts, file_rows, FedCounts, IsRowF
 use Rattle.bsi_answers.specs.Runs.{fed_lines, AreLines, IsRun}
 use Rattle.bsi_answers.proofs.Places.{one_sorting}
 use Rattle.bsi_answers.proofs.Replies.{total_line}
+use Rattle.bsi_syntax.specs.Notations.{whole_texts}
 
 abbrev OneReading : Type 0
 OneReading = (bytes : List ℕ) → (a b : List (List Field)) → AreAllRecords bytes a → AreAllRecords bytes b → a ≡ b
@@ -131,8 +132,8 @@ module _ (schema : Declared) (rows : List SourcedRow) where
     listed (value_answer m) (value_answer n) one two = plain (value_answer m) (value_answer n) one two
 
   module _ (named : AreNamed schema.columns) where
-    one_query : (fields : List Field) (a b : List ℕ) (p q : Query) → IsQuery schema fields p → IsQuery schema fields q → IsQuestionLine schema rows (question.Total p) a
-        → IsQuestionLine schema rows (question.Total q) b → a ≢ no_memory_line → b ≢ no_memory_line → a ≡ b
+    one_query : (fields : List Field) (a b : List ℕ) (p q : Query) → IsQuery schema fields p → IsQuery schema fields q → IsQuestionLine whole_texts schema rows (question.Total p) a
+        → IsQuestionLine whole_texts schema rows (question.Total q) b → a ≢ no_memory_line → b ≢ no_memory_line → a ≡ b
     one_query fields a b p q asks_p asks_q of_p of_q found_a found_b =
         let x = total_line schema rows p a of_p in
         let y = total_line schema rows q b of_q in
@@ -148,8 +149,8 @@ module _ (schema : Declared) (rows : List SourcedRow) where
     one_line fields a b (inr x) (inr y) found_a found_b =
         let p = its_query schema fields x.asked x.is in
         let q = its_query schema fields y.asked y.is in
-        one_query fields a b p.0 q.0 p.1 q.1 (subst (λ (asked : Question). IsQuestionLine schema rows asked a) p.2 x.answered)
-        (subst (λ (asked : Question). IsQuestionLine schema rows asked b) q.2 y.answered) found_a found_b
+        one_query fields a b p.0 q.0 p.1 q.1 (subst (λ (asked : Question). IsQuestionLine whole_texts schema rows asked a) p.2 x.answered)
+        (subst (λ (asked : Question). IsQuestionLine whole_texts schema rows asked b) q.2 y.answered) found_a found_b
 
     each_line : (records : List (List Field)) (a b : List (List ℕ)) → AllZip (IsAskLine Script schema rows) records a → AllZip (IsAskLine Script schema rows) records b
         → All IsFound a → All IsFound b → a ≡ b

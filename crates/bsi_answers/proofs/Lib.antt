@@ -13,3 +13,5 @@ mod Selecting
 pub mod Showing
 mod Telling
 mod Texts
+mod WholeNumbers
+mod Written

@@ -23,6 +23,9 @@ use Rattle.bsi_answers.specs.RowFiles.{file_at, FedCounts, RowFile}
 use Rattle.bsi_answers.specs.Runs.{AreLines}
 use Rattle.bsi_answers.proofs.Ordered.{from_order}
 use Rattle.bsi_answers.proofs.Replies.{total_line}
+use Rattle.bsi_answers.proofs.WholeNumbers.{its_total}
+use Rattle.bsi_answers.specs.ReplyLines.{total_column}
+use Rattle.bsi_syntax.specs.Notations.{whole_texts}
 use Rattle.bsi_answers.proofs.Selecting.{shown_too}
 
 reply_too : (schema : Declared) (a b : List SourcedRow) → HaveSameFeederRows a b → (query : Query) (reply : Result Answer AskError) → IsArrangedReply schema a query reply
@@ -44,11 +47,11 @@ line_too : (schema : Declared) (a b : List SourcedRow) → HaveSameFeederRows a 
 line_too schema a b alike fields line (inl none) = inl none
 line_too schema a b alike fields line (inr asks) =
     let it = its_query schema fields asks.asked asks.is in
-    let of_query = total_line schema a it.0 line (subst (λ (asked : Question). IsQuestionLine schema a asked line) it.2 asks.answered) in
+    let of_query = total_line schema a it.0 line (subst (λ (asked : Question). IsQuestionLine whole_texts schema a asked line) it.2 asks.answered) in
     inr (record {
       asked = question.Total it.0;
       is = it.1;
-      answered = (reply.Total of_query.0, reply_too schema a b alike it.0 of_query.0 of_query.1, of_query.2);
+      answered = (reply.Total of_query.0, reply_too schema a b alike it.0 of_query.0 of_query.1, its_total (total_column it.0.total) of_query.0 line of_query.2);
     })
 
 each_too : (schema : Declared) (a b : List SourcedRow) → HaveSameFeederRows a b → (records : List (List Field)) (lines : List (List ℕ)) → AllZip (IsAskLine Script schema a) records lines

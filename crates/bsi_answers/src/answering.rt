@@ -11,7 +11,7 @@ ghost use Rattle.bsi_syntax.specs.declared.grammar.Grammar.TheVariants.{Script};
 ghost use Rattle.bsi_rows.specs.Table.{max_feeders};
 ghost use Rattle.bsi_input.specs.Texts.{ForText};
 ghost use Rattle.bsi_aggregates.specs.QuestionReplies.{IsQuestionReply};
-ghost use Rattle.bsi_answers.specs.AskLines.{IsAskLine, IsQuestionLine};
+ghost use Rattle.bsi_answers.specs.AskLines.{IsAskLine, IsAskLineBy, IsQuestionLine};
 ghost use Rattle.bsi_answers.specs.Batches.{AreFirstReplies, WritesAnswers, WritesFirstAnswers};
 ghost use Rattle.bsi_answers.specs.Faults.{may_follow_output};
 ghost use Rattle.bsi_answers.specs.RowFiles.{fed_counts};
@@ -25,7 +25,7 @@ use crate::{Fed, FilesFault, NoMemory, Which, write_fed_lines};
 use bsi_aggregates::{GroupError, QuestionReply, answer};
 use bsi_input::{RecordAwareReader, RecordSource, write_bytes};
 use bsi_rows::{AskError, Question};
-use bsi_syntax::{Grammar, write_bad};
+use bsi_syntax::{Grammar, Notation, Vocabulary, write_bad};
 use bsi_table::Index;
 use csv::ByteRecord;
 use std::io::{Read, Write};
@@ -53,13 +53,13 @@ pub fn answer_all<R: Threads + AllocGlobal + Sync, A: Read + Drop, W: Write>(
         (W.contents writer.old) (W.contents writer.new))) }
 {
     write_fed_lines(rt.alloc(), fed, writer)?;
-    answer_asks(rt, table, Grammar::Script, asks, writer)
+    answer_plain_asks(rt, table, Grammar::Script, asks, writer)
 }
 
-/// Writes a line for each record of a text: the answer to its question over the rows of an index, or that it is bad. All
-/// lines of what was read are written before more of the text is asked for. It looks for more than 1,000,000 records
-/// last.
-pub fn answer_asks<R: Threads + AllocGlobal + Sync, A: Read + Drop, W: Write>(
+/// Writes a line for each record of a text: the answer to its question over the rows of an index of whole numbers, or that
+/// it is bad. All lines of what was read are written before more of the text is asked for. It looks for more than
+/// 1,000,000 records last.
+pub fn answer_plain_asks<R: Threads + AllocGlobal + Sync, A: Read + Drop, W: Write>(
     rt: &R,
     table: &Index,
     grammar: Grammar,
@@ -74,14 +74,46 @@ pub fn answer_asks<R: Threads + AllocGlobal + Sync, A: Read + Drop, W: Write>(
         WritesFirst (AllZip (IsAskLine grammar table.now.schema table.now.rows)) bytes fault
         (W.contents writer.old) (W.contents writer.new))) }
 {
+    answer_asks(rt, table, table.schema(), grammar, asks, writer)
+}
+
+/// Writes a line for each record of a text, as `answer_plain_asks`, where a vocabulary says what the words of questions
+/// mean and how answers write the numbers of columns.
+pub fn answer_asks<
+    R: Threads + AllocGlobal + Sync,
+    V: Vocabulary + Notation,
+    A: Read + Drop,
+    W: Write,
+>(
+    rt: &R,
+    table: &Index,
+    vocabulary: &V,
+    grammar: Grammar,
+    asks: A,
+    writer: &mut W,
+) -> Result<(), FilesFault>
+    ensures follows_output { IfErr result (λ fault. may_follow_output fault ≡ true) }
+    ensures ok { OnOk result (IfSome (A.remaining asks) (λ bytes.
+        WritesAll (AllZip (IsAskLineBy grammar (V.words vocabulary.now) (V.number_texts vocabulary.now)
+        table.now.schema table.now.rows)) bytes (W.contents writer.old) (W.contents writer.new))) }
+    ensures prefix { IfErr result (λ fault. IfSome (A.remaining asks) (λ bytes.
+        WritesFirst (AllZip (IsAskLineBy grammar (V.words vocabulary.now) (V.number_texts vocabulary.now)
+        table.now.schema table.now.rows)) bytes fault (W.contents writer.old) (W.contents writer.new))) }
+{
     let mut records = RecordSource::new(rt.alloc(), RecordAwareReader::new(asks));
-    answer_batches(rt, table, grammar, &mut records, writer)
+    answer_batches(rt, table, vocabulary, grammar, &mut records, writer)
 }
 
 /// Writes a line for each record of a text of which no record was read.
-fn answer_batches<R: Threads + AllocGlobal + Sync, A: Read + Drop, W: Write>(
+fn answer_batches<
+    R: Threads + AllocGlobal + Sync,
+    V: Vocabulary + Notation,
+    A: Read + Drop,
+    W: Write,
+>(
     rt: &R,
     table: &Index,
+    vocabulary: &V,
     grammar: Grammar,
     records: &mut RecordSource<RecordAwareReader<A>>,
     writer: &mut W,
@@ -90,10 +122,11 @@ fn answer_batches<R: Threads + AllocGlobal + Sync, A: Read + Drop, W: Write>(
     requires start { reader_state records.old.input ≡ st.StartRecord }
     ensures follows_output { IfErr result (λ fault. may_follow_output fault ≡ true) }
     ensures ok { OnOk result (ForText (source_of (λ w. A.remaining w.inner) records.old.input) (λ bytes.
-        WritesAll (AllZip (IsAskLine grammar table.now.schema table.now.rows)) bytes
-        (W.contents writer.old) (W.contents writer.new))) }
+        WritesAll (AllZip (IsAskLineBy grammar (V.words vocabulary.now) (V.number_texts vocabulary.now)
+        table.now.schema table.now.rows)) bytes (W.contents writer.old) (W.contents writer.new))) }
     ensures prefix { IfErr result (λ fault. ForText (source_of (λ w. A.remaining w.inner) records.old.input)
-        (λ bytes. WritesFirst (AllZip (IsAskLine grammar table.now.schema table.now.rows)) bytes fault
+        (λ bytes. WritesFirst (AllZip (IsAskLineBy grammar (V.words vocabulary.now)
+        (V.number_texts vocabulary.now) table.now.schema table.now.rows)) bytes fault
         (W.contents writer.old) (W.contents writer.new))) }
 {
     let mut fields = ByteRecord::new(rt.alloc());
@@ -103,13 +136,13 @@ fn answer_batches<R: Threads + AllocGlobal + Sync, A: Read + Drop, W: Write>(
     'batches: for _ in 0..u64::MAX {
         let batch_end = read_batch(
             rt.alloc(),
-            table.schema(),
+            vocabulary,
             grammar,
             records,
             &mut fields,
             &mut questions,
         );
-        answer_batch(rt, table, &questions, &mut line, writer)?;
+        answer_batch(rt, table, vocabulary, &questions, &mut line, writer)?;
         match batch_end? {
             BatchEnd::More => {}
             BatchEnd::Bad => write_bad_line(&mut line, writer)?,
@@ -121,21 +154,22 @@ fn answer_batches<R: Threads + AllocGlobal + Sync, A: Read + Drop, W: Write>(
 }
 
 /// Writes the line of the answer to each question, in their order.
-fn answer_batch<R: Threads + AllocGlobal + Sync, W: Write>(
+fn answer_batch<R: Threads + AllocGlobal + Sync, N: Notation, W: Write>(
     rt: &R,
     table: &Index,
+    notation: &N,
     questions: &[Question],
     line: &mut Vec<u8>,
     writer: &mut W,
 ) -> Result<(), FilesFault>
-    ensures ok { OnOk result (WritesAnswers (IsQuestionLine table.now.schema table.now.rows) questions.now
-        (W.contents writer.old) (W.contents writer.new)) }
-    ensures prefix { IfErr result (WritesFirstAnswers (IsQuestionLine table.now.schema table.now.rows) questions.now
-        (W.contents writer.old) (W.contents writer.new)) }
+    ensures ok { OnOk result (WritesAnswers (IsQuestionLine (N.number_texts notation.now) table.now.schema
+        table.now.rows) questions.now (W.contents writer.old) (W.contents writer.new)) }
+    ensures prefix { IfErr result (WritesFirstAnswers (IsQuestionLine (N.number_texts notation.now)
+        table.now.schema table.now.rows) questions.now (W.contents writer.old) (W.contents writer.new)) }
 {
     let mut replies = answer_together(rt, table, questions).into_iter();
     'questions: for question in questions {
-        make_answer_line(rt, table, question, replies.next(), line)?;
+        make_answer_line(rt, table, notation, question, replies.next(), line)?;
         write_bytes(writer, line.as_slice())?;
     }
     Ok(())
@@ -162,19 +196,21 @@ fn answer_together<R: Threads + AllocGlobal + Sync>(
 }
 
 /// Makes `line` the line of the answer to a question, which may have a reply already.
-fn make_answer_line<R: AllocGlobal>(
+fn make_answer_line<R: AllocGlobal, N: Notation>(
     rt: &R,
     table: &Index,
+    notation: &N,
     question: &Question,
     reply: Option<QuestionReply>,
     line: &mut Vec<u8>,
 ) -> Result<(), NoMemory>
     requires { IfSome reply (IsQuestionReply table.now.schema table.now.rows question.now) }
-    ensures { OnOk result (IsQuestionLine table.now.schema table.now.rows question.now line.new.items) }
+    ensures { OnOk result (IsQuestionLine (N.number_texts notation.now) table.now.schema table.now.rows
+        question.now line.new.items) }
 {
     line.clear();
     let reply = reply_to(rt, table, question, reply);
-    write_reply_line(reply, table, line)
+    write_reply_line(question, reply, table, notation, line)
 }
 
 /// Returns the reply to a question that has one already, and answers the others. One that found no memory beside others

@@ -9,8 +9,7 @@ ghost use Rattle.bsi_answers.specs.Batches.{ReadsAsk, ReadsBatch, StopsInBatch};
 use crate::{FilesFault, Which};
 use bsi_input::{RecordAwareReader, RecordSource};
 use bsi_rows::{Query, Question, Total};
-use bsi_syntax::{Grammar, QuestionError, lend_fields, read_question};
-use bsi_table::Schema;
+use bsi_syntax::{Grammar, QuestionError, Vocabulary, lend_fields, read_question};
 use csv::ByteRecord;
 use std::alloc::Global;
 use std::io::Read;
@@ -32,9 +31,9 @@ pub(crate) enum BatchEnd {
 /// Reads the questions of the next records, at most 64, while the next record was already read as a whole. So no bytes
 /// are asked for beside a question that waits for its answer. A question whose answer may grow with the rows ends its
 /// batch, so there is one such answer at most.
-pub(crate) fn read_batch<A: Read + Drop>(
+pub(crate) fn read_batch<A: Read + Drop, V: Vocabulary>(
     alloc: Global,
-    schema: &Schema,
+    vocabulary: &V,
     grammar: Grammar,
     records: &mut RecordSource<RecordAwareReader<A>>,
     fields: &mut ByteRecord,
@@ -44,13 +43,14 @@ pub(crate) fn read_batch<A: Read + Drop>(
     requires few { records.old.read_so_far ≤ max_records }
     ensures follows_output { IfErr result (λ fault. may_follow_output fault ≡ true) }
     ensures reads { IfOk result
-        (ReadsBatch (λ w. A.remaining w.inner) grammar schema.now records.old records.new questions.new.items) }
+        (ReadsBatch (λ w. A.remaining w.inner) grammar (V.words vocabulary.now) records.old records.new
+        questions.new.items) }
     ensures stopped { IfErr result
-        (StopsInBatch (λ w. A.remaining w.inner) grammar schema.now records.old questions.new.items) }
+        (StopsInBatch (λ w. A.remaining w.inner) grammar (V.words vocabulary.now) records.old questions.new.items) }
 {
     questions.clear();
     'asks: for _ in 0..MAX_BATCH {
-        let batch_end = read_ask(alloc, schema, grammar, records, fields, questions)?;
+        let batch_end = read_ask(alloc, vocabulary, grammar, records, fields, questions)?;
         if batch_end != BatchEnd::More
             || ends_in_long_answer(questions)
             || !records.has_buffered_record()
@@ -62,9 +62,9 @@ pub(crate) fn read_batch<A: Read + Drop>(
 }
 
 /// Reads the next record, and its question behind the others.
-fn read_ask<A: Read + Drop>(
+fn read_ask<A: Read + Drop, V: Vocabulary>(
     alloc: Global,
-    schema: &Schema,
+    vocabulary: &V,
     grammar: Grammar,
     records: &mut RecordSource<RecordAwareReader<A>>,
     fields: &mut ByteRecord,
@@ -72,7 +72,7 @@ fn read_ask<A: Read + Drop>(
 ) -> Result<BatchEnd, FilesFault>
     requires { records.old.end ≡ None }
     ensures follows_output { IfErr result (λ fault. may_follow_output fault ≡ true) }
-    ensures reads { IfOk result (ReadsAsk (λ w. A.remaining w.inner) grammar schema.now records.old
+    ensures reads { IfOk result (ReadsAsk (λ w. A.remaining w.inner) grammar (V.words vocabulary.now) records.old
         records.new questions.old.items questions.new.items) }
     ensures unchanged { IfErr result (λ _. questions.new.items ≡ questions.old.items) }
     ensures too_long { IfErr result (λ fault. fault ≡ FilesFault.TooLong Which.AsksFile →
@@ -84,7 +84,7 @@ fn read_ask<A: Read + Drop>(
         Err(fault) => return Err(FilesFault::of_text(Which::AsksFile, fault)),
     }
     let fields = lend_fields(alloc, fields)?;
-    match read_question(alloc, schema, grammar, &fields) {
+    match read_question(alloc, vocabulary, grammar, &fields) {
         Ok(question) => match questions.push(question) {
             Ok(()) => Ok(BatchEnd::More),
             Err(_) => Err(FilesFault::NoMemory),

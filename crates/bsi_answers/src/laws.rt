@@ -1,12 +1,17 @@
-//! Laws of runs over row files: no line depends on how the rows of the files mix, and known bytes have one list of
-//! lines. Each is the contract of a function that does nothing, so that it is checked as any contract is.
+//! Laws of runs over row files: no line depends on how the rows of the files mix, known bytes have one list of lines, and
+//! a reply in whole numbers one line. Each is the contract of a function that does nothing, so that it is checked as any
+//! contract is.
 
-ghost use Rattle.std.specs.Prelude.{◌≡◌, ℕ, List, map};
+ghost use Rattle.std.specs.Prelude.{◌≡◌, ◌↔◌, ℕ, List, map};
+ghost use Rattle.bsi_syntax.specs.Notations.{whole_texts};
 ghost use Rattle.bsi_syntax.specs.Numbers.{Field};
 ghost use Rattle.bsi_schema.specs.Columns.{Declared};
 ghost use Rattle.bsi_rows.specs.Rows.{SourcedRow};
+ghost use Rattle.bsi_rows.specs.declared.question.Question.{Question};
+ghost use Rattle.bsi_aggregates.specs.declared.answering.QuestionReply.{QuestionReply};
 ghost use Rattle.bsi_input.specs.Pasts.{FindMemory};
 ghost use Rattle.bsi_answers.specs.Mixes.{file_by_file, HaveSameFeederRows, IsInterleavingOf};
+ghost use Rattle.bsi_answers.specs.ReplyLines.{question_reply_line, IsReplyLine};
 ghost use Rattle.bsi_answers.specs.RowFiles.{FedCounts, RowFile};
 ghost use Rattle.bsi_answers.specs.Runs.{AreLines, IsRun};
 
@@ -26,4 +31,10 @@ pub fn determined()
     ensures { (declared : List ℕ) → (texts : List (List ℕ)) → (records : List (List Field)) →
         (a b : List (List ℕ)) → IsRun declared texts records a → IsRun declared texts records b →
         FindMemory a → FindMemory b → a ≡ b }
+{}
+
+/// States that a reply has just one line where numbers are written as whole numbers, and which.
+pub fn whole_numbers_have_one_line()
+    ensures { (feeders : List ℕ) → (asked : Question) → (reply : QuestionReply) → (line : List ℕ) →
+        IsReplyLine whole_texts feeders asked reply line ↔ (line ≡ question_reply_line feeders reply) }
 {}

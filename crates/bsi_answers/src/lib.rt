@@ -11,7 +11,7 @@ pub mod laws;
 mod parallel;
 mod reply_lines;
 
-pub use answering::{answer_all, answer_asks};
+pub use answering::{answer_all, answer_asks, answer_plain_asks};
 pub use bsi_syntax::Grammar;
 pub use faults::{FaultText, FilesFault, MAX_FAULT_TEXT, Which};
 pub use fed::{Fed, file_number};

@@ -1,6 +1,6 @@
 //! Reads dates as days since 1970-01-01, in the order and with the sign of a form (`DateForm`), and writes them.
 
-ghost use Rattle.std.specs.Prelude.{◌≡◌, ◌++◌, ℤ, pos, ◌≤ℤ◌, Some, OnOk, IfSome, option_and_then};
+ghost use Rattle.std.specs.Prelude.{◌≡◌, ◌↔◌, ◌++◌, ℤ, pos, ◌≤ℤ◌, Some, OnOk, IfSome, IsTrue, option_and_then};
 ghost use Rattle.jiff_core.specs.Calendar.{IsEpochDay};
 ghost use Rattle.jiff_core.specs.Date.{epoch_day};
 ghost use Rattle.jiff_core.specs.declared.civil.date.Date.{Date};
@@ -63,6 +63,13 @@ fn read_ymd(year: &[u8], month: &[u8], day: &[u8]) -> Option<i64>
     let day = read_short_number(1, 2, day)?;
     let date = Date::new(year as i16, month as i8, day as i8).ok()?;
     Some(i64::from(date.to_unix_epoch_day()))
+}
+
+/// Returns whether the calendar has a day: its years are -9999 to 9999.
+pub(crate) fn has_day(day: i64) -> bool
+    ensures { IsTrue result ↔ IsEpochDay day }
+{
+    Date::from_unix_epoch_day(day).is_ok()
 }
 
 /// Appends the date of a day, or a prefix of it.

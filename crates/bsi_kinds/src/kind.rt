@@ -8,11 +8,11 @@ ghost use Rattle.bsi_kinds.specs.Kinds.{value_of, ComparesValues, IsKind, IsNumb
 use crate::NoMemory;
 use crate::boolean::{BooleanForm, read_boolean, write_boolean};
 use crate::comparison::Comparison;
-use crate::date::{DateForm, read_date, write_date};
+use crate::date::{DateForm, has_day, read_date, write_date};
 use crate::decimal::{compare_decimal, read_decimal};
 use crate::decimal_text::write_decimal;
 use crate::dictionary::Dictionary;
-use crate::time::{TimeForm, compare_time, read_time};
+use crate::time::{TimeForm, compare_time, has_day_of, read_time};
 use crate::time_text::write_time;
 use bsi_digits::Op;
 
@@ -79,6 +79,19 @@ impl Kind {
             (Kind::Boolean(own), Kind::Boolean(others)) => own.is_same(others),
             (Kind::Text(own), Kind::Text(others)) => own.is_same(others),
             _ => false,
+        }
+    }
+
+    /// Returns whether a number stands for some value of the kind.
+    pub fn has_value(&self, number: i64) -> bool
+        ensures { IsTrue result ↔ IsNumber self.now number }
+    {
+        match self {
+            Kind::Decimal(_) => true,
+            Kind::Date(_) => has_day(number),
+            Kind::Time(form) => has_day_of(form.unit, number),
+            Kind::Boolean(_) => number == 0 || number == 1,
+            Kind::Text(texts) => number >= 0 && (number as usize) < texts.len(),
         }
     }
 

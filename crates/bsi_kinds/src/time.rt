@@ -1,7 +1,7 @@
 //! Reads fields as units since 1970-01-01T00:00:00 (`read_time`), and brings comparisons with times down to comparisons
 //! of such units (`compare_time`).
 
-ghost use Rattle.std.specs.Prelude.{◌≡◌, ℤ, pos, ◌<ℤ◌, ◌≤ℤ◌, ◌≤◌, ◌^◌, ◌↔◌, None, option_map, MatchOption, IfNone, IfSome, IsTrue};
+ghost use Rattle.std.specs.Prelude.{◌≡◌, ℤ, pos, ◌<ℤ◌, ◌≤ℤ◌, ◌≤◌, ◌*◌, ◌^◌, ◌↔◌, None, option_map, MatchOption, IfNone, IfSome, IsTrue};
 ghost use Rattle.std.specs.Int.{int_div_euclid};
 ghost use Rattle.std.specs.List.{before_first, position};
 ghost use Rattle.jiff_core.specs.Calendar.{IsEpochDay, IsWithin};
@@ -13,7 +13,7 @@ ghost use Rattle.bsi_kinds.specs.Times.{first_at, from_first, is_clock_sign, is_
 
 use crate::clock::{ScannedTime, read_offset, scan_clock, whole_seconds};
 use crate::comparison::{Comparison, bring_down};
-use crate::date::{DateForm, read_date};
+use crate::date::{DateForm, has_day, read_date};
 use bsi_digits::Op;
 use jiff_core::civil::Date;
 
@@ -56,6 +56,18 @@ impl TimeUnit {
             TimeUnit::Seconds => 1,
             TimeUnit::Milliseconds => 1_000,
             TimeUnit::Microseconds => 1_000_000,
+        }
+    }
+
+    /// Returns how many units a day has.
+    fn per_day(self) -> i64
+        ensures units { result ≡ pos (86400 * 10 ^ unit_places self) }
+        ensures some { pos 0 <ℤ result }
+    {
+        match self {
+            TimeUnit::Seconds => 86_400,
+            TimeUnit::Milliseconds => 86_400_000,
+            TimeUnit::Microseconds => 86_400_000_000,
         }
     }
 }
@@ -110,6 +122,13 @@ fn has_date(seconds: i64) -> bool
     ensures test { result ≡ is_epoch_day (int_div_euclid seconds (pos 86400)) }
 {
     Date::from_unix_epoch_day(seconds.div_euclid(DAY)).is_ok()
+}
+
+/// Returns whether the calendar has the day of a number of units.
+pub(crate) fn has_day_of(unit: TimeUnit, number: i64) -> bool
+    ensures { IsTrue result ↔ IsTimeNumber unit number }
+{
+    has_day(number.div_euclid(unit.per_day()))
 }
 
 /// Returns how many units have begun at a time.

@@ -1,9 +1,12 @@
 -- What the fields of a row file and the constants of a question mean in a column of a kind; whether the values of two
 -- kinds are the same, and whether numbers may be summed.
-use Rattle.std.specs.Prelude.{◌≡◌, ℕ, Bool, true, false, not, ◌&&◌, ◌||◌, ◌==◌, List, length, Option, Some, None, ℤ}
+use Rattle.std.specs.Prelude.{◌≡◌, ℕ, Bool, true, false, not, ◌&&◌, ◌||◌, ◌==◌, if◌then◌else◌, length, Option, Some, None, ℤ}
+use Rattle.std.specs.Cmp.Lexicographic.{pointwise}
+use Rattle.std.specs.Str.{bytes_eq}
 use Rattle.bsi_kinds.specs.Decimals.{Field}
 use Rattle.bsi_kinds.specs.Kinds.{value_of, IsSpelled, Value}
 use Rattle.bsi_kinds.specs.Nulls.{is_null_word}
+use Rattle.bsi_kinds.specs.Times.{unit_places}
 use Rattle.bsi_kinds.specs.declared.date.DateForm.{DateForm}
 use Rattle.bsi_kinds.specs.declared.date.DateOrder.TheVariants.{YearFirst}
 use Rattle.bsi_kinds.specs.declared.kind.Kind.{Kind}
@@ -51,6 +54,15 @@ HaveSameValues (Time f) (Time g) = (f.unit ≡ g.unit) × (f.utc ≡ g.utc)
 HaveSameValues (Boolean f) (Boolean g) = Unit {0}
 HaveSameValues (Text a) (Text b) = a ≡ b
 HaveSameValues first second = ⊥
+
+-- The same as a test.
+abbrev pub have_same_values : Kind → Kind → Bool
+have_same_values (Decimal p) (Decimal q) = p == q
+have_same_values (Date f) (Date g) = true
+have_same_values (Time f) (Time g) = (unit_places f.unit == unit_places g.unit) && (if f.utc then g.utc else not g.utc)
+have_same_values (Boolean f) (Boolean g) = true
+have_same_values (Text a) (Text b) = pointwise bytes_eq a b
+have_same_values first second = false
 
 -- The numbers of the kind can be summed.
 abbrev pub is_summed : Kind → Bool

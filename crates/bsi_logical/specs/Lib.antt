@@ -1,3 +1,4 @@
+pub mod AnswerTexts
 pub mod Dialects
 pub mod Entries
 pub mod Logical

@@ -8,6 +8,7 @@ mod format;
 mod kind_words;
 mod logical;
 mod logical_text;
+mod notation;
 mod refusal;
 mod vocabulary;
 

@@ -1,4 +1,5 @@
-//! What the words of questions mean in a logical schema: columns by titles and names, and constants of their kinds.
+//! What the words of questions mean in a logical schema: columns by titles and names, and constants of their kinds; and
+//! which columns may be summed, or compared with each other, by their kinds.
 
 ghost use Rattle.bsi_logical.specs.Meanings.{logical_vocabulary};
 
@@ -23,6 +24,18 @@ impl Vocabulary for LogicalSchema {
         }
         let lowered = self.compare(c, op, constant)?;
         Some((lowered.op, lowered.number))
+    }
+
+    fn may_sum(&self, c: u32) -> bool {
+        c < self.schema().columns() && self.is_summed(c)
+    }
+
+    fn may_compare(&self, first: u32, second: u32) -> bool {
+        let columns = self.schema().columns();
+        if first >= columns {
+            return false;
+        }
+        second < columns && self.are_alike(first, second)
     }
 
     fn know_names(&self) {}

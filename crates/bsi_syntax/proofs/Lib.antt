@@ -1,4 +1,5 @@
 mod Adding
+pub mod Appended
 mod Asking
 mod ColumnRecords
 mod Digits

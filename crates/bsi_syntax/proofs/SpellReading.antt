@@ -10,13 +10,13 @@ use Rattle.bsi_syntax.specs.declared.predicates.Pending.{Pending}
 use Rattle.bsi_syntax.specs.declared.predicates.Pending.TheVariants.{Nothing, Column, Comparison}
 use Rattle.bsi_syntax.specs.Numbers.{Field}
 use Rattle.bsi_syntax.specs.Vocabularies.{NameNoWord, Words}
-use Rattle.bsi_syntax.specs.Postfix.{after_field, after_fields, after_name, after_sign, after_word, begun, joined, joint, negated, newest_first, nowhere, only_of, op_of, plain, ready, IsState, State}
+use Rattle.bsi_syntax.specs.Postfix.{after_field, after_fields, after_name, after_sign, after_word, alike_column, begun, joined, joint, negated, newest_first, nowhere, only_of, op_of, plain, ready, IsState, State}
 use Rattle.bsi_syntax.specs.Predicates.{IsPredicate, sign_of, Spells}
 use Rattle.bsi_syntax.specs.Reading.{IsParsedAs, IsReadAs}
 use Rattle.bsi_syntax.specs.declared.grammar.QuestionError.{QuestionError}
 use Rattle.bsi_syntax.specs.declared.grammar.QuestionError.TheVariants.{NoMemory, Stopped}
 use Rattle.bsi_syntax.proofs.Firsts.{refused_on, stopped_on}
-use Rattle.bsi_syntax.proofs.SpellWords.{if_same, mapped, name_leads, none_is_some, read_is_sign, sign_leads, some_same}
+use Rattle.bsi_syntax.proofs.SpellWords.{alike_is, if_same, is_alike, mapped, name_leads, none_is_some, read_is_sign, sign_leads, some_same}
 
 -- one more field
 field_leads : (words : Words) (field : Field) (rest : List Field) (pending next : Pending) (stack after : List Pred)
@@ -39,7 +39,7 @@ spelled_leads words (Compare c op n) fields rest stack named spelled =
     let sign = spelled.2 in
     let number : after_field words (Comparison c sign) stack spelled.1 ≡ Some (Nothing, Compare c op n ∷ stack) =
     ap (λ (found : Option (Op × ℤ)). option_or (option_map (λ (compared : Op × ℤ). (Nothing, Compare c compared.0 compared.1 ∷ stack)) found)
-    (option_map (λ other. (Nothing, Columns c sign other ∷ stack)) (words.column spelled.1))) spelled.5 in
+    (option_map (λ other. (Nothing, Columns c sign other ∷ stack)) (alike_column words c spelled.1))) spelled.5 in
     ap (λ f. after_fields words (f ++ rest) Nothing stack) spelled.3
     ∙ field_leads words spelled.0 (sign_of sign ∷ spelled.1 ∷ rest) Nothing (Column c) stack stack (name_leads words spelled.0 c stack named spelled.4)
     ∙ field_leads words (sign_of sign) (spelled.1 ∷ rest) (Column c) (Comparison c sign) stack stack (sign_leads sign c stack)
@@ -47,7 +47,7 @@ spelled_leads words (Compare c op n) fields rest stack named spelled =
 spelled_leads words (Columns a op b) fields rest stack named spelled =
     let other : after_field words (Comparison a op) stack spelled.1 ≡ Some (Nothing, Columns a op b ∷ stack) =
     ap₂ (λ (compared : Option (Op × ℤ)) (index : Option ℕ). option_or (option_map (λ (found : Op × ℤ). (Nothing, Compare a found.0 found.1 ∷ stack)) compared)
-    (option_map (λ other. (Nothing, Columns a op other ∷ stack)) index)) spelled.4 spelled.5 in
+    (option_map (λ other. (Nothing, Columns a op other ∷ stack)) index)) spelled.4 (alike_is words a spelled.1 b spelled.5 spelled.6) in
     ap (λ f. after_fields words (f ++ rest) Nothing stack) spelled.2
     ∙ field_leads words spelled.0 (sign_of op ∷ spelled.1 ∷ rest) Nothing (Column a) stack stack (name_leads words spelled.0 a stack named spelled.3)
     ∙ field_leads words (sign_of op) (spelled.1 ∷ rest) (Column a) (Comparison a op) stack stack (sign_leads op a stack)
@@ -156,15 +156,16 @@ number_read words fields c op stack field state read is = by (words.comparison c
     whole = ap (λ f. f ++ field ∷ []) read.2 ∙ append_assoc read.0 (read.1 ∷ sign_of op ∷ []) (field ∷ [])
 
     by : (found : Option (Op × ℤ)) → words.comparison c op field ≡ found
-        → option_or (option_map (λ (compared : Op × ℤ). (Nothing, Compare c compared.0 compared.1 ∷ stack)) found) (option_map (λ other. (Nothing, Columns c op other ∷ stack)) (words.column field)) ≡ Some state
+        → option_or (option_map (λ (compared : Op × ℤ). (Nothing, Compare c compared.0 compared.1 ∷ stack)) found) (option_map (λ other. (Nothing, Columns c op other ∷ stack)) (alike_column words c field)) ≡ Some state
         → AreRead words (fields ++ field ∷ []) state.0 state.1
     by (Some compared) number found =
         reached words (fields ++ field ∷ []) Nothing (Compare c compared.0 compared.1 ∷ stack) state found
         (read.0, read.1 ∷ sign_of op ∷ field ∷ [], whole, read.4, (read.1, field, op, refl, read.3, number))
     by None none is =
-        mapped (λ other. (Nothing, Columns c op other ∷ stack)) (words.column field) state is λ other index found.
+        mapped (λ other. (Nothing, Columns c op other ∷ stack)) (alike_column words c field) state is λ other index found.
+        let alike = is_alike words c field other index in
         reached words (fields ++ field ∷ []) Nothing (Columns c op other ∷ stack) state found
-        (read.0, read.1 ∷ sign_of op ∷ field ∷ [], whole, read.4, (read.1, field, refl, read.3, none, index))
+        (read.0, read.1 ∷ sign_of op ∷ field ∷ [], whole, read.4, (read.1, field, refl, read.3, none, alike.0, alike.1))
 
 field_read : (words : Words) (fields : List Field) (pending : Pending) (stack : List Pred) (field : Field) (state : State) → AreRead words fields pending stack
     → after_field words pending stack field ≡ Some state → AreRead words (fields ++ field ∷ []) state.0 state.1

@@ -1,5 +1,5 @@
 -- Words, names and signs are distinguished.
-use Rattle.std.proofs.Common.{◌≡◌, ℕ, Bool, true, false, ◌||◌, not, ◌&&◌, if◌then◌else◌, List, length, get_or, Option, Some, None, option_map, nat_le, ap, ◌∙◌, refl, codes}
+use Rattle.std.proofs.Common.{◌≡◌, ℕ, Bool, true, false, ◌||◌, not, ◌&&◌, if◌then◌else◌, List, length, get_or, Option, Some, None, option_and_then, option_map, nat_le, ap, sym, ◌∙◌, refl, codes}
 use Rattle.std.specs.Str.{bytes_eq}
 use Rattle.std.specs.List.{list_all}
 use Rattle.std.proofs.lemmas.Slice.Eq.{bytes_eq-Decides}
@@ -12,7 +12,7 @@ use Rattle.bsi_schema.specs.Names.{begins_lower, is_name, is_name_byte, is_word}
 use Rattle.bsi_rows.specs.declared.query.Pred.{Pred}
 use Rattle.bsi_syntax.specs.declared.predicates.Pending.TheVariants.{Column, Comparison}
 use Rattle.bsi_syntax.specs.Numbers.{Field}
-use Rattle.bsi_syntax.specs.Postfix.{after_name, after_word, op_of}
+use Rattle.bsi_syntax.specs.Postfix.{after_name, after_word, alike_column, op_of}
 use Rattle.bsi_syntax.specs.Predicates.{sign_of}
 use Rattle.bsi_syntax.specs.Vocabularies.{schema_vocabulary, NameNoWord, Words}
 
@@ -65,6 +65,24 @@ no_word columns name c named at =
 
 pub schema_names : (schema : Declared) → AreNamed schema.columns → NameNoWord (schema_vocabulary schema)
 schema_names schema named name c at = no_word schema.columns name c named at
+
+-- a column that may be compared with another
+pub alike_is : (words : Words) (c : ℕ) (name : Field) (other : ℕ) → words.column name ≡ Some other → words.alike c other ≡ true → alike_column words c name ≡ Some other
+alike_is words c name other at alike = rw (at, alike) refl
+
+pub is_alike : (words : Words) (c : ℕ) (name : Field) (other : ℕ) → alike_column words c name ≡ Some other → (words.column name ≡ Some other) × (words.alike c other ≡ true)
+is_alike words c name other is = by (words.column name) refl is
+  where
+    by : (found : Option ℕ) → words.column name ≡ found → option_and_then (λ k. if words.alike c k then Some k else None) found ≡ Some other
+        → (words.column name ≡ Some other) × (words.alike c other ≡ true)
+    by None at is = absurd (none_is_some other is)
+    by (Some k) at is = way (words.alike c k) refl is
+      where
+        way : (b : Bool) → words.alike c k ≡ b → (if b then Some k else None) ≡ Some other → (words.column name ≡ Some other) × (words.alike c other ≡ true)
+        way false apart is = absurd (none_is_some other is)
+        way true alike is =
+            let same : k ≡ other = some_same k other is in
+            (at ∙ is, ap (words.alike c) (sym same) ∙ alike)
 
 -- so it leads to a column
 pub name_leads : (words : Words) (name : Field) (c : ℕ) (stack : List Pred) → NameNoWord words → words.column name ≡ Some c

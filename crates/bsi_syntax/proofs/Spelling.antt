@@ -1,5 +1,5 @@
 -- Which queries and predicates fields spell.
-use Rattle.std.proofs.Common.{◌≡◌, true≢false, true, ◌⊎◌, nat_le, codes, if◌then◌else◌, option_map, inl, inr, ℕ, false, not, ◌&&◌, ◌||◌, List, [], ◌∷◌, ◌++◌, length, Option, Some, None, MatchOption, ap, ap₂, sym, ◌∙◌, refl, subst, arith}
+use Rattle.std.proofs.Common.{◌≡◌, true≢false, true, ◌⊎◌, nat_le, codes, if◌then◌else◌, option_and_then, inl, inr, ℕ, Bool, false, not, ◌&&◌, ◌||◌, List, [], ◌∷◌, ◌++◌, length, Option, Some, None, MatchOption, ap, ap₂, sym, ◌∙◌, refl, subst, arith}
 use Rattle.std.specs.Option.{option_or}
 use Rattle.std.specs.Str.{bytes_eq}
 use Rattle.std.proofs.lemmas.Bool.{cases_Bool, cases_lt}
@@ -16,7 +16,7 @@ use Rattle.bsi_rows.specs.declared.query.Total.{Total}
 use Rattle.bsi_rows.specs.declared.query.Total.TheVariants.{Count, Sum, Least, Greatest, Median, Rows}
 use Rattle.bsi_syntax.specs.declared.predicates.Pending.{Pending}
 use Rattle.bsi_syntax.specs.declared.predicates.Pending.TheVariants.{Nothing, Column, Comparison}
-use Rattle.bsi_syntax.specs.Events.{column_total, total_of, total_of_column, IsQuery}
+use Rattle.bsi_syntax.specs.Events.{checked_total, column_total, total_of, total_of_column, IsQuery}
 use Rattle.bsi_syntax.specs.Numbers.{Field}
 use Rattle.bsi_syntax.specs.Postfix.{after_fields, begun, plain, ready, State}
 use Rattle.bsi_syntax.specs.Predicates.{compares_columns, IsPlainPredicate, IsPredicate, Spells}
@@ -202,13 +202,26 @@ makes_one word makes c is =
     if_same word (codes "median") (Some Median) _ (Some makes) is (λ _ at. ap (λ (m : ℕ → Total). columns_of_total (m c)) (sym (some_same Median makes at))) λ is.
     absurd (none_is_some makes is)
 
+-- a total that may be asked is the one that was asked
+pub checked_same : (words : Words) (asked total : Total) → checked_total words asked ≡ Some total → total ≡ asked
+checked_same words (Sum c) total is = by (words.sums c) is
+  where
+    by : (b : Bool) → (if b then Some (Sum c) else None) ≡ Some total → total ≡ Sum c
+    by true is = sym (some_same (Sum c) total is)
+    by false is = absurd (none_is_some total is)
+checked_same words asked total is = sym (some_same asked total is)
+
 column_total_there : (schema : Declared) (word : Field) (rest : List Field) (found : Total × List Field) → column_total (schema_vocabulary schema) word rest ≡ Some found
     → missing_of (length schema.columns) (columns_of_total found.0) ≡ None
 column_total_there schema word [] found is = absurd (none_is_some found is)
 column_total_there schema word (name ∷ rest) found is =
-    option_and_then_some (λ (makes : ℕ → Total). option_map (λ c. with rest (makes c)) (position_of schema.columns name)) (total_of_column word) found is λ makes word_is at.
-    mapped (λ c. with rest (makes c)) (position_of schema.columns name) found at λ c index is.
-    ap (λ (f : Total × List Field). missing_of (length schema.columns) (columns_of_total f.0)) (sym (some_same (with rest (makes c)) found is))
+    let words = schema_vocabulary schema in
+    let of_name : (ℕ → Total) → Option Total = λ makes. option_and_then (λ c. checked_total words (makes c)) (position_of schema.columns name) in
+    mapped (with rest) (option_and_then of_name (total_of_column word)) found is λ total asked is.
+    option_and_then_some of_name (total_of_column word) total asked λ makes word_is at.
+    option_and_then_some (λ c. checked_total words (makes c)) (position_of schema.columns name) total at λ c index checked.
+    ap (λ (f : Total × List Field). missing_of (length schema.columns) (columns_of_total f.0)) (sym (some_same (with rest total) found is))
+    ∙ ap (λ t. missing_of (length schema.columns) (columns_of_total t)) (checked_same words (makes c) total checked)
     ∙ ap (missing_of (length schema.columns)) (makes_one word makes c word_is) ∙ not_missing schema.columns name c index
 
 pub total_there : (schema : Declared) (fields : List Field) (found : Total × List Field) → total_of (schema_vocabulary schema) fields ≡ Some found

@@ -20,13 +20,23 @@ total_of_column word =
     else (if bytes_eq word (codes "median") then Some Median
     else None)))
 
+-- The total, unless it is a sum of numbers that may not be summed.
+abbrev pub checked_total : Words → Total → Option Total
+checked_total words (Sum c) = if words.sums c then Some (Sum c) else None
+checked_total words total = Some total
+
+-- The total that a word asks for, of the column of a name.
+abbrev pub named_total : Words → Field → Field → Option Total
+named_total words word name =
+    option_and_then (λ total. option_and_then (λ c. checked_total words (total c)) (words.column name))
+    (total_of_column word)
+
 -- The total of a column that a record asks for, by its first word and the fields after the word.
 -- The fields of the predicate follow the column's name.
 abbrev pub column_total : Words → Field → List Field → Option (Total × List Field)
 column_total words word [] = None
 column_total words word (name ∷ rest) =
-    option_and_then (λ total. option_map (λ c. (total c, rest)) (words.column name))
-    (total_of_column word)
+    option_map (λ total. (total, rest)) (named_total words word name)
 
 -- The total that a record asks for, and the fields of its predicate.
 abbrev pub total_of : Words → List Field → Option (Total × List Field)

@@ -1,6 +1,7 @@
 pub mod Bytes
 pub mod Events
 pub mod Lines
+pub mod Notations
 pub mod Numbers
 pub mod Postfix
 pub mod Predicates

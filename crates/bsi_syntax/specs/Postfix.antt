@@ -99,11 +99,16 @@ after_name c stack field =
     if bytes_eq field (codes "null") then ready (Null c ∷ stack)
     else option_map (λ op. (Comparison c op, stack)) (op_of field)
 
--- The state after the field that follows a sign: a constant, or else a column's name.
+-- The column of a name, if it may be compared with column c.
+abbrev pub alike_column : Words → ℕ → Field → Option ℕ
+alike_column words c name =
+    option_and_then (λ other. if words.alike c other then Some other else None) (words.column name)
+
+-- The state after the field that follows a sign: a constant, or else the name of a column that may be compared.
 abbrev pub after_sign : Words → ℕ → Op → List Pred → Field → Option State
 after_sign words c op stack field =
     option_or (option_map (λ (other, n). (Nothing, Compare c other n ∷ stack)) (words.comparison c op field))
-    (option_map (λ other. (Nothing, Columns c op other ∷ stack)) (words.column field))
+    (option_map (λ other. (Nothing, Columns c op other ∷ stack)) (alike_column words c field))
 
 -- The state after one more field, or none if the fields are the start of no predicate.
 abbrev pub after_field : Words → Pending → List Pred → Field → Option State

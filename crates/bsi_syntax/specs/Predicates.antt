@@ -23,10 +23,10 @@ Spells words fields All = fields ≡ codes "all" ∷ []
 Spells words fields (Compare c op n) =
     (name constant : Field) × (sign : Op) × (fields ≡ name ∷ sign_of sign ∷ constant ∷ []) × (words.column name ≡ Some c)
     × (words.comparison c sign constant ≡ Some (op, n))
--- A name that is no constant.
+-- A name that is no constant, of a column that may be compared with the first.
 Spells words fields (Columns a op b) =
     (first second : Field) × (fields ≡ first ∷ sign_of op ∷ second ∷ []) × (words.column first ≡ Some a)
-    × (words.comparison a op second ≡ None) × (words.column second ≡ Some b)
+    × (words.comparison a op second ≡ None) × (words.column second ≡ Some b) × (words.alike a b ≡ true)
 Spells words fields (Null c) =
     (name : Field) × (fields ≡ name ∷ codes "null" ∷ []) × (words.column name ≡ Some c)
 Spells words fields (Both' p first q second) =

@@ -31,8 +31,10 @@ pub enum Expected {
     Predicate,
     /// `null`, or the sign of a comparison.
     Comparison,
-    /// What a column is compared with: a constant, or in an index the name of a column.
+    /// What a column is compared with: a constant, or in an index the name of a column that may be compared with it.
     Compared,
+    /// The name of a column whose numbers may be summed.
+    Summed,
     /// A word that joins two of the predicates that stand side by side in front of it, so many.
     Joint(usize),
     /// Nothing, since a predicate has at most 1,000 fields.

@@ -6,7 +6,7 @@
 //! against a parse (`specs/Postfix.antt`) that no public contract names.
 
 ghost use Rattle.std.specs.Prelude.{◌≡◌, IfOk};
-ghost use Rattle.bsi_syntax.specs.Postfix.{after_field, after_fields, after_name, after_sign, after_word, joined, negated, newest_first, only_of, op_of, plain_of, state_of, IsState};
+ghost use Rattle.bsi_syntax.specs.Postfix.{after_field, after_fields, after_name, alike_column, after_sign, after_word, joined, negated, newest_first, only_of, op_of, plain_of, state_of, IsState};
 ghost use Rattle.bsi_syntax.specs.Predicates.{compares_columns, IsPlainPredicate, IsPredicate};
 ghost use Rattle.bsi_syntax.specs.Questions.{IsPredicateIn};
 ghost use Rattle.bsi_syntax.specs.Reading.{texts, IsParsedAs};
@@ -187,7 +187,8 @@ fn read_after_name(c: u32, field: &[u8], stack: &mut Vec<Pred>) -> Result<Option
     Ok(read_op(field).map(|op| Pending::Comparison(c, op)))
 }
 
-/// Reads the constant that column `c` is compared with or, if the field is none, the name of another column.
+/// Reads the constant that column `c` is compared with or, if the field is none, the name of a column that may be
+/// compared with it.
 fn read_after_sign<V: Vocabulary>(
     vocabulary: &V,
     c: u32,
@@ -200,13 +201,25 @@ fn read_after_sign<V: Vocabulary>(
 {
     let pred = match vocabulary.read_comparison(c, op, field) {
         Some((op, n)) => Pred::Compare(c, op, n),
-        None => match vocabulary.find_column(field) {
+        None => match find_alike(vocabulary, c, field) {
             Some(other) => Pred::Columns(c, op, other),
             None => return Ok(None),
         },
     };
     stack.push(pred)?;
     Ok(Some(Pending::Nothing))
+}
+
+/// Returns the column of this name, if it may be compared with column `c`.
+fn find_alike<V: Vocabulary>(vocabulary: &V, c: u32, name: &[u8]) -> Option<u32>
+    ensures { result ≡ alike_column (V.words vocabulary.now) c name.now }
+{
+    let other = vocabulary.find_column(name)?;
+    if vocabulary.may_compare(c, other) {
+        Some(other)
+    } else {
+        None
+    }
 }
 
 /// Reads the sign of a comparison.

@@ -2,7 +2,7 @@
 
 ghost use Rattle.std.specs.Prelude.{◌≡◌, option_map, IfOk};
 ghost use Rattle.csv.specs.Records.{fields_of};
-ghost use Rattle.bsi_syntax.specs.Events.{total_of, total_of_column, IsQuery};
+ghost use Rattle.bsi_syntax.specs.Events.{checked_total, total_of, total_of_column, IsQuery};
 ghost use Rattle.bsi_syntax.specs.Questions.{asked_total, rank_total, total_by, total_in, IsQueryIn};
 ghost use Rattle.bsi_syntax.specs.Reading.{texts, was_read, IsParsedAs, IsReadAs};
 
@@ -109,8 +109,32 @@ fn read_script_total<'f, V: Vocabulary>(
     let Some(total) = read_column_total(word) else {
         return Err(Stop::before(fields, Expected::Total));
     };
-    let (c, rest) = read_column(vocabulary, rest)?;
-    Ok((total.of(c), rest))
+    let (c, behind) = read_column(vocabulary, rest)?;
+    match check_total(vocabulary, total.of(c)) {
+        Some(total) => Ok((total, behind)),
+        None => Err(Stop::before(rest, Expected::Summed)),
+    }
+}
+
+/// Returns the total, unless it is a sum of a column whose numbers may not be summed.
+fn check_total<V: Vocabulary>(vocabulary: &V, total: Total) -> Option<Total>
+    ensures { result ≡ checked_total (V.words vocabulary.now) total }
+{
+    match total {
+        Total::Sum(c) => {
+            if vocabulary.may_sum(c) {
+                Some(total)
+            } else {
+                None
+            }
+        }
+        Total::Count
+        | Total::Least(_)
+        | Total::Greatest(_)
+        | Total::Median(_)
+        | Total::Rank(_, _)
+        | Total::Rows => Some(total),
+    }
 }
 
 /// The total of a column, whichever that is.

@@ -1,5 +1,5 @@
 //! The trait of what the words of questions stand for (`Vocabulary`): columns by their names, and comparisons by their
-//! constants.
+//! constants; and of which columns may be summed, or compared with each other.
 
 ghost use Rattle.std.specs.Prelude.{◌≡◌};
 ghost use Rattle.bsi_syntax.specs.Vocabularies.{schema_vocabulary, NameNoWord, Words};
@@ -21,6 +21,14 @@ pub trait Vocabulary {
     fn read_comparison(&self, c: u32, op: Op, constant: &[u8]) -> Option<(Op, i128)>
         ensures { result ≡ (words self.now).comparison c op constant.now };
 
+    /// Returns whether the numbers of column `c` may be summed.
+    fn may_sum(&self, c: u32) -> bool
+        ensures { result ≡ (words self.now).sums c };
+
+    /// Returns whether the numbers of two columns may be compared with each other.
+    fn may_compare(&self, first: u32, second: u32) -> bool
+        ensures { result ≡ (words self.now).alike first second };
+
     /// Does nothing when the program runs. Its clause says that no word of a predicate is the name of a column.
     fn know_names(&self)
         ensures { NameNoWord (words self.now) };
@@ -35,6 +43,14 @@ impl Vocabulary for Schema {
 
     fn read_comparison(&self, _c: u32, op: Op, constant: &[u8]) -> Option<(Op, i128)> {
         Some((op, read_whole_number(self.signed(), constant)?))
+    }
+
+    fn may_sum(&self, _c: u32) -> bool {
+        true
+    }
+
+    fn may_compare(&self, _first: u32, _second: u32) -> bool {
+        true
     }
 
     fn know_names(&self) {

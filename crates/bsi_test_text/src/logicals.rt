@@ -6,6 +6,7 @@ use bsi_input::SourceFault;
 use bsi_logical::{
     Comparison, LogicalFault, LogicalSchema, NoMemory, Op, Refusal, describe_logical, read_logical,
 };
+use bsi_syntax::{Notation, Vocabulary};
 use std::alloc::Global;
 use std::test::Fail;
 
@@ -301,5 +302,89 @@ fn columns_compare_where_their_values_do(rt: HostRuntime) -> Result<(), Fail> {
     assert!(rt; like.are_alike(0, 0) && like.are_alike(2, 3));
     assert!(rt; !like.are_alike(0, 1) && !like.are_alike(1, 2));
     assert!(rt; like.is_summed(0) && like.is_summed(1) && !like.is_summed(2));
+    assert!(rt; like.may_sum(1) && !like.may_sum(3) && !like.may_sum(4));
+    assert!(rt; like.may_compare(2, 3) && !like.may_compare(1, 2) && !like.may_compare(0, 4));
+    Ok(())
+}
+
+/// Numbers of columns of the sales, and how answers write them: values, or numbers that stand for none.
+const WRITTEN: [(&str, i128, &str); 13] = [
+    ("amount", 1_250, "12.50"),
+    ("amount", -5, "-0.05"),
+    (
+        "amount",
+        100_000_000_000_000_000_000,
+        "1000000000000000000.00",
+    ),
+    ("day", 20_484, "2026-01-31"),
+    ("day", 5_000_000, "5000000"),
+    ("station", 0, "Harbour"),
+    ("station", 1, "n/a"),
+    ("station", 2, "2"),
+    ("station", -1, "-1"),
+    ("paid", 0, "no"),
+    ("paid", 2, "2"),
+    ("seen", 1, "1970-01-01T00:00:00.001Z"),
+    ("pieces", 7, "7"),
+];
+
+/// The text of a column of texts, most of which answers write in quotes.
+const QUOTED: &str =
+    "column,t,slices,3\nkind,t,text\ntext,t,\" \"\ntext,t,\"a, b\"\ntext,t,a:b\ntext,t,a=b\n\
+    text,t,\"say \"\"a\"\"\"\ntext,t,plain\n";
+
+/// How answers write these texts.
+const IN_QUOTES: [&str; 6] = [
+    "\" \"",
+    "\"a, b\"",
+    "\"a:b\"",
+    "\"a=b\"",
+    "\"say \"\"a\"\"\"",
+    "plain",
+];
+
+// The text of a number of a column.
+fn text_of(
+    alloc: Global,
+    schema: &LogicalSchema,
+    c: u32,
+    number: i128,
+) -> Result<Vec<u8>, NoMemory> {
+    let mut line = Vec::new(alloc);
+    schema.write_number(c, number, &mut line)?;
+    Ok(line)
+}
+
+// Whether answers write the number of a column so. Where memory was refused, it is written again.
+fn writes(alloc: Global, schema: &LogicalSchema, name: &str, number: i128, want: &str) -> bool {
+    let Some(c) = schema.schema().find(name.as_bytes()) else {
+        return false;
+    };
+    let text = match text_of(alloc, schema, c, number) {
+        Err(_) => text_of(alloc, schema, c, number),
+        text => text,
+    };
+    match text {
+        Ok(text) => text.as_slice() == want.as_bytes(),
+        Err(_) => false,
+    }
+}
+
+#[test]
+fn answers_write_values(rt: HostRuntime) -> Result<(), Fail> {
+    let sales = read(rt.alloc(), whole(SALES.as_bytes()))?;
+    for (name, number, want) in WRITTEN {
+        assert!(rt;
+            writes(rt.alloc(), &sales, name, number, want),
+            "{name} {number}"
+        );
+    }
+    let quoted = read(rt.alloc(), whole(QUOTED.as_bytes()))?;
+    for (number, want) in IN_QUOTES.iter().enumerate() {
+        assert!(rt;
+            writes(rt.alloc(), &quoted, "t", number as i128, want),
+            "{want}"
+        );
+    }
     Ok(())
 }

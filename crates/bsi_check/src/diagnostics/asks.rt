@@ -79,6 +79,10 @@ fn why_no_field(
         Expected::Comparison => {
             format!(in alloc; "'{word}' is no comparison: =, !=, <, <=, > or >=")
         }
+        Expected::Summed => format!(in alloc; "the values of '{word}' have no sum"),
+        Expected::Compared if schema.find(text).is_some() => {
+            format!(in alloc; "the values of '{word}' are of another kind")
+        }
         Expected::Compared => format!(in alloc; "'{word}' is no whole number"),
         _ if text == b"not".as_slice() => {
             String::from_str(alloc, "'not' needs a predicate before it")

@@ -29,11 +29,11 @@ returns-clause-ok g c =
     let counts = map fed_counts c.args.fed.now in
     let before = g.W.Write.contents c.args.writer.now in
     let middle = g.W.Write.contents c.write_fed_lines.new.writer in
-    let after = g.W.Write.contents c.answer_asks.new.writer in
-    on_ok c.answer_asks.result
+    let after = g.W.Write.contents c.answer_plain_asks.new.writer in
+    on_ok c.answer_plain_asks.result
     (λ some. if_some_follows (g.A.Read.remaining c.args.asks) some
     (λ bytes all. headed_all schema c.args.table.now.rows counts bytes before middle after c.in_ok-write_fed_lines.ensures.ok all))
-    c.answer_asks.ensures.ok
+    c.answer_plain_asks.ensures.ok
 
 pub returns-clause-prefix : goal.returns-clause-prefix
 returns-clause-prefix g c =
@@ -41,8 +41,8 @@ returns-clause-prefix g c =
     let counts = map fed_counts c.args.fed.now in
     let before = g.W.Write.contents c.args.writer.now in
     let middle = g.W.Write.contents c.write_fed_lines.new.writer in
-    let after = g.W.Write.contents c.answer_asks.new.writer in
-    if_err c.answer_asks.result
+    let after = g.W.Write.contents c.answer_plain_asks.new.writer in
+    if_err c.answer_plain_asks.result
     (λ fault some. if_some_follows (g.A.Read.remaining c.args.asks) some
     (λ bytes prefix. headed_part schema c.args.table.now.rows counts bytes before middle after fault c.in_ok-write_fed_lines.ensures.ok prefix))
-    c.answer_asks.ensures.prefix
+    c.answer_plain_asks.ensures.prefix

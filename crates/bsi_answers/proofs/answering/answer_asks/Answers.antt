@@ -1,6 +1,6 @@
 use Rattle.std.proofs.Common.{◌≡◌, option_map, rules}
 use Rattle.csv.specs.Reading.{source_of, strip_bom}
-use Rattle.bsi_answers.specs.AskLines.{IsAskLine}
+use Rattle.bsi_answers.specs.AskLines.{IsAskLineBy}
 use Rattle.std.specs.List.{AllZip}
 use Rattle.bsi_answers.specs.Writing.{WritesAll, WritesFirst}
 use Rattle.bsi_answers.proofs.Passing.{from_known, if_err, on_ok}
@@ -14,7 +14,8 @@ returns-clause-ok g c =
     let is : source ≡ option_map strip_bom (g.A.Read.remaining c.args.asks) = search rules in
     on_ok c.answer_batches.result
     (from_known (g.A.Read.remaining c.args.asks) source
-    (λ bytes. WritesAll (AllZip (IsAskLine c.args.grammar c.args.table.now.schema c.args.table.now.rows)) bytes before after) is)
+    (λ bytes. WritesAll (AllZip (IsAskLineBy c.args.grammar (g.V.Vocabulary.words c.args.vocabulary.now) (g.V.Notation.number_texts c.args.vocabulary.now) c.args.table.now.schema
+    c.args.table.now.rows)) bytes before after) is)
     c.answer_batches.ensures.ok
 
 pub returns-clause-prefix : goal.returns-clause-prefix
@@ -25,5 +26,6 @@ returns-clause-prefix g c =
     let is : source ≡ option_map strip_bom (g.A.Read.remaining c.args.asks) = search rules in
     if_err c.answer_batches.result
     (λ fault. from_known (g.A.Read.remaining c.args.asks) source
-    (λ bytes. WritesFirst (AllZip (IsAskLine c.args.grammar c.args.table.now.schema c.args.table.now.rows)) bytes fault before after) is)
+    (λ bytes. WritesFirst (AllZip (IsAskLineBy c.args.grammar (g.V.Vocabulary.words c.args.vocabulary.now) (g.V.Notation.number_texts c.args.vocabulary.now) c.args.table.now.schema
+    c.args.table.now.rows)) bytes fault before after) is)
     c.answer_batches.ensures.prefix

@@ -22,7 +22,7 @@ pub returns-in_err-make_answer_line-clause-prefix : goal.returns-in_err-make_ans
 returns-in_err-make_answer_line-clause-prefix g c =
     let refused : IfErr c.from_residual.result (λ fault. fault ≡ NoMemory) = search rules in
     if_err c.from_residual.result
-    (written_part (IsQuestionLine c.args.table.now.schema c.args.table.now.rows) c.args.questions.now c.questions.question-index (g.W.Write.contents c.args.writer.now)
+    (written_part (IsQuestionLine (g.N.Notation.number_texts c.args.notation.now) c.args.table.now.schema c.args.table.now.rows) c.args.questions.now c.questions.question-index (g.W.Write.contents c.args.writer.now)
     (g.W.Write.contents c.questions.writer) (g.W.Write.contents c.questions.writer) c.questions.invariant.lines_so_far) refused
 
 -- and a first prefix of the next one
@@ -31,7 +31,7 @@ returns-in_err-write_bytes-clause-prefix g c =
     let cut : AppendsPrefix (g.W.Write.contents c.questions.writer) (g.W.Write.contents c.write_bytes.new.writer) c.make_answer_line.new.line.items = search rules in
     let failed : IfErr c.from_residual-in_err-write_bytes.result (λ fault. fault ≡ Write) = search rules in
     if_err c.from_residual-in_err-write_bytes.result
-    (λ fault is. written_cut (IsQuestionLine c.args.table.now.schema c.args.table.now.rows) c.args.questions.now c.questions.question-index (g.W.Write.contents c.args.writer.now)
+    (λ fault is. written_cut (IsQuestionLine (g.N.Notation.number_texts c.args.notation.now) c.args.table.now.schema c.args.table.now.rows) c.args.questions.now c.questions.question-index (g.W.Write.contents c.args.writer.now)
     (g.W.Write.contents c.questions.writer) (g.W.Write.contents c.write_bytes.new.writer) c.questions.invariant.lines_so_far c.question-item.result _ c.make_answer_line.new.line.items
     (omega arith) c.question-item.is c.in_ok-make_answer_line.ensures fault is cut) failed
 
@@ -40,7 +40,7 @@ pub questions-preserved : goal.questions-preserved
 questions-preserved g c =
     let written : Appends (g.W.Write.contents c.questions.writer) (g.W.Write.contents c.write_bytes.new.writer) c.make_answer_line.new.line.items = search rules in
     record {
-      lines_so_far = written_more (IsQuestionLine c.args.table.now.schema c.args.table.now.rows) c.args.questions.now c.questions.question-index (g.W.Write.contents c.args.writer.now)
+      lines_so_far = written_more (IsQuestionLine (g.N.Notation.number_texts c.args.notation.now) c.args.table.now.schema c.args.table.now.rows) c.args.questions.now c.questions.question-index (g.W.Write.contents c.args.writer.now)
           (g.W.Write.contents c.questions.writer) (g.W.Write.contents c.write_bytes.new.writer) c.questions.invariant.lines_so_far c.question-item.result _ c.make_answer_line.new.line.items
           (omega arith) c.question-item.is c.in_ok-make_answer_line.ensures written;
       left = next_left (IsQuestionReply c.args.table.now.schema c.args.table.now.rows) c.args.questions.now c.questions.question-index c.question-item.result _ (omega arith)

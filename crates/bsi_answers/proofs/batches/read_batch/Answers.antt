@@ -15,7 +15,7 @@ asks-init g c =
     let none : c.clear.new.self.items ≡ [] = search rules in
     record {
       going = c.requires.going;
-      given = given_none (λ w. g.A.Read.remaining w.inner) c.args.grammar c.args.schema.now c.args.records.now c.clear.new.self.items c.requires.few none;
+      given = given_none (λ w. g.A.Read.remaining w.inner) c.args.grammar (g.V.Vocabulary.words c.args.vocabulary.now) c.args.records.now c.clear.new.self.items c.requires.few none;
       many = rw none (omega arith);
     }
 
@@ -31,22 +31,22 @@ returns-in_err-batch_end-clause-stopped g c =
     (λ fault is long. record {
       at = c.asks.records.input;
       read_so_far = c.asks.records.read_so_far;
-      given = subst (λ questions. GaveQuestions (λ w. g.A.Read.remaining w.inner) c.args.grammar c.args.schema.now c.args.records.now questions c.asks.records.input c.asks.records.read_so_far)
+      given = subst (λ questions. GaveQuestions (λ w. g.A.Read.remaining w.inner) c.args.grammar (g.V.Vocabulary.words c.args.vocabulary.now) c.args.records.now questions c.asks.records.input c.asks.records.read_so_far)
           (sym is) c.asks.invariant.given;
       too_long = long;
     }) unchanged long
 
 pub returns-then-ne-clause-reads : goal.returns-then-ne-clause-reads
 returns-then-ne-clause-reads g c =
-    batch_of (λ w. g.A.Read.remaining w.inner) c.args.grammar c.args.schema.now c.args.records.now c.asks.records c.read_ask.new.records c.asks.questions.items
+    batch_of (λ w. g.A.Read.remaining w.inner) c.args.grammar (g.V.Vocabulary.words c.args.vocabulary.now) c.args.records.now c.asks.records c.read_ask.new.records c.asks.questions.items
     c.read_ask.new.questions.items c.in_ok-batch_end.batch_end c.asks.invariant.given c.in_ok-batch_end.ensures.reads
 
 pub asks-preserved : goal.asks-preserved
 asks-preserved g c =
     let same : c.in_ok-batch_end.batch_end ≡ More = search rules in
-    let reads = subst (λ batch_end. ReadsAsk (λ w. g.A.Read.remaining w.inner) c.args.grammar c.args.schema.now c.asks.records c.read_ask.new.records c.asks.questions.items
+    let reads = subst (λ batch_end. ReadsAsk (λ w. g.A.Read.remaining w.inner) c.args.grammar (g.V.Vocabulary.words c.args.vocabulary.now) c.asks.records c.read_ask.new.records c.asks.questions.items
     c.read_ask.new.questions.items batch_end) same c.in_ok-batch_end.ensures.reads in
-    let given = given_push (λ w. g.A.Read.remaining w.inner) c.args.grammar c.args.schema.now c.args.records.now c.asks.records c.read_ask.new.records c.asks.questions.items
+    let given = given_push (λ w. g.A.Read.remaining w.inner) c.args.grammar (g.V.Vocabulary.words c.args.vocabulary.now) c.args.records.now c.asks.records c.read_ask.new.records c.asks.questions.items
     c.read_ask.new.questions.items reads.0 c.asks.invariant.given reads.1 reads.2 in
     record {
       going = reads.2.going;

@@ -5,5 +5,5 @@ pub returns-clause-asked : goal.returns-clause-asked
 returns-clause-asked g c = record {
   table = table_of c.in_ok-opened.opened.index;
   saved = c.in_ok-opened.ensures.saved;
-  answered = c.in_ok-answer_asks.ensures.ok;
+  answered = c.in_ok-answer_plain_asks.ensures.ok;
 }
