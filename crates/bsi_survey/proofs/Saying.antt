@@ -1,10 +1,10 @@
 -- What the calls that make a schema change.
-use Rattle.std.proofs.Common.{◌≡◌, ℕ, ◌+◌, ◌<◌, Bool, true, false, not, ◌&&◌, ◌||◌, ◌==◌, if◌then◌else◌, List, Vec, Global, [], ◌∷◌, ◌++◌, length, get_or, map, set, Ok, Err, Result, OnOk, eqb-true, refl, sym, subst, ap, ap₂, ◌∙◌, IsTrue}
+use Rattle.std.proofs.Common.{◌≡◌, ℕ, ◌+◌, ◌<◌, Bool, true, false, not, ◌&&◌, ◌||◌, ◌==◌, if◌then◌else◌, List, Vec, Global, [], ◌∷◌, ◌++◌, length, map, set, Ok, Err, Result, OnOk, eqb-true, refl, sym, subst, ap, ap₂, ◌∙◌, IsTrue}
 use Rattle.std.proofs.lemmas.Bool.{and_parts}
 use Rattle.std.proofs.lemmas.List.{get_or-set_other, get_or-set_same, set-get_or}
 use Rattle.std.proofs.lemmas.List.Folds.{list_any-append}
 use Rattle.std.proofs.lemmas.Slice.Eq.{bytes_eq-Decides}
-use Rattle.std.specs.List.{list_any, Contains}
+use Rattle.std.specs.List.{Contains}
 use Rattle.std.specs.Str.{bytes_eq}
 use Rattle.bsi_kinds.specs.Decimals.{Field}
 use Rattle.bsi_kinds.specs.Nulls.{is_null_word}
@@ -34,8 +34,8 @@ other_of true why said new is = absurd (cc)
 other_of false why said new is = cc
 
 not_both : (b : Bool) → b ≡ true → b ≡ false → ⊥
-not_both true is no = absurd (cc)
-not_both false is no = absurd (cc)
+not_both true is other = absurd (cc)
+not_both false is other = absurd (cc)
 
 -- ---- the dialect
 

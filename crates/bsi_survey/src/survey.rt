@@ -147,10 +147,10 @@ impl Survey {
         if self.header.len() > MAX_COLUMNS as usize {
             return Err(SchemaRefusal::TooManyColumns);
         }
-        if let Some(c) = find_repeated(&self.header) {
-            return Err(SchemaRefusal::RepeatedField(c));
+        match find_repeated(&self.header) {
+            Some(c) => Err(SchemaRefusal::RepeatedField(c)),
+            None => self.make_titled(alloc),
         }
-        self.make_titled(alloc)
     }
 
     /// Makes the schema of the files, whose header has no two fields that are the same.
@@ -175,7 +175,8 @@ impl Survey {
         } = self;
         let decisions = decide_each(alloc, columns)?;
         let doubts = list_doubts(alloc, &header, &decisions)?;
-        let Some(columns) = list_columns(alloc, decisions)? else {
+        let listed = list_columns(alloc, decisions)?;
+        let Some(columns) = listed else {
             return Err(SchemaRefusal::Doubts(doubts));
         };
         make_logical(alloc, dialect, &header, columns)

@@ -24,8 +24,8 @@ returns-in-Err-Refused-NullDeclared-clause-null c =
     subst (λ (m : Logical). IsTrue (is_null_by m.nulls word)) (sym does.1) (null_was l word NullDeclared does.0)
 
 -- the others
-pub returns-in_default-clause-adds : goal.returns-in_default-clause-adds
-returns-in_default-clause-adds c = adds_done c.args.logical.now c.add_null.new.self c.args.word.now c.add_null.result c.add_null.ensures
+pub returns-in_default-3-clause-adds : goal.returns-in_default-3-clause-adds
+returns-in_default-3-clause-adds c = adds_done c.args.logical.now c.add_null.new.self c.args.word.now c.add_null.result c.add_null.ensures
 
-pub returns-in_default-clause-null : goal.returns-in_default-clause-null
-returns-in_default-clause-null c = null_done c.args.logical.now c.add_null.new.self c.args.word.now c.add_null.result c.add_null.ensures
+pub returns-in_default-3-clause-null : goal.returns-in_default-3-clause-null
+returns-in_default-3-clause-null c = null_done c.args.logical.now c.add_null.new.self c.args.word.now c.add_null.result c.add_null.ensures

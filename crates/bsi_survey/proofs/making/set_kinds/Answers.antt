@@ -1,10 +1,12 @@
-use Rattle.std.proofs.Common.{◌≡◌, ◌<◌, ◌≤◌, ◌+◌, ◌++◌, ◌∷◌, [], inl, inr, length, get_or, option_to_list, append-nil, refl, sym, subst, ap, ◌∙◌, arith}
+use Rattle.std.proofs.Common.{◌≡◌, ◌<◌, ◌≤◌, ◌+◌, ◌++◌, ◌∷◌, [], inl, inr, length, get_or, option_to_list, append-nil, refl, sym, subst, ap, ◌∙◌, arith, rules, Ok}
 use Rattle.std.proofs.Math.ListN.{length-set}
 use Rattle.std.proofs.lemmas.Bool.{cases_eq}
+use Rattle.std.proofs.lemmas.List.{length-append}
 use Rattle.std.proofs.lemmas.List.Elements.{All-get_or}
 use Rattle.bsi_kinds.specs.Kinds.{IsKind}
 use Rattle.bsi_inference.specs.declared.decision.Column.{Column}
 use Rattle.bsi_logical.specs.Logical.{kind_of, Logical}
+use Rattle.bsi_logical.specs.Records.{kind_given}
 use Rattle.bsi_survey.proofs.Lists.{popped_all, popped_at, popped_len}
 use Rattle.bsi_survey.proofs.Saying.{kind_other, kind_same, kind_set, kinds_more}
 use Rattle.bsi_survey.proofs.making.set_kinds.Goals as goal
@@ -52,7 +54,8 @@ columns-preserved c =
     let now = c.columns.logical in
     let new = c.set_kind.new.self in
     let popped : c.columns.columns.items ≡ rest ++ item ∷ [] = c.pop.ensures.items ∙ ap (λ o. rest ++ option_to_list o) c.in-Some.is in
-    let is = kind_set now new k item.kind c.in_ok-set_kind.ensures in
+    let number : c.len-c.result ≡ length c.pop.new.self.items = search rules in
+    let is = kind_set now new k item.kind (subst (λ n. kind_given now n item.kind ≡ Ok new) number c.in_ok-set_kind.ensures) in
     let kinds = ap (λ (l : Logical). l.kinds) is in
     let within : k < length now.kinds = omega (arith, inv.3, popped_len all c.columns.columns.items rest inv.0 item inv.1 popped) in (
       item ∷ inv.0,
@@ -65,7 +68,7 @@ columns-preserved c =
             ∙ ap (λ (x : Column). x.kind) (sym (popped_at all c.columns.columns.items rest inv.0 item inv.1 popped d)) ∙ ap (λ n. (get_or all n d).kind) (sym same)
         | inr other ↦
             ap (λ (l : Logical). kind_of l j) is ∙ kind_other now k j item.kind other
-            ∙ inv.4 j d (omega (arith, high, popped, ap length popped)) low
+            ∙ inv.4 j d (omega (arith, high, other, ap length popped ∙ length-append rest (item ∷ []))) low
       ],
     )
 
@@ -73,4 +76,6 @@ pub returns-clause-same : goal.returns-clause-same
 returns-clause-same c = c.columns.invariant.2
 
 pub returns-clause-kinds : goal.returns-clause-kinds
-returns-clause-kinds c = λ k d within. c.columns.invariant.4 k d (omega arith) within
+returns-clause-kinds c =
+    let none : length c.columns.columns.items ≡ 0 = search rules in
+    λ k d within. c.columns.invariant.4 k d (omega (arith, none)) within

@@ -1,4 +1,4 @@
-use Rattle.std.proofs.Common.{◌≡◌, ◌<◌, ℕ, List, Vec, Global, length, map, arith, below_more}
+use Rattle.std.proofs.Common.{ℕ, List, Vec, Global, map, arith, below_more}
 use Rattle.std.proofs.lemmas.List.{length-map}
 use Rattle.bsi_survey.specs.Titles.{IsRepeated}
 use Rattle.bsi_survey.proofs.Distinct.{distinct_if}
