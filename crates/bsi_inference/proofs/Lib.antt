@@ -1,4 +1,5 @@
 pub mod Alike
+pub mod CallerLemmas
 pub mod Choosing
 pub mod Inserting
 pub mod Outcomes

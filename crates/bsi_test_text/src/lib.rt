@@ -1,5 +1,5 @@
-//! Tests of calls on texts, schemas, row files, kinds and their inference, scripts in chunks, faults and moves between
-//! threads. No crate uses it.
+//! Tests of calls on texts, schemas, row files, kinds and their inference, surveys, scripts in chunks, faults and moves
+//! between threads. No crate uses it.
 #![tactic(auto)]
 
 #[cfg(test)]
@@ -20,5 +20,7 @@ mod logicals;
 mod row_files;
 #[cfg(test)]
 mod schemas;
+#[cfg(test)]
+mod surveying;
 #[cfg(test)]
 mod threads;

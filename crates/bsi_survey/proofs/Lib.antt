@@ -1,0 +1,14 @@
+pub mod Distinct
+pub mod Good
+pub mod Growing
+pub mod Lists
+pub mod Moments
+pub mod Outcomes
+pub mod Readings
+pub mod Records
+pub mod Saying
+pub mod Schemas
+pub mod Spelling
+pub mod Storing
+pub mod Surveying
+pub mod Whole

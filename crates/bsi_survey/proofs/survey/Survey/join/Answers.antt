@@ -1,0 +1,28 @@
+use Rattle.std.proofs.Common.{◌≡◌, ◌++◌, ℕ, List, length, take, drop, arith, subst, sym}
+use Rattle.bsi_inference.specs.declared.candidates.Candidates.{Candidates}
+use Rattle.bsi_survey.specs.Looking.{AreGrown}
+use Rattle.bsi_survey.proofs.Growing.{grown_more, kinds_looked}
+use Rattle.bsi_survey.proofs.Lists.{written}
+use Rattle.bsi_survey.proofs.survey.Survey.join.Goals as goal
+
+-- the columns that were lent are written back
+back : (old lent new : List Candidates) (n : ℕ) → n ≡ length old → lent ≡ old → AreGrown lent new → AreGrown old (take n (new ++ drop (length new) old))
+back old lent new n many value grown =
+    let own : AreGrown old new = subst (λ (cs : List Candidates). AreGrown cs new) value grown in
+    subst (AreGrown old) (sym (written old new n many own.len)) own
+
+pub returns-in_err-join_each-clause-preserved : goal.returns-in_err-join_each-clause-preserved
+returns-in_err-join_each-clause-preserved c =
+    grown_more _ _ (back c.args.self.now.columns.items c.deref_mut.result.now c.join_each.new.columns c.args.self.now.columns.len (omega (arith, c.args.self.now.columns.ok.0)) c.deref_mut.ensures.value c.join_each.ensures.grown)
+
+pub returns-in_err-join_each-clause-looked : goal.returns-in_err-join_each-clause-looked
+returns-in_err-join_each-clause-looked c = λ point looks. kinds_looked point _ _
+    (back c.args.self.now.columns.items c.deref_mut.result.now c.join_each.new.columns c.args.self.now.columns.len (omega (arith, c.args.self.now.columns.ok.0)) c.deref_mut.ensures.value c.join_each.ensures.grown) looks
+
+pub returns-clause-preserved : goal.returns-clause-preserved
+returns-clause-preserved c =
+    grown_more _ _ (back c.args.self.now.columns.items c.deref_mut.result.now c.join_each.new.columns c.args.self.now.columns.len (omega (arith, c.args.self.now.columns.ok.0)) c.deref_mut.ensures.value c.join_each.ensures.grown)
+
+pub returns-clause-looked : goal.returns-clause-looked
+returns-clause-looked c = λ point looks. kinds_looked point _ _
+    (back c.args.self.now.columns.items c.deref_mut.result.now c.join_each.new.columns c.args.self.now.columns.len (omega (arith, c.args.self.now.columns.ok.0)) c.deref_mut.ensures.value c.join_each.ensures.grown) looks

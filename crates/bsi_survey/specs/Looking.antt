@@ -1,0 +1,95 @@
+-- What the candidates of a column look for, and what they are once they observed fields, one after another.
+use Rattle.std.specs.Prelude.{◌≡◌, ℕ, ◌<◌, Bool, true, false, List, [], ◌∷◌, length, get_or, slice_index_or, Option}
+use Rattle.bsi_kinds.specs.Decimals.{Field}
+use Rattle.bsi_kinds.specs.declared.date.DateOrder.{DateOrder}
+use Rattle.bsi_inference.specs.ColumnCandidates.{is_null_field, Accepts, AddsOnlyField, GathersOn, HasNextKinds, HasSameKinds, HaveSameForms, IsNewColumn, IsNewTextColumn, LooksFor}
+use Rattle.bsi_inference.specs.Decimals.{AcceptsDecimal}
+use Rattle.bsi_inference.specs.declared.candidates.Candidates.{Candidates}
+
+-- ---- what is looked for
+
+-- A column may have texts alone.
+pub record LooksForTexts (c : Candidates) : Type 0 where
+  -- There is no candidate of another form.
+  pub forms : c.forms.items ≡ []
+  -- Decimals are ruled out: they accept any field.
+  pub decimals : (f : Field) → AcceptsDecimal c.point c.decimals f
+
+-- A column may have texts alone, or each kind, with this decimal point.
+abbrev pub IsLookedFor : ℕ → Bool → Candidates → Type 0
+IsLookedFor point true c = LooksForTexts c
+IsLookedFor point false c = LooksFor point c
+
+-- A column is said to have texts alone.
+abbrev pub is_of_texts : List Bool → ℕ → Bool
+is_of_texts texts c = slice_index_or texts c false
+
+-- What each column may have, where it is said which columns have texts alone.
+abbrev pub AreLookedFor : ℕ → List Bool → List Candidates → Type 0
+AreLookedFor point texts columns =
+    (c : ℕ) → (d : Candidates) → c < length columns → IsLookedFor point (is_of_texts texts c) (slice_index_or columns c d)
+
+-- The candidates of a column before any field.
+abbrev pub IsNewBy : ℕ → Option DateOrder → Bool → Candidates → Type 0
+IsNewBy point order true c = IsNewTextColumn c
+IsNewBy point order false c = IsNewColumn point order c
+
+-- The candidates of each column before any field.
+abbrev pub AreNewBy : ℕ → Option DateOrder → List Bool → List Candidates → Type 0
+AreNewBy point order texts columns =
+    (c : ℕ) → (d : Candidates) → c < length columns → IsNewBy point order (is_of_texts texts c) (slice_index_or columns c d)
+
+-- ---- fields that are observed
+
+-- The candidates of a column before and after they observed a field. `words` are the null words.
+pub record IsStep (words : List Field) (field : Field) (old new : Candidates) : Type 0 where
+  -- The field is accepted, and each field that was accepted before.
+  pub accepts : Accepts new field
+  pub preserved : (f : Field) → Accepts old f → Accepts new f
+  -- A null changes no candidate.
+  pub null : is_null_field words field ≡ true → HasSameKinds old new
+  -- A value rules out the candidates that cannot read it.
+  pub value : is_null_field words field ≡ false → HasNextKinds field old new
+  -- Texts are gathered as long as they are needed.
+  pub texts : GathersOn field old new
+  -- At most the field was added to the null words and to the texts.
+  pub only : AddsOnlyField words field old new
+  -- The candidates are those of the same forms.
+  pub alike : HaveSameForms old new
+
+-- The candidates of a column have observed these fields, one after another, and no others.
+abbrev pub HasObservedFields : List Field → List Field → Candidates → Candidates → Type 0
+HasObservedFields words [] old new = new ≡ old
+HasObservedFields words (field ∷ fields) old new =
+    (next : Candidates) × IsStep words field old next × HasObservedFields words fields next new
+
+-- Each column has observed its field of a record.
+pub record AreSteps (words fields : List Field) (old new : List Candidates) : Type 0 where
+  pub len : length new ≡ length old
+  pub each : (c : ℕ) → (d : Candidates) → c < length old →
+      IsStep words (get_or fields c []) (slice_index_or old c d) (slice_index_or new c d)
+
+-- ---- what stays
+
+-- The candidates of a column before and after they observed fields, or were joined.
+pub record IsGrown (old new : Candidates) : Type 0 where
+  -- Each field that was accepted is accepted.
+  pub preserved : (f : Field) → Accepts old f → Accepts new f
+  -- The candidates look for the same.
+  pub looked : (point : ℕ) → (texts : Bool) → IsLookedFor point texts old → IsLookedFor point texts new
+
+-- The same of each column.
+pub record AreGrown (old new : List Candidates) : Type 0 where
+  pub len : length new ≡ length old
+  pub each : (c : ℕ) → (d : Candidates) → c < length old → IsGrown (slice_index_or old c d) (slice_index_or new c d)
+
+-- Each field that the candidates of a column accept is accepted by the other candidates of that column.
+pub record AcceptMore (first second : List Candidates) : Type 0 where
+  pub len : length second ≡ length first
+  pub each : (c : ℕ) → (d : Candidates) → c < length first → (f : Field) → Accepts (slice_index_or first c d) f
+      → Accepts (slice_index_or second c d) f
+
+-- Each field of a record is accepted by the candidates of its column.
+abbrev pub AcceptsRecord : List Candidates → List Field → Type 0
+AcceptsRecord columns fields =
+    (c : ℕ) → (d : Candidates) → c < length columns → Accepts (slice_index_or columns c d) (get_or fields c [])

@@ -1,0 +1,99 @@
+-- What a survey says of a text: its header, and that the candidates of each column have observed just the fields of the
+-- records as long as the header, and accept each of them (`Surveys`).
+use Rattle.std.specs.Prelude.{◌≡◌, ℕ, ◌+◌, ◌<◌, Bool, true, false, not, nat_eq, List, [], ◌∷◌, length, get_or, map, count_by, slice_index_or, All, IsTrue}
+use Rattle.std.specs.List.{filter}
+use Rattle.csv.specs.declared.reader.Reader.{Reader}
+use Rattle.bsi_kinds.specs.Decimals.{Field}
+use Rattle.bsi_syntax.specs.Bytes.{KnownBytes}
+use Rattle.bsi_inference.specs.ColumnCandidates.{LooksFor as LooksForKinds}
+use Rattle.bsi_inference.specs.Nulls.{usual_words}
+use Rattle.bsi_inference.specs.declared.candidates.Candidates.{Candidates}
+use Rattle.bsi_survey.specs.Looking.{AcceptsRecord, AreLookedFor, AreNewBy, AreSteps, HasObservedFields}
+use Rattle.bsi_survey.specs.TextRecords.{AreLeft, AreTextRecords}
+use Rattle.bsi_survey.specs.declared.counts.Counts.{Counts}
+use Rattle.bsi_survey.specs.declared.options.SurveyOptions.{SurveyOptions}
+use Rattle.bsi_survey.specs.declared.survey.Survey.{Survey}
+
+-- A record has as many fields as there are columns.
+abbrev pub is_whole : ℕ → List Field → Bool
+is_whole columns fields = nat_eq (length fields) columns
+
+-- The fields of column c in the records that have as many fields as there are columns.
+abbrev pub column_fields : ℕ → ℕ → List (List Field) → List Field
+column_fields columns c records = map (λ fields. get_or fields c []) (filter (is_whole columns) records)
+
+-- Each record of as many fields as there are columns is accepted.
+abbrev pub AcceptsWhole : List Candidates → List (List Field) → Type 0
+AcceptsWhole columns records = All (λ fields. IsTrue (is_whole (length columns) fields) → AcceptsRecord columns fields) records
+
+-- The counts after a record that has as many fields as there are columns, or has not.
+abbrev pub counted : Counts → Bool → Counts
+counted counts true = record counts { good = counts.good + 1 }
+counted counts false = record counts { bad = counts.bad + 1 }
+
+-- Records were counted.
+pub record AreCounted (columns : ℕ) (records : List (List Field)) (before after : Counts) : Type 0 where
+  -- Those of as many fields as there are columns.
+  pub good : after.good ≡ before.good + count_by (is_whole columns) records
+  -- The others.
+  pub bad : after.bad ≡ before.bad + count_by (λ fields. not (is_whole columns fields)) records
+
+-- The columns have observed a record, if it is whole.
+pub record HaveObserved (words fields : List Field) (old new : List Candidates) (answer : Bool) : Type 0 where
+  pub whole : answer ≡ is_whole (length old) fields
+  pub steps : answer ≡ true → AreSteps words fields old new
+  pub same : answer ≡ false → new ≡ old
+
+-- The columns have observed the whole records among these, one after another, and no others.
+pub record HaveObservedEach (words : List Field) (records : List (List Field)) (old new : List Candidates) : Type 0 where
+  pub len : length new ≡ length old
+  pub each : (c : ℕ) → (d : Candidates) → c < length old →
+      HasObservedFields words (column_fields (length old) c records) (slice_index_or old c d) (slice_index_or new c d)
+
+-- The columns have observed all records that a reader had left.
+pub record HaveObservedAll {R : Type 0} (rem : R → KnownBytes) (words : List Field) (input : Reader R)
+    (old new : List Candidates) (before after : Counts) : Type 0 where
+  -- The records that were left.
+  pub records : List (List Field)
+  pub left : AreLeft rem input records
+  -- The columns have observed just these.
+  pub observed : HaveObservedEach words records old new
+  -- Each whole record is accepted.
+  pub accepted : AcceptsWhole new records
+  pub counts : AreCounted (length old) records before after
+
+-- The fields of the header.
+abbrev pub header_of : Survey → List Field
+header_of survey = map (λ field. field.items) survey.header.items
+
+-- No record was counted.
+abbrev pub no_counts : Counts
+no_counts = record { good = 0; bad = 0 }
+
+-- What a survey says of a text.
+pub record Surveys (options : SurveyOptions) (bytes : List ℕ) (survey : Survey) : Type 0 where
+  -- The records after the header.
+  pub records : List (List Field)
+  -- The text has the header, then these records, and no others.
+  pub all : AreTextRecords options.dialect.delimiter bytes (header_of survey ∷ records)
+  -- The columns before any field.
+  pub first : List Candidates
+  pub begun : AreNewBy options.dialect.point options.order options.texts.items first
+  -- The columns have observed the records as long as the header, and no others.
+  pub observed : HaveObservedEach usual_words records first survey.columns.items
+  -- Each record as long as the header is accepted, field by field.
+  pub accepted : AcceptsWhole survey.columns.items records
+  -- The records as long as the header, and the others.
+  pub counts : AreCounted (length (header_of survey)) records no_counts survey.counts
+
+-- The columns of a survey look for each kind, by the decimal point of its dialect, or for texts alone.
+pub record LooksFor (survey : Survey) : Type 0 where
+  -- Of each column, whether it is said to have texts alone.
+  pub texts : List Bool
+  pub each : AreLookedFor survey.dialect.point texts survey.columns.items
+
+-- The columns of two surveys look for each kind, by one decimal point.
+pub record LookAlike (survey other : Survey) : Type 0 where
+  pub point : ℕ
+  pub first : All (LooksForKinds point) survey.columns.items
+  pub second : All (LooksForKinds point) other.columns.items

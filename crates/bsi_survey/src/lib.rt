@@ -1,0 +1,26 @@
+//! Surveys the texts of row files: what kind each column of the header may have, by all fields under it.
+#![tactic(auto)]
+
+mod counts;
+mod deciding;
+mod delimiter;
+mod join_error;
+mod joining;
+mod making;
+mod naming;
+mod numbered;
+mod observing;
+mod options;
+mod reading;
+mod repeated;
+mod schema_refusal;
+mod slicing;
+mod survey;
+
+pub use bsi_inference::NoMemory;
+pub use counts::Counts;
+pub use delimiter::find_delimiter;
+pub use join_error::JoinError;
+pub use options::SurveyOptions;
+pub use schema_refusal::{ColumnDoubt, SchemaRefusal};
+pub use survey::Survey;

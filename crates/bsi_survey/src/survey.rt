@@ -1,0 +1,196 @@
+//! What was seen of the texts of row files (`Survey`): their header, what kind each column may have, and how many records
+//! were read.
+
+ghost use Rattle.std.specs.Prelude.{◌≡◌, length, map, IfOk};
+ghost use Rattle.csv.specs.Records.{fields_of};
+
+use crate::NoMemory;
+use crate::counts::Counts;
+use crate::deciding::{decide_each, list_columns, list_doubts};
+use crate::join_error::JoinError;
+use crate::joining::{are_same_fields, join_each};
+use crate::making::make_logical;
+use crate::observing::observe_all;
+use crate::options::SurveyOptions;
+use crate::reading::{read_next, record_reader};
+use crate::repeated::find_repeated;
+use crate::schema_refusal::SchemaRefusal;
+use bsi_inference::{Candidates, usual_null_words};
+use bsi_input::SourceFault;
+use bsi_logical::{Dialect, LogicalSchema};
+use bsi_schema::MAX_COLUMNS;
+use bsi_syntax::field;
+use csv::ByteRecord;
+use std::alloc::Global;
+use std::io::Read;
+
+/// What was seen of the texts of row files with one header.
+#[derive(Drop)]
+pub struct Survey {
+    pub(crate) dialect: Dialect,
+    pub(crate) header: Vec<Vec<u8>>,
+    pub(crate) columns: Vec<Candidates>,
+    pub(crate) counts: Counts,
+    ghost many: { length columns.items ≡ length header.items },
+}
+
+impl Survey {
+    ghost use Rattle.std.specs.Prelude.{◌+◌, ◌<◌, ◌≤◌, ℕ, List, [], All, Err, slice_index_or, IfSome, IsSome, IsTrue, OnOk};
+    ghost use Rattle.bsi_schema.specs.Columns.{max_columns};
+    ghost use Rattle.bsi_kinds.specs.Decimals.{Field};
+    ghost use Rattle.bsi_input.specs.Formats.{good_row};
+    ghost use Rattle.bsi_logical.specs.LogicalRows.{has_titles, logical_format};
+    ghost use Rattle.bsi_inference.specs.ColumnCandidates.{Accepts, LooksFor as LooksForKinds};
+    ghost use Rattle.bsi_inference.specs.declared.candidates.Candidates.{Candidates};
+    ghost use Rattle.bsi_survey.specs.Made.{IsGoodField};
+    ghost use Rattle.bsi_survey.specs.Titles.{AreDistinct, IsFirstRepeated};
+    ghost use Rattle.bsi_survey.specs.Looking.{AcceptMore, AcceptsRecord, AreLookedFor};
+    ghost use Rattle.bsi_survey.specs.Surveys.{header_of, LookAlike, LooksFor, Surveys};
+    ghost use Rattle.bsi_survey.specs.TextRecords.{AreTextRecords};
+
+    /// Goes once over a text. Its first record is the header. Each further record of as many fields is shown to the
+    /// columns, field by field; one of more or fewer is counted as bad and passed over. The fault is `BadHeader`, if the
+    /// text has no record.
+    pub fn read<R: Read + Drop>(
+        alloc: Global,
+        reader: R,
+        options: &SurveyOptions,
+    ) -> Result<Survey, SourceFault>
+        ensures surveys { IfOk result (λ survey. IfSome (R.remaining reader)
+            (λ bytes. Surveys options.now bytes survey)) }
+        ensures dialect { IfOk result (λ survey. survey.dialect ≡ options.now.dialect) }
+        ensures looked { IfOk result (λ survey. AreLookedFor options.now.dialect.point
+            options.now.texts.items survey.columns.items) }
+        ensures empty { result ≡ Err SourceFault.BadHeader → IfSome (R.remaining reader)
+            (λ bytes. AreTextRecords options.now.dialect.delimiter bytes []) }
+    {
+        let mut input = record_reader(alloc, options.dialect.delimiter, reader);
+        let mut fields = ByteRecord::new(alloc);
+        if !read_next(&mut input, &mut fields)? {
+            return Err(SourceFault::BadHeader);
+        }
+        let header = list_fields(alloc, &fields)?;
+        let mut columns = options.begin_columns(alloc, header.len())?;
+        let words = usual_null_words(alloc)?;
+        let mut counts = Counts::new();
+        observe_all(&mut input, &words, &mut fields, &mut columns, &mut counts)?;
+        Ok(Survey {
+            dialect: options.dialect,
+            header,
+            columns,
+            counts,
+        })
+    }
+
+    /// Returns how many records were read after the header.
+    pub fn counts(&self) -> Counts
+        ensures { result ≡ self.now.counts }
+    {
+        self.counts
+    }
+
+    /// Joins what was seen of other texts, which have the same header. If the headers differ, or 64 bits do not hold the
+    /// counts, nothing changes. If memory is refused, some columns have joined the others, and the counts stay.
+    pub fn join(&mut self, other: Survey) -> Result<(), JoinError>
+        requires { LookAlike self.old other }
+        ensures header { OnOk result (header_of other ≡ header_of self.old) }
+        ensures same { header_of self.new ≡ header_of self.old }
+        ensures dialect { self.new.dialect ≡ self.old.dialect }
+        ensures preserved { AcceptMore self.old.columns.items self.new.columns.items }
+        ensures looked { (point : ℕ) → All (LooksForKinds point) self.old.columns.items →
+            All (LooksForKinds point) self.new.columns.items }
+        ensures joined { OnOk result (AcceptMore other.columns.items self.new.columns.items) }
+        ensures good { OnOk result (self.new.counts.good ≡ self.old.counts.good + other.counts.good) }
+        ensures bad { OnOk result (self.new.counts.bad ≡ self.old.counts.bad + other.counts.bad) }
+    {
+        if !are_same_fields(&self.header, &other.header) {
+            return Err(JoinError::OtherHeader);
+        }
+        let Some(counts) = self.counts.with(other.counts) else {
+            return Err(JoinError::TooLong);
+        };
+        let Survey {
+            dialect: _,
+            header: _,
+            columns,
+            counts: _,
+        } = other;
+        join_each(&mut self.columns, columns)?;
+        self.counts = counts;
+        Ok(())
+    }
+
+    /// Makes the schema of the files: a column of slices for each field of the header, wide enough for the numbers of its
+    /// fields and about as many again. The fields of the header are the titles, and the names are made of them. The null
+    /// words that were met are nulls of the schema, if they stand in a column of no texts. A column of nulls alone has
+    /// whole numbers, in one slice.
+    pub fn make_schema(self, alloc: Global) -> Result<LogicalSchema, SchemaRefusal>
+        requires { LooksFor self }
+
+        // The header is one of the schema, and a record as long as the header is a row, if its fields were accepted.
+        ensures header { IfOk result (λ l. IsTrue (has_titles l (header_of self))) }
+        ensures rows { IfOk result (λ l. (fields : List Field) → length fields ≡ length (header_of self) →
+            AcceptsRecord self.columns.items fields →
+            IsSome (good_row (logical_format l) (header_of self) fields)) }
+
+        ensures good { IfOk result (λ l. (c : ℕ) → (d : Candidates) → c < length self.columns.items →
+            (f : Field) → Accepts (slice_index_or self.columns.items c d) f → IsGoodField l c f) }
+        ensures columns { IfOk result (λ l. length l.schema.columns ≡ length self.columns.items) }
+        ensures titles { IfOk result (λ l. l.titles ≡ header_of self) }
+        ensures dialect { IfOk result (λ l. l.dialect ≡ self.dialect) }
+
+        // No title tells two columns apart that have the same field of the header.
+        ensures many { max_columns < length (header_of self) → result ≡ Err SchemaRefusal.TooManyColumns }
+        ensures repeated { (c : ℕ) → length (header_of self) ≤ max_columns →
+            IsFirstRepeated (header_of self) c → result ≡ Err (SchemaRefusal.RepeatedField c) }
+    {
+        if self.header.len() > MAX_COLUMNS as usize {
+            return Err(SchemaRefusal::TooManyColumns);
+        }
+        match find_repeated(&self.header) {
+            Some(c) => Err(SchemaRefusal::RepeatedField(c)),
+            None => self.make_titled(alloc),
+        }
+    }
+
+    /// Makes the schema of the files, whose header has no two fields that are the same.
+    fn make_titled(self, alloc: Global) -> Result<LogicalSchema, SchemaRefusal>
+        requires looks { LooksFor self }
+        requires distinct { AreDistinct (header_of self) }
+        ensures header { IfOk result (λ l. IsTrue (has_titles l (header_of self))) }
+        ensures rows { IfOk result (λ l. (fields : List Field) → length fields ≡ length (header_of self) →
+            AcceptsRecord self.columns.items fields →
+            IsSome (good_row (logical_format l) (header_of self) fields)) }
+        ensures good { IfOk result (λ l. (c : ℕ) → (d : Candidates) → c < length self.columns.items →
+            (f : Field) → Accepts (slice_index_or self.columns.items c d) f → IsGoodField l c f) }
+        ensures columns { IfOk result (λ l. length l.schema.columns ≡ length self.columns.items) }
+        ensures titles { IfOk result (λ l. l.titles ≡ header_of self) }
+        ensures dialect { IfOk result (λ l. l.dialect ≡ self.dialect) }
+    {
+        let Survey {
+            dialect,
+            header,
+            columns,
+            counts: _,
+        } = self;
+        let decisions = decide_each(alloc, columns)?;
+        let doubts = list_doubts(alloc, &header, &decisions)?;
+        let listed = list_columns(alloc, decisions)?;
+        let Some(columns) = listed else {
+            return Err(SchemaRefusal::Doubts(doubts));
+        };
+        make_logical(alloc, dialect, &header, columns)
+    }
+}
+
+/// Makes a list of the fields of a record.
+fn list_fields(alloc: Global, fields: &ByteRecord) -> Result<Vec<Vec<u8>>, NoMemory>
+    ensures { IfOk result (λ list. map (λ field. field.items) list.items ≡ fields_of fields.now) }
+{
+    let mut list = Vec::new(alloc);
+    'fields: for index in 0..fields.len() {
+        let text = Vec::from_slice(alloc, field(fields, index))?;
+        list.push(text)?;
+    }
+    Ok(list)
+}
