@@ -36,7 +36,7 @@ ITEM = re.compile(r"^(?:impl|(?:pub )?trait)\b(.*?)\{$(.*?)^\}", re.MULTILINE | 
 VERSION = re.compile(r"\d+\.\d+\.\d+")
 # How many bytes a page may have, and how many those may have that are named.
 MAX_SIZE = 12_288
-MAX_SIZES = {"CHANGELOG.md": 13_000, "docs/PROMISES.md": 33_000, "docs/FORMATS.md": 19_000, "docs/DECISIONS.md": 17_500, "docs/ARCHITECTURE.md": 17_000, "README.md": 13_500, "docs/TOOLS.md": 6_144}
+MAX_SIZES = {"CHANGELOG.md": 13_000, "docs/PROMISES.md": 33_500, "docs/FORMATS.md": 19_000, "docs/DECISIONS.md": 18_000, "docs/ARCHITECTURE.md": 17_000, "README.md": 13_500, "docs/TOOLS.md": 6_144}
 # What the program of the tarball finds on a machine without the kit.
 PATH = "/usr/local/bin:/usr/bin:/bin"
 
