@@ -331,7 +331,7 @@ const WRITTEN: [(&str, i128, &str); 13] = [
 /// The text of a column of texts, most of which answers write in quotes.
 const QUOTED: &str =
     "column,t,slices,3\nkind,t,text\ntext,t,\" \"\ntext,t,\"a, b\"\ntext,t,a:b\ntext,t,a=b\n\
-    text,t,\"say \"\"a\"\"\"\ntext,t,plain\n";
+    text,t,plain\ntext,t,\"say \"\"a\"\"\"\n";
 
 /// How answers write these texts.
 const IN_QUOTES: [&str; 6] = [
@@ -339,8 +339,8 @@ const IN_QUOTES: [&str; 6] = [
     "\"a, b\"",
     "\"a:b\"",
     "\"a=b\"",
-    "\"say \"\"a\"\"\"",
     "plain",
+    "\"say \"\"a\"\"\"",
 ];
 
 // The text of a number of a column.
