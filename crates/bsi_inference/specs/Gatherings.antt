@@ -1,4 +1,5 @@
--- Whether a field is among the gathered texts of a column, if all were gathered (`HasText`).
+-- Whether a field is among the gathered texts of a column, if all were gathered (`HasText`), and whether it would be
+-- one too many (`IsFullFor`).
 use Rattle.std.specs.Prelude.{◌≡◌, List, length}
 use Rattle.std.specs.List.{Contains}
 use Rattle.bsi_kinds.specs.Decimals.{Field}

@@ -1,4 +1,5 @@
-//! The range of numbers that a column accepts (`Limits`), and tests of entries and of rows against it.
+//! The range of numbers that a column accepts (`Limits`), tests of entries and of rows against it, and whether two
+//! lists of columns have the same.
 
 ghost use Rattle.std.specs.Prelude.{◌≡◌, ◌↔◌, IsTrue, List, map};
 ghost use Rattle.bsi_digits.specs.Signed.{IsI64};
