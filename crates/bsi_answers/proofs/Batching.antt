@@ -14,7 +14,7 @@ use Rattle.bsi_syntax.specs.Notations.{NumberTexts}
 use Rattle.bsi_syntax.specs.Vocabularies.{Words}
 use Rattle.bsi_syntax.specs.declared.grammar.Grammar.{Grammar}
 use Rattle.bsi_syntax.specs.Lines.{bad_line}
-use Rattle.bsi_syntax.specs.Numbers.{Field}
+use Rattle.bsi_rows.specs.Fields.{Field}
 use Rattle.bsi_input.proofs.FirstRecords.{first_more, HasReadFirst}
 use Rattle.bsi_input.proofs.Waiting.{cut_whole}
 use Rattle.bsi_input.specs.RecordSources.{RecordSource}

@@ -6,7 +6,7 @@ use Rattle.std.proofs.lemmas.List.Elements.{All-nil, All-head, All-tail}
 use Rattle.std.proofs.lemmas.Option.{none-some, same_Some}
 use Rattle.bsi_syntax.proofs.Spelling.{query_is_there, same_query}
 use Rattle.bsi_syntax.specs.Lines.{answer_line, ask_line, no_memory_line, rows_text}
-use Rattle.bsi_syntax.specs.Numbers.{Field}
+use Rattle.bsi_rows.specs.Fields.{Field}
 use Rattle.bsi_syntax.specs.Setups.{table_after, undeclared_table}
 use Rattle.bsi_syntax.specs.declared.setups.DeclaredTable.{DeclaredTable}
 use Rattle.bsi_rows.specs.Numbering.{numbered_at}

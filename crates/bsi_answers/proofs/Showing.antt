@@ -1,7 +1,7 @@
 -- Answers as their lines show them.
 use Rattle.std.proofs.Common.{◌≡◌, ℕ, zero, suc, ◌+◌, List, [], ◌∷◌, Result, Ok, Err, subst, refl, ap, sym, ◌∙◌, inl, inr, map, arith, slice_index_or}
 use Rattle.bsi_rows.specs.Runs.{rows_from}
-use Rattle.bsi_syntax.specs.Numbers.{Field}
+use Rattle.bsi_rows.specs.Fields.{Field}
 use Rattle.bsi_schema.specs.Columns.{Declared}
 use Rattle.bsi_rows.specs.Rows.{SourcedRow}
 use Rattle.bsi_rows.specs.declared.errors.AskError.{AskError}

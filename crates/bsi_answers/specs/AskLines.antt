@@ -6,7 +6,7 @@ use Rattle.bsi_aggregates.specs.declared.answering.QuestionReply.{QuestionReply}
 use Rattle.bsi_syntax.specs.Bytes.{Bytes}
 use Rattle.bsi_syntax.specs.Lines.{bad_line}
 use Rattle.bsi_syntax.specs.Notations.{whole_texts, NumberTexts}
-use Rattle.bsi_syntax.specs.Numbers.{Field}
+use Rattle.bsi_rows.specs.Fields.{Field}
 use Rattle.bsi_syntax.specs.Questions.{IsQuestion}
 use Rattle.bsi_syntax.specs.declared.grammar.Grammar.{Grammar}
 use Rattle.bsi_syntax.specs.Vocabularies.{schema_vocabulary, Words}

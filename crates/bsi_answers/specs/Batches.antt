@@ -4,7 +4,7 @@ use Rattle.std.specs.Io.KnownBytes.{Appends}
 use Rattle.std.specs.List.{concat, AllZip}
 use Rattle.csv.specs.declared.reader.Reader.{Reader}
 use Rattle.bsi_syntax.specs.Bytes.{Bytes, KnownBytes}
-use Rattle.bsi_syntax.specs.Numbers.{Field}
+use Rattle.bsi_rows.specs.Fields.{Field}
 use Rattle.bsi_syntax.specs.Questions.{IsQuestion}
 use Rattle.bsi_syntax.specs.Vocabularies.{Words}
 use Rattle.bsi_syntax.specs.declared.grammar.Grammar.{Grammar}

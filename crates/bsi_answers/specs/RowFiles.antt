@@ -2,7 +2,7 @@
 -- (`FedCounts`).
 use Rattle.std.specs.Prelude.{◌≡◌, ◌≤◌, ℕ, true, List, [], ◌∷◌, length, slice_index_or}
 use Rattle.bsi_syntax.specs.Bytes.{Bytes}
-use Rattle.bsi_syntax.specs.Numbers.{Field}
+use Rattle.bsi_rows.specs.Fields.{Field}
 use Rattle.bsi_schema.specs.Columns.{Declared}
 use Rattle.bsi_rows.specs.Rows.{Entries}
 use Rattle.bsi_input.specs.Formats.{bad_count, good_rows, max_records}

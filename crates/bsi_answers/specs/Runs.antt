@@ -3,7 +3,7 @@
 use Rattle.std.specs.Prelude.{◌≡◌, ◌≤◌, ℕ, suc, List, [], ◌∷◌, ◌++◌, length, map}
 use Rattle.bsi_syntax.specs.Bytes.{Bytes}
 use Rattle.bsi_syntax.specs.Lines.{fed_line}
-use Rattle.bsi_syntax.specs.Numbers.{Field}
+use Rattle.bsi_rows.specs.Fields.{Field}
 use Rattle.bsi_schema.specs.Columns.{Declared}
 use Rattle.bsi_rows.specs.Rows.{SourcedRow}
 use Rattle.bsi_input.specs.SchemaTexts.{IsSchemaText}

@@ -4,7 +4,7 @@
 
 ghost use Rattle.std.specs.Prelude.{◌≡◌, ◌↔◌, ℕ, List, map};
 ghost use Rattle.bsi_syntax.specs.Notations.{whole_texts};
-ghost use Rattle.bsi_syntax.specs.Numbers.{Field};
+ghost use Rattle.bsi_rows.specs.Fields.{Field};
 ghost use Rattle.bsi_schema.specs.Columns.{Declared};
 ghost use Rattle.bsi_rows.specs.Rows.{SourcedRow};
 ghost use Rattle.bsi_rows.specs.declared.question.Question.{Question};

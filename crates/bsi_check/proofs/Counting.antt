@@ -4,7 +4,7 @@ use Rattle.csv.specs.Reading.{ReadRecord, source_of, strip_bom}
 use Rattle.csv.specs.declared.reader.Reader.{Reader}
 use Rattle.bsi_rows.specs.Rows.{Entries}
 use Rattle.bsi_syntax.specs.Bytes.{KnownBytes}
-use Rattle.bsi_syntax.specs.Numbers.{Field}
+use Rattle.bsi_rows.specs.Fields.{Field}
 use Rattle.bsi_schema.specs.Columns.{Declared}
 use Rattle.bsi_input.specs.Formats.{good_row, max_records}
 use Rattle.bsi_input.specs.RowFiles.{is_header}

@@ -6,7 +6,7 @@ use Rattle.csv.specs.Reading.{ReadRecord, default_config, reader_config, reader_
 use Rattle.csv.specs.declared.parser.State.TheVariants as st
 use Rattle.csv.specs.declared.reader.Reader.{Reader}
 use Rattle.bsi_syntax.specs.Bytes.{KnownBytes}
-use Rattle.bsi_syntax.specs.Numbers.{Field}
+use Rattle.bsi_rows.specs.Fields.{Field}
 use Rattle.bsi_schema.specs.Columns.{Declared}
 use Rattle.bsi_input.specs.RowFiles.{is_header}
 use Rattle.bsi_input.proofs.FirstRecords.{first_join, first_more, first_none}

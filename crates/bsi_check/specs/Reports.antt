@@ -1,4 +1,5 @@
--- What a check of all files of a run writes: its reasons, and then the line `fed` of each row file.
+-- What a check of all files of a run writes (`HasReported`), or has begun to write: its reasons, and then the line
+-- `fed` of each row file, which counts its good and its bad records.
 use Rattle.std.specs.Io.KnownBytes.{Appends}
 use Rattle.std.specs.Prelude.{◌≡◌, ◌⊎◌, ℕ, suc, ◌-◌, ◌<◌, Bool, ◌&&◌, nat_eq, nat_le, List, [], ◌∷◌, ◌++◌, length, map, sum, Option, None, Some, IfSome, codes}
 use Rattle.std.specs.List.{list_all}

@@ -10,7 +10,7 @@ use Rattle.bsi_kernels.specs.Places.{has_place, then_places, IsEncoded}
 use Rattle.bsi_kernels.proofs.DigitMaps.{map_same}
 use Rattle.bsi_kernels.proofs.PlaceBitmaps.{own_test, place_test, count_made}
 use Rattle.bsi_components.specs.Bitmaps.{stored_places}
-use Rattle.bsi_components.specs.Marked.{IsMarked}
+use Rattle.bsi_components.specs.Encodings.{IsMarked}
 use Rattle.bsi_components.proofs.BitmapDigits.{length-bits_at}
 use Rattle.bsi_components.proofs.PlaceNumbers.{bits_left, bits_right}
 

@@ -6,7 +6,7 @@ use Rattle.bsi_bits.specs.BitLists.{bits_at}
 use Rattle.bsi_kernels.specs.Places.{then_places, IsCount}
 use Rattle.bsi_kernels.proofs.PlaceBitmaps.{own_test, count_same}
 use Rattle.bsi_components.specs.Bitmaps.{row, stored_places}
-use Rattle.bsi_components.specs.Marked.{last_like, digits_in, shows, IsMarked, IsMarking}
+use Rattle.bsi_components.specs.Encodings.{last_like, digits_in, shows, IsMarked, IsMarking}
 use Rattle.bsi_components.proofs.BitmapDigits.{length-bits_at, row_bits, digits_are, encoded_none, encoded_more, encoded_same, below_more}
 
 -- a bit that is the mark of a digit itself, and one that is not

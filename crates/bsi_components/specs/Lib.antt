@@ -2,6 +2,6 @@ pub mod Bitmaps
 pub mod Component
 pub mod ExtremeDigits
 pub mod Equality
-pub mod Marked
+pub mod Encodings
 pub mod PlaceNumbers
 pub mod Ranks

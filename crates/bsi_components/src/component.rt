@@ -7,7 +7,7 @@ ghost use Rattle.bsi_bits.specs.BitLists.{bits_at};
 ghost use Rattle.bsi_digits.specs.Digits.{IsBase};
 ghost use Rattle.bsi_kernels.specs.Places.{has_place, max_digit_places, IsCount, IsEncoded};
 ghost use Rattle.bsi_components.specs.Bitmaps.{stored_places};
-ghost use Rattle.bsi_components.specs.Marked.{shows};
+ghost use Rattle.bsi_components.specs.Encodings.{shows};
 
 use crate::marking::Marking;
 use bsi_bits::{Bitmaps, Bits};
@@ -28,7 +28,7 @@ pub struct Component<M: Marking> {
 // Clauses see the base, the digits and for how many more there is room.
 impl<M: Marking> Model for Component<M> {
     ghost use Rattle.bsi_components.specs.Component.{Component};
-    ghost use Rattle.bsi_components.specs.Marked.{digits_in, IsMarked};
+    ghost use Rattle.bsi_components.specs.Encodings.{digits_in, IsMarked};
 
     ghost Value = { Component };
 

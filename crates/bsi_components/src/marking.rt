@@ -5,7 +5,7 @@ ghost use Rattle.bsi_bits.specs.BitList.{max_block};
 ghost use Rattle.bsi_digits.specs.Digits.{IsBase};
 ghost use Rattle.bsi_kernels.specs.Marks.{AreDigitMarks};
 ghost use Rattle.bsi_kernels.specs.Places.{max_digit_places, then_places, IsCount};
-ghost use Rattle.bsi_components.specs.Marked.{IsMarking};
+ghost use Rattle.bsi_components.specs.Encodings.{IsMarking};
 ghost use Rattle.bsi_components.specs.PlaceNumbers.{numbers_in, AreLevel};
 
 use crate::NoMemory;

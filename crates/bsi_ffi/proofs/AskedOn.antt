@@ -4,7 +4,7 @@ use Rattle.std.specs.Prelude.{MatchOption}
 use Rattle.bsi_aggregates.specs.Replies.{missing_on, IsReplyOn}
 use Rattle.bsi_syntax.proofs.Ranked.{question_is_there}
 use Rattle.bsi_syntax.proofs.Spelling.{not_missing}
-use Rattle.bsi_syntax.specs.Numbers.{Field}
+use Rattle.bsi_rows.specs.Fields.{Field}
 use Rattle.bsi_rows.specs.Answers.{columns_of_pred}
 use Rattle.bsi_rows.specs.Table.{Table}
 use Rattle.bsi_rows.specs.declared.errors.AskError.{AskError}

@@ -6,7 +6,7 @@ use Rattle.bsi_bits.specs.BitList.{word_count}
 use Rattle.bsi_bits.specs.Packed.{bit_of, end_of_u64}
 use Rattle.bsi_aggregates.specs.Replies.{selection_of}
 use Rattle.bsi_syntax.specs.Bytes.{Bytes, KnownBytes}
-use Rattle.bsi_syntax.specs.Numbers.{Field}
+use Rattle.bsi_rows.specs.Fields.{Field}
 use Rattle.bsi_syntax.specs.Predicates.{IsPredicate}
 use Rattle.bsi_syntax.specs.Questions.{IsQueryIn}
 use Rattle.bsi_syntax.specs.declared.grammar.Grammar.TheVariants.{Index}

@@ -4,7 +4,7 @@ use Rattle.std.specs.Int.{cast_unsigned, w128}
 use Rattle.std.specs.List.{AllZip}
 use Rattle.bsi_bits.specs.Packed.{end_of_u64}
 use Rattle.bsi_aggregates.specs.Groups.{selected_by, selected_keys, AreGroups, AreMore, Grouped}
-use Rattle.bsi_syntax.specs.Numbers.{Field}
+use Rattle.bsi_rows.specs.Fields.{Field}
 use Rattle.bsi_syntax.specs.Questions.{IsQueryIn}
 use Rattle.bsi_syntax.specs.declared.grammar.Grammar.TheVariants.{Index}
 use Rattle.bsi_syntax.specs.Vocabularies.{schema_vocabulary}

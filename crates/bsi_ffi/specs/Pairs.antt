@@ -2,7 +2,7 @@
 use Rattle.std.specs.Prelude.{◌≡◌, ◌≤◌, ◌∷◌, [], ℕ, ℤ, List, Option, Some, None, Ok, Err, length, take, true, false}
 use Rattle.std.specs.List.{AllZip}
 use Rattle.bsi_aggregates.specs.Groups.{selected_by, selected_keys, AreGroups, AreMore, Grouped}
-use Rattle.bsi_syntax.specs.Numbers.{Field}
+use Rattle.bsi_rows.specs.Fields.{Field}
 use Rattle.bsi_syntax.specs.Questions.{IsQueryIn}
 use Rattle.bsi_syntax.specs.declared.grammar.Grammar.TheVariants.{Index}
 use Rattle.bsi_syntax.specs.Vocabularies.{schema_vocabulary}

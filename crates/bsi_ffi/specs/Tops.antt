@@ -6,7 +6,7 @@ use Rattle.bsi_aggregates.specs.Tops.{AreTop}
 use Rattle.bsi_digits.specs.declared.extreme.Extreme.{Extreme}
 use Rattle.bsi_digits.specs.declared.extreme.Extreme.TheVariants.{Greatest, Least}
 use Rattle.bsi_aggregates.specs.declared.tops.TopRow.{TopRow}
-use Rattle.bsi_syntax.specs.Numbers.{Field}
+use Rattle.bsi_rows.specs.Fields.{Field}
 use Rattle.bsi_rows.specs.Rows.{column_of}
 use Rattle.bsi_rows.specs.declared.query.Pred.{Pred}
 use Rattle.bsi_ffi.specs.Calls.{WhereOpen}

@@ -11,7 +11,7 @@ use Rattle.bsi_rows.specs.Table.{max_feeders}
 use Rattle.bsi_system.specs.Rings.{FeederState}
 use Rattle.bsi_system.specs.LoaderSteps.{FeederProgress}
 use Rattle.bsi_syntax.specs.Bytes.{KnownBytes}
-use Rattle.bsi_syntax.specs.Numbers.{Field}
+use Rattle.bsi_rows.specs.Fields.{Field}
 use Rattle.bsi_schema.specs.Columns.{Declared}
 use Rattle.bsi_rows.specs.Rows.{Entries}
 use Rattle.bsi_input.specs.Formats.{good_rows, max_records}

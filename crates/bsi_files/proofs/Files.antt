@@ -9,7 +9,7 @@ use Rattle.csv.specs.declared.reader.Reader.{Reader}
 use Rattle.bsi_rows.specs.Runs.{rows_from}
 use Rattle.bsi_rows.specs.Table.{max_feeders}
 use Rattle.bsi_syntax.specs.Bytes.{KnownBytes}
-use Rattle.bsi_syntax.specs.Numbers.{Field}
+use Rattle.bsi_rows.specs.Fields.{Field}
 use Rattle.bsi_schema.specs.Columns.{Declared}
 use Rattle.bsi_rows.specs.Rows.{Entries, SourcedRow}
 use Rattle.bsi_input.specs.Formats.{bad_count, good_rows}

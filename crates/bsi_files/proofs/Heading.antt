@@ -7,7 +7,7 @@ use Rattle.csv.specs.Reading.{default_config, reader_state, source_of, strip_bom
 use Rattle.csv.specs.declared.parser.State.TheVariants as st
 use Rattle.bsi_rows.specs.Table.{max_feeders}
 use Rattle.bsi_syntax.specs.Bytes.{KnownBytes}
-use Rattle.bsi_syntax.specs.Numbers.{Field}
+use Rattle.bsi_rows.specs.Fields.{Field}
 use Rattle.bsi_schema.specs.Columns.{Declared}
 use Rattle.bsi_input.specs.RowFiles.{is_header}
 use Rattle.bsi_input.specs.Sources.{plain_layout, IsAfterHeader, SourceOf}

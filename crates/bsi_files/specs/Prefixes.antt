@@ -3,7 +3,7 @@ use Rattle.std.specs.Prelude.{◌≡◌, ◌≤◌, ⊤, ℕ, suc, true, List, [
 use Rattle.csv.specs.declared.parser.State.{State}
 use Rattle.bsi_schema.specs.Columns.{Declared}
 use Rattle.bsi_syntax.specs.Bytes.{Bytes}
-use Rattle.bsi_syntax.specs.Numbers.{Field}
+use Rattle.bsi_rows.specs.Fields.{Field}
 use Rattle.bsi_rows.specs.Rows.{Entries, SourcedRow}
 use Rattle.bsi_rows.specs.Runs.{rows_from}
 use Rattle.bsi_input.specs.Formats.{bad_count, good_rows}

@@ -1,6 +1,7 @@
 -- For callers: a column of texts has no null words, and candidates of texts alone come to one.
 use Rattle.std.proofs.Common.{◌≡◌, ℕ, Bool, true, false, List, [], Some, None, unwrap_or, if◌then◌else◌, refl, sym, ap, subst, ◌∙◌}
-use Rattle.bsi_kinds.specs.Decimals.{decimal_entry, Field}
+use Rattle.bsi_rows.specs.Fields.{Field}
+use Rattle.bsi_kinds.specs.Decimals.{decimal_entry}
 use Rattle.bsi_kinds.specs.declared.kind.Kind.{Kind}
 use Rattle.bsi_kinds.specs.declared.kind.Kind.TheVariants.{Boolean, Date, Decimal, Text, Time}
 use Rattle.bsi_inference.specs.Choices.{choice_of, decimal_choice}

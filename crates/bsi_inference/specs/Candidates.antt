@@ -1,9 +1,9 @@
--- The candidates of a column, one for each form: which fields they accept, and how a field or another part changes
--- them.
+-- The candidates of a column, one for each form: which fields they accept, how a further field or the candidates of
+-- other rows change them, and which is the first that is not ruled out.
 use Rattle.std.specs.Prelude.{◌≡◌, ◌⊎◌, ℕ, ◌<◌, ◌==◌, Bool, true, false, ◌&&◌, if◌then◌else◌, List, [], ◌∷◌, length, slice_index_or, Option, Some, None, is_some, option_map, ℤ}
 use Rattle.std.specs.List.{All}
 use Rattle.std.specs.Option.{option_or}
-use Rattle.bsi_kinds.specs.Decimals.{Field}
+use Rattle.bsi_rows.specs.Fields.{Field}
 use Rattle.bsi_kinds.specs.declared.date.DateOrder.{DateOrder}
 use Rattle.bsi_kinds.specs.declared.date.DateOrder.TheVariants.{YearFirst, DayFirst, MonthFirst}
 use Rattle.bsi_inference.specs.Forms.{is_allowed, SpellsInForm}

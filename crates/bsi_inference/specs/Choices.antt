@@ -2,7 +2,8 @@
 use Rattle.std.specs.Prelude.{◌≡◌, ◌≤◌, ℕ, ◌&&◌, Bool, true, false, nat_le, if◌then◌else◌, List, Some, option_map, unwrap_or, ℤ}
 use Rattle.std.specs.List.{list_any}
 use Rattle.bsi_kinds.specs.Dates.{date_number}
-use Rattle.bsi_kinds.specs.Decimals.{decimal_entry, Field}
+use Rattle.bsi_rows.specs.Fields.{Field}
+use Rattle.bsi_kinds.specs.Decimals.{decimal_entry}
 use Rattle.bsi_kinds.specs.declared.date.DateForm.{DateForm}
 use Rattle.bsi_kinds.specs.declared.date.DateOrder.{DateOrder}
 use Rattle.bsi_kinds.specs.declared.date.DateOrder.TheVariants.{YearFirst, DayFirst, MonthFirst}

@@ -1,7 +1,8 @@
 -- Fields with a zero before another digit, as 007 and -01.5: they may be codes instead of numbers.
 use Rattle.std.specs.Prelude.{Bool, false, ◌&&◌, ◌==◌, [], ◌∷◌}
 use Rattle.std.specs.Char.{is_ascii_digit}
-use Rattle.bsi_kinds.specs.Decimals.{without_minus, Field}
+use Rattle.bsi_rows.specs.Fields.{Field}
+use Rattle.bsi_kinds.specs.Decimals.{without_minus}
 
 -- A field begins with a zero and another digit.
 abbrev pub begins_padded : Field → Bool

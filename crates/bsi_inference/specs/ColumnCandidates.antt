@@ -1,7 +1,7 @@
 -- What contracts see of `Candidates`: which fields of a column they accept, and what a further field or part changes.
 use Rattle.std.specs.Prelude.{◌≡◌, ◌⊎◌, ◌==◌, ◌||◌, ℕ, Bool, true, false, List, [], length, map, Option, is_some, IsTrue}
 use Rattle.std.specs.List.{Contains}
-use Rattle.bsi_kinds.specs.Decimals.{Field}
+use Rattle.bsi_rows.specs.Fields.{Field}
 use Rattle.bsi_kinds.specs.declared.date.DateOrder.{DateOrder}
 use Rattle.bsi_inference.specs.Candidates.{first_candidate, first_remaining, AreJoined, AreNext, EachAccepts}
 use Rattle.bsi_inference.specs.Decimals.{AcceptsDecimal, AreJoinedDecimals, IsNextDecimals}

@@ -1,6 +1,7 @@
 -- The decimals of a column: which fields they accept, and what a further field or another part of the column changes.
 use Rattle.std.specs.Prelude.{◌≡◌, ◌⊎◌, ◌-◌, ◌<◌, ◌≤◌, ℕ, Bool, not, ◌&&◌, is_some, max, Some, IsTrue}
-use Rattle.bsi_kinds.specs.Decimals.{decimal_entry, decimal_of, Field}
+use Rattle.bsi_rows.specs.Fields.{Field}
+use Rattle.bsi_kinds.specs.Decimals.{decimal_entry, decimal_of}
 use Rattle.bsi_kinds.specs.DecimalPlaces.{places_written}
 use Rattle.bsi_inference.specs.Codes.{is_code}
 use Rattle.bsi_inference.specs.Seen.{CoversSome, IsScaled, IsSeenIf, IsSeenWithAll}

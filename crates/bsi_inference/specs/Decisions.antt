@@ -1,7 +1,7 @@
 -- What is decided of the fields of a column (`Decides`), and that it is true of each field (`IsDecidedFor`).
 use Rattle.std.specs.Prelude.{◌≡◌, ◌⊎◌, ◌+ℤ◌, ℕ, List, [], length, map, pos}
 use Rattle.std.specs.List.{Contains}
-use Rattle.bsi_kinds.specs.Decimals.{Field}
+use Rattle.bsi_rows.specs.Fields.{Field}
 use Rattle.bsi_kinds.specs.Kinds.{IsKind, IsSpelled}
 use Rattle.bsi_kinds.specs.declared.kind.Kind.{Kind}
 use Rattle.bsi_kinds.specs.declared.kind.Kind.TheVariants.{Decimal, Text}

@@ -2,7 +2,7 @@
 use Rattle.std.specs.Prelude.{◌≡◌, codes, Bool, true, false, Option, Some, None, if◌then◌else◌, ℤ, pos}
 use Rattle.std.specs.Str.{bytes_eq}
 use Rattle.bsi_kinds.specs.Dates.{date_number}
-use Rattle.bsi_kinds.specs.Decimals.{Field}
+use Rattle.bsi_rows.specs.Fields.{Field}
 use Rattle.bsi_kinds.specs.Times.{IsTimeNumber, SpellsTime}
 use Rattle.bsi_kinds.specs.declared.date.DateOrder.{DateOrder}
 use Rattle.bsi_kinds.specs.declared.date.DateOrder.TheVariants.{YearFirst, DayFirst, MonthFirst}

@@ -1,7 +1,8 @@
--- Whether a field is among the gathered texts of a column, if all were gathered (`HasText`).
+-- Whether a field is among the gathered texts of a column, if all were gathered (`HasText`), and whether it would be
+-- one too many (`IsFullFor`).
 use Rattle.std.specs.Prelude.{◌≡◌, List, length}
 use Rattle.std.specs.List.{Contains}
-use Rattle.bsi_kinds.specs.Decimals.{Field}
+use Rattle.bsi_rows.specs.Fields.{Field}
 use Rattle.bsi_kinds.specs.Dictionaries.{max_texts}
 use Rattle.bsi_inference.specs.declared.gathered.Gathered.{Gathered}
 use Rattle.bsi_inference.specs.declared.gathered.Gathering.{Gathering}

@@ -1,6 +1,6 @@
 -- The usual null words, such as NA: fields that stand for no value.
 use Rattle.std.specs.Prelude.{codes, List, [], ◌∷◌}
-use Rattle.bsi_kinds.specs.Decimals.{Field}
+use Rattle.bsi_rows.specs.Fields.{Field}
 
 -- The usual null words.
 abbrev pub usual_words : List Field

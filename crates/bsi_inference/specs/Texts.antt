@@ -1,7 +1,7 @@
 -- A list of distinct texts before and after one was added (`HasAddedText`).
 use Rattle.std.specs.Prelude.{◌≡◌, ◌⊎◌, ◌+◌, ◌≤◌, List, length}
 use Rattle.std.specs.List.{Contains}
-use Rattle.bsi_kinds.specs.Decimals.{Field}
+use Rattle.bsi_rows.specs.Fields.{Field}
 
 -- Texts before and after one was added.
 pub record HasAddedText (old : List Field) (text : Field) (new : List Field) : Type 0 where

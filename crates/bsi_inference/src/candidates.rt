@@ -2,7 +2,7 @@
 //! joined.
 
 ghost use Rattle.std.specs.Prelude.{◌≡◌, ◌⊎◌, true, false, map, IsTrue, IfOk, OnOk};
-ghost use Rattle.bsi_kinds.specs.Decimals.{Field};
+ghost use Rattle.bsi_rows.specs.Fields.{Field};
 ghost use Rattle.bsi_inference.specs.Candidates.{first_candidate, AreJoined};
 ghost use Rattle.bsi_inference.specs.Decimals.{AreJoinedDecimals};
 ghost use Rattle.bsi_inference.specs.ColumnCandidates.{has_remaining, is_null_field, Accepts, AddsOnlyField, AddsOnlyOther, GathersOn, HasJoinedKinds, HasNextKinds, HasSameKinds, HaveSameForms, IsNewColumn, IsNewTextColumn, LooksFor, MissesTexts, WasNull, WasText};

@@ -2,7 +2,7 @@
 //! may have day or month first.
 
 ghost use Rattle.std.specs.Prelude.{◌≡◌, ℕ};
-ghost use Rattle.bsi_kinds.specs.Decimals.{Field};
+ghost use Rattle.bsi_rows.specs.Fields.{Field};
 ghost use Rattle.bsi_inference.specs.Candidates.{EachAccepts};
 ghost use Rattle.bsi_inference.specs.Choices.{choice_of, date_choice, form_choice, order_choice, HasFewPlaces, HasFormNumberIn, IsChosenFor};
 ghost use Rattle.bsi_inference.specs.ColumnCandidates.{AcceptsValue};

@@ -1,7 +1,7 @@
 //! Makes the column of the kind that was chosen for its fields, or says why there is none (`decide`).
 
 ghost use Rattle.std.specs.Prelude.{◌≤◌, length, IfOk};
-ghost use Rattle.bsi_kinds.specs.Decimals.{Field};
+ghost use Rattle.bsi_rows.specs.Fields.{Field};
 ghost use Rattle.bsi_inference.specs.ColumnCandidates.{Accepts};
 ghost use Rattle.bsi_inference.specs.Decisions.{Decides, DecidesTexts, HasKind, IsColumnOf, IsDecidedFor, IsTextColumn};
 

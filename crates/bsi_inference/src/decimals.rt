@@ -2,7 +2,8 @@
 //! many places.
 
 ghost use Rattle.std.specs.Prelude.{◌≡◌, ℕ, ◌≤◌, true, false, Some, is_some, IsTrue};
-ghost use Rattle.bsi_kinds.specs.Decimals.{decimal_entry, Field};
+ghost use Rattle.bsi_rows.specs.Fields.{Field};
+ghost use Rattle.bsi_kinds.specs.Decimals.{decimal_entry};
 ghost use Rattle.bsi_inference.specs.Decimals.{AreJoinedDecimals, IsBroughtTo, IsNextDecimals, IsSeenAt};
 ghost use Rattle.bsi_inference.specs.Seen.{CoversSome};
 

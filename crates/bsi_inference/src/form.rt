@@ -2,7 +2,7 @@
 //! kind.
 
 ghost use Rattle.std.specs.Prelude.{◌≡◌, ℕ, ℤ, IfSome, IfNone, IfOk};
-ghost use Rattle.bsi_kinds.specs.Decimals.{Field};
+ghost use Rattle.bsi_rows.specs.Fields.{Field};
 ghost use Rattle.bsi_kinds.specs.Kinds.{IsKind, IsSpelled};
 ghost use Rattle.bsi_inference.specs.Forms.{is_allowed, is_same_order, word_number, IsOfForm, SpellsInForm};
 

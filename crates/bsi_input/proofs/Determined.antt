@@ -30,7 +30,8 @@ use Rattle.bsi_rows.specs.declared.query.Total.TheVariants.{Count, Sum, Least, G
 use Rattle.bsi_digits.specs.WholeNumbers.{signed_sum, IsSignedGreatestOf, IsSignedLeastOf, IsSignedMedianOf}
 use Rattle.bsi_syntax.specs.Events.{IsEvent, IsQuery, feeder_event, plain_event, total_of}
 use Rattle.bsi_syntax.specs.Lines.{answer_line, ask_line, bad_line, done_line, no_memory_line, reply_line, rows_text}
-use Rattle.bsi_syntax.specs.Numbers.{Field, feeder_of, values_in}
+use Rattle.bsi_rows.specs.Fields.{Field}
+use Rattle.bsi_syntax.specs.Numbers.{feeder_of, values_in}
 use Rattle.bsi_input.specs.Pasts.{FindMemory}
 use Rattle.bsi_syntax.specs.Predicates.{IsPlainPredicate}
 use Rattle.bsi_input.specs.Scripts.{AreTurns, Declaring, IsTurn, Running, Phase, set_up}

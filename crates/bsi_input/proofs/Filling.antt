@@ -10,7 +10,7 @@ use Rattle.bsi_schema.specs.Columns.{fits}
 use Rattle.bsi_rows.specs.RowBlocks.{sourced_from, with_block_row, RowBlock}
 use Rattle.bsi_rows.specs.Rows.{Entries}
 use Rattle.bsi_syntax.specs.Bytes.{KnownBytes}
-use Rattle.bsi_syntax.specs.Numbers.{Field}
+use Rattle.bsi_rows.specs.Fields.{Field}
 use Rattle.bsi_input.specs.Formats.{good_row}
 use Rattle.bsi_input.specs.RecordSources.{ReadsRecord, Stops}
 use Rattle.bsi_input.specs.Sources.{counts_of, end_after, end_after_call, with_fed_rows, AreCounts, Counts, Fills, HasReadRows, HasStopped, IsOver, IsPlainReader, Layout, PutsRows, Source, SourceEnd}

@@ -6,7 +6,7 @@ use Rattle.csv.specs.declared.parser.State.{State}
 use Rattle.csv.specs.declared.parser.State.TheVariants as st
 use Rattle.csv.specs.declared.reader.Reader.{Reader}
 use Rattle.bsi_syntax.specs.Bytes.{KnownBytes}
-use Rattle.bsi_syntax.specs.Numbers.{Field}
+use Rattle.bsi_rows.specs.Fields.{Field}
 use Rattle.bsi_input.specs.Sources.{HasReadRecords, IsOver}
 use Rattle.bsi_input.specs.Texts.{AreAllRecords, AreFirstRecords}
 use Rattle.bsi_input.proofs.Joining.{reach_on}

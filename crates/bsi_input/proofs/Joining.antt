@@ -11,7 +11,7 @@ use Rattle.csv.specs.declared.parser.State.TheVariants as st
 use Rattle.csv.specs.declared.reader.Reader.{Reader}
 use Rattle.bsi_rows.specs.Rows.{Entries}
 use Rattle.bsi_syntax.specs.Bytes.{KnownBytes}
-use Rattle.bsi_syntax.specs.Numbers.{Field}
+use Rattle.bsi_rows.specs.Fields.{Field}
 use Rattle.bsi_input.specs.Formats.{good_row}
 use Rattle.bsi_input.specs.Sources.{Counts, HasReadRecords, HasReadRows, IsAfterHeader, IsOver, IsWholeFile, Layout}
 use Rattle.bsi_input.proofs.Taking.{bad_one}

@@ -11,7 +11,8 @@ use Rattle.std.proofs.lemmas.List.Sums.{prefix_len-drop_all}
 use Rattle.bsi_schema.specs.Columns.{column_at, entry_at, fits, is_accepted_by, Declared, NamedColumn}
 use Rattle.bsi_rows.specs.Rows.{Entries}
 use Rattle.bsi_schema.proofs.Fitting.{fits-each, misfit-at}
-use Rattle.bsi_syntax.specs.Numbers.{Field, value_in, values_in}
+use Rattle.bsi_rows.specs.Fields.{Field}
+use Rattle.bsi_syntax.specs.Numbers.{value_in, values_in}
 use Rattle.bsi_input.specs.Formats.{fields_at, fitting}
 use Rattle.bsi_input.specs.RowFiles.{field_index}
 use Rattle.bsi_syntax.proofs.Values.{behind, values_done, values_next, values_stop}

@@ -11,7 +11,7 @@ use Rattle.csv.specs.declared.parser.State.TheVariants as st
 use Rattle.csv.specs.declared.reader.Reader.{Reader}
 use Rattle.bsi_rows.specs.Rows.{Entries}
 use Rattle.bsi_syntax.specs.Bytes.{KnownBytes}
-use Rattle.bsi_syntax.specs.Numbers.{Field}
+use Rattle.bsi_rows.specs.Fields.{Field}
 use Rattle.bsi_input.specs.Formats.{bad_count, good_row, good_rows, given}
 use Rattle.bsi_input.specs.Sources.{counts_of, end_after, AreLeft, Counts, GivesFirst, GivesFirstRows, HasEndedBy, HasGivenNext, HasGivenRows, HasLeft, HasReadRecords, HasReadRows, HasRest, IsAfterHeader, IsOver, IsWholeFile, IsWithoutFault, Layout, Source, SourceEnd}
 use Rattle.bsi_input.specs.declared.rows.SourceFault.{SourceFault}

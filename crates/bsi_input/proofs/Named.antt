@@ -11,7 +11,8 @@ use Rattle.bsi_schema.specs.Names.{is_name}
 use Rattle.bsi_rows.specs.Refusals.{name_refusal}
 use Rattle.bsi_schema.specs.declared.form.Form.{Form}
 use Rattle.bsi_syntax.specs.Lines.{bad_line, done_line}
-use Rattle.bsi_syntax.specs.Numbers.{Field, offset_of}
+use Rattle.bsi_rows.specs.Fields.{Field}
+use Rattle.bsi_syntax.specs.Numbers.{offset_of}
 use Rattle.bsi_input.specs.Scripts.{Phase, Declaring, Running, set_up, IsTurn, AreTurns}
 use Rattle.bsi_syntax.specs.declared.setups.DeclaredTable.{DeclaredTable}
 use Rattle.bsi_syntax.specs.Setups.{can_begin, capacities_after, column_after, declared_after, form_in, is_begin, limit_of, table_after, with_new_column, Setup}

@@ -8,7 +8,7 @@ use Rattle.bsi_rows.specs.declared.event.Event.{Event}
 use Rattle.bsi_rows.specs.declared.event.Reply.{Reply}
 use Rattle.bsi_syntax.specs.Events.{IsEvent}
 use Rattle.bsi_syntax.specs.Lines.{bad_line, done_line}
-use Rattle.bsi_syntax.specs.Numbers.{Field}
+use Rattle.bsi_rows.specs.Fields.{Field}
 use Rattle.bsi_input.specs.Pasts.{AreAddedBy, HasLawfulPast, IsAddedBy}
 use Rattle.bsi_input.specs.Scripts.{AreTurns, Declaring, IsTurn, Running, Phase, set_up}
 use Rattle.bsi_syntax.specs.Setups.{Setup, can_begin, declared_after, is_begin, machine_of, nothing_declared}

@@ -17,7 +17,7 @@ use Rattle.csv.specs.declared.reader.Reader.{Reader}
 use Rattle.bsi_schema.specs.Columns.{NamedColumn}
 use Rattle.bsi_schema.specs.Names.{is_name}
 use Rattle.bsi_syntax.specs.Bytes.{KnownBytes}
-use Rattle.bsi_syntax.specs.Numbers.{Field}
+use Rattle.bsi_rows.specs.Fields.{Field}
 use Rattle.bsi_input.specs.Scripts.{Phase, Declaring, IsTurn, AreTurns}
 use Rattle.bsi_syntax.specs.Setups.{nothing_declared}
 use Rattle.bsi_input.specs.Formats.{max_records}

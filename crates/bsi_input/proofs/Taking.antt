@@ -16,7 +16,7 @@ use Rattle.csv.specs.declared.parser.State.TheVariants as st
 use Rattle.csv.specs.declared.reader.Reader.{Reader}
 use Rattle.bsi_rows.specs.Rows.{Entries}
 use Rattle.bsi_syntax.specs.Bytes.{KnownBytes}
-use Rattle.bsi_syntax.specs.Numbers.{Field}
+use Rattle.bsi_rows.specs.Fields.{Field}
 use Rattle.bsi_input.specs.Formats.{bad_count, good_row, Format}
 use Rattle.bsi_input.specs.Sources.{layout_by, AreCounts, Counts, HasNext, HasNoHeader, HasReadAll, HasReadRecords, HasReadRows, HasStopped, IsAfterHeader, IsOver, IsPlainReader, Layout, LayoutOf}
 use Rattle.bsi_input.specs.declared.rows.SourceFault.{SourceFault}

@@ -15,7 +15,8 @@ use Rattle.bsi_rows.specs.declared.errors.AskError.TheVariants as ask
 use Rattle.bsi_rows.specs.declared.query.Query.{Query}
 use Rattle.bsi_syntax.specs.Events.{IsEvent, IsQuery, feeder_event, plain_event}
 use Rattle.bsi_syntax.specs.Lines.{bad_line, done_line, reply_line}
-use Rattle.bsi_syntax.specs.Numbers.{Field, feeder_of, values_in}
+use Rattle.bsi_rows.specs.Fields.{Field}
+use Rattle.bsi_syntax.specs.Numbers.{feeder_of, values_in}
 use Rattle.bsi_input.specs.Scripts.{Phase, Declaring, Running, set_up, IsTurn, AreTurns}
 use Rattle.bsi_input.proofs.Named.{HasNames, IfSome-choice, IfSome-map, IfSome-then, turn_named}
 use Rattle.bsi_syntax.proofs.Spelling.{query_is_there, query_or_not}

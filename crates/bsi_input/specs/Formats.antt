@@ -4,7 +4,7 @@ use Rattle.std.specs.Prelude.{ℕ, Bool, nat_eq, if◌then◌else◌, List, [], 
 use Rattle.std.specs.Option.{is_none}
 use Rattle.bsi_schema.specs.Columns.{Declared, fits}
 use Rattle.bsi_rows.specs.Rows.{Entries}
-use Rattle.bsi_syntax.specs.Numbers.{Field}
+use Rattle.bsi_rows.specs.Fields.{Field}
 
 -- The most records of a text. A format may have others for a row file.
 abbrev pub max_records : ℕ

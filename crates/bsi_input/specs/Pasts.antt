@@ -8,7 +8,7 @@ use Rattle.bsi_schema.specs.Columns.{Declared}
 use Rattle.bsi_syntax.specs.Bytes.{Bytes}
 use Rattle.bsi_syntax.specs.Events.{IsEvent}
 use Rattle.bsi_syntax.specs.Lines.{bad_line, done_line, no_memory_line, reply_line}
-use Rattle.bsi_syntax.specs.Numbers.{Field}
+use Rattle.bsi_rows.specs.Fields.{Field}
 use Rattle.bsi_input.specs.Scripts.{AreTurns, Declaring}
 use Rattle.bsi_syntax.specs.Setups.{Setup, can_begin, is_begin, machine_of, nothing_declared}
 

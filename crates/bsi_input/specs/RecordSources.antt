@@ -2,7 +2,7 @@
 use Rattle.std.specs.Prelude.{◌≡◌, ◌≢◌, ℕ, ◌+◌, List, [], ◌∷◌, Some, Err, Bool, true, false}
 use Rattle.csv.specs.declared.reader.Reader.{Reader}
 use Rattle.bsi_syntax.specs.Bytes.{KnownBytes}
-use Rattle.bsi_syntax.specs.Numbers.{Field}
+use Rattle.bsi_rows.specs.Fields.{Field}
 use Rattle.bsi_input.specs.Formats.{max_records}
 use Rattle.bsi_input.specs.Sources.{end_after, HasNext, HasReadRecords, IsOver, SourceEnd}
 use Rattle.bsi_input.specs.declared.rows.SourceFault.{SourceFault}

@@ -3,7 +3,8 @@ use Rattle.std.specs.Prelude.{ℕ, Bool, ◌&&◌, not, nat_eq, List, map, count
 use Rattle.std.specs.List.{list_all, prefix_len}
 use Rattle.std.specs.Str.{bytes_eq}
 use Rattle.bsi_schema.specs.Columns.{Declared, NamedColumn, position_of}
-use Rattle.bsi_syntax.specs.Numbers.{Field, values_in}
+use Rattle.bsi_rows.specs.Fields.{Field}
+use Rattle.bsi_syntax.specs.Numbers.{values_in}
 use Rattle.bsi_input.specs.Formats.{max_records, Format}
 
 -- Exactly one field of the header is the column's name.

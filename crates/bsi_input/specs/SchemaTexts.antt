@@ -3,7 +3,7 @@ use Rattle.std.specs.Prelude.{◌≡◌, ⊤, ℕ, ◌+◌, ◌<◌, ◌≤◌, 
 use Rattle.csv.specs.declared.parser.State.{State}
 use Rattle.bsi_schema.specs.Columns.{Declared}
 use Rattle.bsi_syntax.specs.Bytes.{Bytes}
-use Rattle.bsi_syntax.specs.Numbers.{Field}
+use Rattle.bsi_rows.specs.Fields.{Field}
 use Rattle.bsi_syntax.specs.Setups.{table_after, undeclared_table}
 use Rattle.bsi_syntax.specs.declared.setups.DeclaredTable.{DeclaredTable}
 use Rattle.bsi_input.specs.Formats.{max_records}

@@ -7,7 +7,7 @@ use Rattle.bsi_rows.specs.Shown.{Shown, IsLawful}
 use Rattle.bsi_syntax.specs.Bytes.{Bytes}
 use Rattle.bsi_syntax.specs.Events.{IsEvent}
 use Rattle.bsi_syntax.specs.Lines.{bad_line, done_line, reply_line}
-use Rattle.bsi_syntax.specs.Numbers.{Field}
+use Rattle.bsi_rows.specs.Fields.{Field}
 use Rattle.bsi_syntax.specs.Setups.{Setup, can_begin, declared_after, is_begin, machine_of, nothing_declared}
 
 -- The phase of a script: it declares its setup or, from `begin` on, runs its machine.

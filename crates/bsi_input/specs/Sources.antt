@@ -11,7 +11,7 @@ use Rattle.bsi_schema.specs.Columns.{fits, Declared}
 use Rattle.bsi_rows.specs.RowBlocks.{sourced_from, max_block_rows, RowBlock}
 use Rattle.bsi_rows.specs.Rows.{Entries}
 use Rattle.bsi_syntax.specs.Bytes.{Bytes, KnownBytes}
-use Rattle.bsi_syntax.specs.Numbers.{Field}
+use Rattle.bsi_rows.specs.Fields.{Field}
 use Rattle.bsi_input.specs.Formats.{bad_count, good_rows, Format}
 use Rattle.bsi_input.specs.RowFiles.{plain_format}
 use Rattle.bsi_input.specs.declared.rows.SourceFault.{SourceFault}

@@ -7,7 +7,7 @@ use Rattle.csv.specs.Reading.{AreRecords, Reached, default_config, strip_bom}
 use Rattle.csv.specs.declared.parser.State.{State}
 use Rattle.csv.specs.declared.parser.State.TheVariants as st
 use Rattle.bsi_syntax.specs.Bytes.{Bytes, KnownBytes}
-use Rattle.bsi_syntax.specs.Numbers.{Field}
+use Rattle.bsi_rows.specs.Fields.{Field}
 use Rattle.bsi_input.specs.Scripts.{IsScriptRun}
 use Rattle.bsi_input.specs.Formats.{max_records}
 use Rattle.bsi_input.specs.BufferedOutput.{HoldsAfterFlush}

@@ -1,4 +1,4 @@
-//! The trait of what turns the records of a row file into rows (`RowFormat`), and that of a schema of whole numbers.
+//! The trait of what turns the records of a row file into rows (`RowFormat`), and how a schema of whole numbers does.
 
 ghost use Rattle.std.specs.Prelude.{◌≡◌, ◌≤◌, length, true, vec_capacity, IfOk, IsTrue};
 ghost use Rattle.csv.specs.Records.{fields_of};

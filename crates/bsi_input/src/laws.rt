@@ -8,7 +8,7 @@ ghost use Rattle.csv.specs.declared.parser.State.TheVariants as st;
 ghost use Rattle.csv.specs.declared.reader.Reader.{Reader};
 ghost use Rattle.bsi_rows.specs.Shown.{Shown};
 ghost use Rattle.bsi_rows.specs.Rows.{Entries};
-ghost use Rattle.bsi_syntax.specs.Numbers.{Field};
+ghost use Rattle.bsi_rows.specs.Fields.{Field};
 ghost use Rattle.bsi_input.specs.Pasts.{FindMemory, HasLawfulPast};
 ghost use Rattle.bsi_input.specs.Scripts.{AreTurns, Declaring, IsScriptRun, Running};
 ghost use Rattle.bsi_syntax.specs.Setups.{nothing_declared};

@@ -1,7 +1,7 @@
 -- Booleans: what the bytes of a field spell, and how they are written.
 use Rattle.std.specs.Prelude.{Bool, Option, Some, None, if◌then◌else◌, ℤ, pos, int_lt}
 use Rattle.std.specs.Str.{bytes_eq}
-use Rattle.bsi_kinds.specs.Decimals.{Field}
+use Rattle.bsi_rows.specs.Fields.{Field}
 use Rattle.bsi_kinds.specs.declared.boolean.BooleanForm.{BooleanForm}
 
 -- The number of a word: 1 for true, and 0 for false.

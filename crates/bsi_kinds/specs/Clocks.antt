@@ -3,7 +3,8 @@ use Rattle.std.specs.Prelude.{ℕ, ◌+◌, ◌*◌, ◌<◌, ◌^◌, Bool, tru
 use Rattle.std.specs.List.{after_first, before_first}
 use Rattle.std.specs.Str.{bytes_eq}
 use Rattle.jiff_core.specs.Calendar.{IsWithin}
-use Rattle.bsi_kinds.specs.Decimals.{mantissa_of, scanned, short_number, Decimal, Digits, Field}
+use Rattle.bsi_rows.specs.Fields.{Field}
+use Rattle.bsi_kinds.specs.Decimals.{mantissa_of, scanned, short_number, Decimal, Digits}
 use Rattle.bsi_kinds.specs.declared.clock.ScannedTime.{ScannedTime}
 
 -- A moment: whole seconds since midnight or since 1970-01-01T00:00:00, and the digits after the point.

@@ -1,7 +1,8 @@
 -- How many digits the text of a decimal has behind the point, once its exponent has moved the point (`places_written`).
 use Rattle.std.specs.Prelude.{ℕ, ◌+◌, ◌-◌, suc, length, unwrap_or, ℤ, pos, negsuc}
 use Rattle.std.specs.List.{after_first, before_first}
-use Rattle.bsi_kinds.specs.Decimals.{exponent_of, fraction, is_exponent_sign, Field}
+use Rattle.bsi_rows.specs.Fields.{Field}
+use Rattle.bsi_kinds.specs.Decimals.{exponent_of, fraction, is_exponent_sign}
 
 -- The places after an exponent has moved the point.
 abbrev pub moved_places : ℕ → ℤ → ℕ

@@ -1,6 +1,6 @@
 -- The text of a decimal (`decimal_text`): a sign, whole units, and the digits after the point.
 use Rattle.std.specs.Prelude.{ℕ, zero, suc, ◌+◌, ◌/◌, ◌%◌, ◌^◌, ◌==◌, if◌then◌else◌, [], ◌∷◌, ◌++◌, ℤ, unsigned_abs, int_lt, pos, decimal}
-use Rattle.bsi_kinds.specs.Decimals.{Field}
+use Rattle.bsi_rows.specs.Fields.{Field}
 
 -- The last k digits of a number as ASCII, with leading zeros.
 abbrev pub last_digits : ℕ → ℕ → Field

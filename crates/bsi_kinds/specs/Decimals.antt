@@ -4,14 +4,11 @@ use Rattle.std.specs.Char.{is_ascii_digit}
 use Rattle.std.specs.List.{after_first, before_first, list_all}
 use Rattle.std.specs.Option.{option_or}
 use Rattle.std.specs.Str.Parse.{digits_value}
+use Rattle.bsi_rows.specs.Fields.{Field}
 use Rattle.bsi_digits.specs.Orders.{Order}
 use Rattle.bsi_digits.specs.WholeNumbers.{signed_order}
 use Rattle.bsi_digits.specs.Signed.{end_of_i64, least_i64}
 use Rattle.bsi_kinds.specs.declared.decimal.Scanned.{Scanned}
-
--- The bytes of a field.
-abbrev pub Field : Type 0
-Field = List ℕ
 
 -- Digits without a sign: the whole number that they spell, and how many of them follow the point.
 pub record Digits : Type 0 where

@@ -8,7 +8,8 @@ use Rattle.bsi_digits.specs.declared.op.Op.{Op}
 use Rattle.bsi_kinds.specs.Booleans.{boolean_number}
 use Rattle.bsi_kinds.specs.Comparisons.{brought_down, comparison}
 use Rattle.bsi_kinds.specs.Dates.{date_number}
-use Rattle.bsi_kinds.specs.Decimals.{begins_minus, decimal_entry, first_from, scanned, spelled_digits, without_minus, Field}
+use Rattle.bsi_rows.specs.Fields.{Field}
+use Rattle.bsi_kinds.specs.Decimals.{begins_minus, decimal_entry, first_from, scanned, spelled_digits, without_minus}
 use Rattle.bsi_kinds.specs.Dictionaries.{text_at}
 use Rattle.bsi_kinds.specs.Times.{first_at, scanned_time_of, time_entry, unit_places}
 use Rattle.bsi_kinds.specs.declared.comparison.Comparison.{Comparison}

@@ -7,7 +7,8 @@ use Rattle.bsi_digits.specs.WholeNumbers.{signed_order}
 use Rattle.bsi_digits.specs.declared.op.Op.{Op}
 use Rattle.bsi_kinds.specs.Booleans.{boolean_number, boolean_text, is_true}
 use Rattle.bsi_kinds.specs.Dates.{date_number, WritesDate}
-use Rattle.bsi_kinds.specs.Decimals.{decimal_at, decimal_entry, decimal_of, decimal_order, Decimal as Fraction, Field}
+use Rattle.bsi_rows.specs.Fields.{Field}
+use Rattle.bsi_kinds.specs.Decimals.{decimal_at, decimal_entry, decimal_of, decimal_order, Decimal as Fraction}
 use Rattle.bsi_kinds.specs.Dictionaries.{text_at, text_order}
 use Rattle.bsi_kinds.specs.DecimalTexts.{decimal_text}
 use Rattle.bsi_kinds.specs.TimeTexts.{WritesTime}

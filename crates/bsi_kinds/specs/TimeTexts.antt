@@ -5,7 +5,7 @@ use Rattle.jiff_core.specs.Time.{time_seconds}
 use Rattle.jiff_core.specs.declared.civil.date.Date.{Date}
 use Rattle.jiff_core.specs.declared.civil.time.Time.{Time}
 use Rattle.bsi_kinds.specs.Dates.{date_text}
-use Rattle.bsi_kinds.specs.Decimals.{Field}
+use Rattle.bsi_rows.specs.Fields.{Field}
 use Rattle.bsi_kinds.specs.DecimalTexts.{last_digits, places_text}
 use Rattle.bsi_kinds.specs.Times.{unit_places}
 use Rattle.bsi_kinds.specs.declared.time.TimeForm.{TimeForm}

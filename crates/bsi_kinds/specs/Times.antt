@@ -5,7 +5,8 @@ use Rattle.std.specs.List.{before_first, position_or_len}
 use Rattle.jiff_core.specs.Calendar.{IsEpochDay}
 use Rattle.bsi_kinds.specs.Clocks.{clock_of, moment_value, moved, scanned_time, whole_moment, zone_offset, Moment}
 use Rattle.bsi_kinds.specs.Dates.{date_number}
-use Rattle.bsi_kinds.specs.Decimals.{Decimal, Field, Represents}
+use Rattle.bsi_rows.specs.Fields.{Field}
+use Rattle.bsi_kinds.specs.Decimals.{Decimal, Represents}
 use Rattle.bsi_kinds.specs.declared.clock.ScannedTime.{ScannedTime}
 use Rattle.bsi_kinds.specs.declared.time.TimeForm.{TimeForm}
 use Rattle.bsi_kinds.specs.declared.time.TimeUnit.{TimeUnit}

@@ -19,7 +19,7 @@ use Rattle.bsi_schema.specs.Names.{is_name}
 use Rattle.bsi_schema.specs.Refusals.{name_refusal}
 use Rattle.bsi_schema.specs.declared.form.Form.{Form}
 use Rattle.bsi_schema.specs.declared.schema_error.SchemaError.{SchemaError}
-use Rattle.bsi_kinds.specs.Decimals.{Field}
+use Rattle.bsi_rows.specs.Fields.{Field}
 use Rattle.bsi_kinds.specs.Kinds.{IsKind}
 use Rattle.bsi_kinds.specs.declared.kind.Kind.{Kind}
 use Rattle.bsi_kinds.specs.declared.kind.Kind.TheVariants.{Decimal}

@@ -5,7 +5,7 @@ use Rattle.csv.specs.Machine.{next_record}
 use Rattle.csv.specs.Reading.{default_config, strip_bom, AreRecords, Reached}
 use Rattle.csv.specs.declared.parser.State.{State}
 use Rattle.csv.specs.declared.parser.State.TheVariants as st
-use Rattle.bsi_kinds.specs.Decimals.{Field}
+use Rattle.bsi_rows.specs.Fields.{Field}
 use Rattle.bsi_input.specs.Texts.{AreAllRecords}
 use Rattle.bsi_input.specs.declared.rows.SourceFault.TheVariants as source
 use Rattle.bsi_input.proofs.AllRecords.{all_records, one_reading, records_behind}

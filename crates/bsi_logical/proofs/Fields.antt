@@ -6,7 +6,7 @@ use Rattle.bsi_schema.specs.Columns.{column_at, entry_at, fits, is_accepted_by}
 use Rattle.bsi_schema.proofs.Fitting.{fits-each}
 use Rattle.bsi_rows.specs.Rows.{Entries}
 use Rattle.bsi_syntax.proofs.Values.{behind}
-use Rattle.bsi_kinds.specs.Decimals.{Field}
+use Rattle.bsi_rows.specs.Fields.{Field}
 use Rattle.bsi_input.specs.Formats.{fitting}
 use Rattle.bsi_input.proofs.Layouts.{misfit, taken_not, taken_value}
 use Rattle.bsi_logical.specs.Logical.{Logical}

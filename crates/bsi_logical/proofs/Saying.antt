@@ -6,7 +6,7 @@ use Rattle.csv.specs.Reading.{default_config, reader_state, source_of, strip_bom
 use Rattle.csv.specs.declared.parser.State.{State}
 use Rattle.csv.specs.declared.parser.State.TheVariants as st
 use Rattle.csv.specs.declared.reader.Reader.{Reader}
-use Rattle.bsi_kinds.specs.Decimals.{Field}
+use Rattle.bsi_rows.specs.Fields.{Field}
 use Rattle.bsi_input.specs.Formats.{max_records}
 use Rattle.bsi_input.specs.Sources.{HasNext, HasReadRecords, IsOver}
 use Rattle.bsi_input.specs.Texts.{ForText}

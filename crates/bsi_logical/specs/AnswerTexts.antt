@@ -4,7 +4,7 @@ use Rattle.std.specs.Fmt.{signed_decimal}
 use Rattle.std.specs.Int.{w64}
 use Rattle.std.specs.List.{flat_map, list_any}
 use Rattle.bsi_kinds.specs.DecimalTexts.{decimal_text}
-use Rattle.bsi_kinds.specs.Decimals.{Field}
+use Rattle.bsi_rows.specs.Fields.{Field}
 use Rattle.bsi_kinds.specs.Dictionaries.{text_at}
 use Rattle.bsi_kinds.specs.Kinds.{IsNumber, Writes}
 use Rattle.bsi_kinds.specs.declared.kind.Kind.{Kind}

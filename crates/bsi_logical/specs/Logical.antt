@@ -4,7 +4,7 @@ use Rattle.std.specs.Option.{option_or}
 use Rattle.std.specs.Str.{bytes_eq}
 use Rattle.bsi_schema.specs.Columns.{column_at, max_columns, no_columns, position_of, Declared}
 use Rattle.bsi_rows.specs.Table.{max_rows}
-use Rattle.bsi_kinds.specs.Decimals.{Field}
+use Rattle.bsi_rows.specs.Fields.{Field}
 use Rattle.bsi_kinds.specs.Kinds.{IsKind}
 use Rattle.bsi_kinds.specs.Predicates.{kind_at}
 use Rattle.bsi_kinds.specs.declared.kind.Kind.{Kind}

@@ -4,7 +4,7 @@ use Rattle.std.specs.List.{list_all}
 use Rattle.std.specs.Str.{bytes_eq}
 use Rattle.bsi_schema.specs.Columns.{is_accepted_by, NamedColumn}
 use Rattle.bsi_rows.specs.Rows.{Entries}
-use Rattle.bsi_kinds.specs.Decimals.{Field}
+use Rattle.bsi_rows.specs.Fields.{Field}
 use Rattle.bsi_kinds.specs.FieldNumbers.{field_number}
 use Rattle.bsi_input.specs.Formats.{Format}
 use Rattle.bsi_input.specs.RowFiles.{field_index}

@@ -1,7 +1,7 @@
 -- The text of a logical schema: what its records say, one after another, or why they say none (`IsLogicalFault`).
 use Rattle.std.specs.Prelude.{◌≡◌, ℕ, ◌+◌, ◌<◌, ◌≤◌, List, [], ◌∷◌, ◌++◌, length, Result, Ok, Err, IsOk}
 use Rattle.csv.specs.declared.parser.State.{State}
-use Rattle.bsi_kinds.specs.Decimals.{Field}
+use Rattle.bsi_rows.specs.Fields.{Field}
 use Rattle.bsi_input.specs.Formats.{max_records}
 use Rattle.bsi_input.specs.Texts.{AreAllRecords, AreFirstRecords, AreTooMany}
 use Rattle.bsi_input.specs.declared.rows.SourceFault.TheVariants as source

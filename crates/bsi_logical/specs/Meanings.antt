@@ -4,7 +4,7 @@ use Rattle.std.specs.Prelude.{ℕ, ℤ, Bool, ◌&&◌, nat_lt, if◌then◌else
 use Rattle.bsi_digits.specs.declared.op.Op.{Op}
 use Rattle.bsi_schema.specs.Names.{is_word}
 use Rattle.bsi_kinds.specs.FieldNumbers.{comparison_of}
-use Rattle.bsi_syntax.specs.Numbers.{Field}
+use Rattle.bsi_rows.specs.Fields.{Field}
 use Rattle.bsi_syntax.specs.Vocabularies.{Words}
 use Rattle.bsi_logical.specs.Entries.{asked_kind, have_same_values, is_summed}
 use Rattle.bsi_logical.specs.Logical.{column_called, kind_of, Logical}

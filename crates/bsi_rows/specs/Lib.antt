@@ -1,5 +1,6 @@
 pub mod Answers
 pub mod ByFeeder
+pub mod Fields
 pub mod Numbering
 pub mod Refusals
 pub mod RowBlocks

@@ -1,5 +1,5 @@
--- Which sizes of a step machine are refused, its feeders' capacities or its limit of rows, and a new machine
--- (`new_machine`).
+-- Which sizes of a step machine are refused: how many feeders it has, their capacities, or its limit of rows; and
+-- what a new machine is (`new_machine`).
 use Rattle.std.specs.Prelude.{ℕ, Bool, false, ◌||◌, List, [], Option, Some, length, map, position, nat_eq, nat_lt, option_map, if◌then◌else◌}
 use Rattle.std.specs.Option.{option_or}
 use Rattle.bsi_rows.specs.declared.errors.IndexError.{IndexError}

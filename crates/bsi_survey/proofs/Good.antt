@@ -3,7 +3,7 @@ use Rattle.std.proofs.Common.{◌≡◌, inl, inr, ℕ, Bool, true, false, not, 
 use Rattle.std.specs.Prelude.{IsSome}
 use Rattle.std.specs.List.{Contains}
 use Rattle.bsi_schema.specs.Columns.{column_at, is_accepted_by, NamedColumn}
-use Rattle.bsi_kinds.specs.Decimals.{Field}
+use Rattle.bsi_rows.specs.Fields.{Field}
 use Rattle.bsi_kinds.specs.FieldNumbers.{field_number}
 use Rattle.bsi_kinds.specs.Kinds.{IsSpelled}
 use Rattle.bsi_kinds.specs.Nulls.{is_null_word}

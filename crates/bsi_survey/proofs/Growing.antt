@@ -3,7 +3,7 @@ use Rattle.std.proofs.Common.{◌≡◌, inl, inr, ℕ, ◌+◌, ◌<◌, ◌≤
 use Rattle.std.proofs.Math.ListN.{length-set, set}
 use Rattle.std.proofs.lemmas.Bool.{cases_eq, cases_lt}
 use Rattle.std.proofs.lemmas.List.{get_or_default}
-use Rattle.bsi_kinds.specs.Decimals.{Field}
+use Rattle.bsi_rows.specs.Fields.{Field}
 use Rattle.bsi_inference.specs.ColumnCandidates.{is_null_field, Accepts, HasJoinedKinds, HaveSameForms, IsNewTextColumn, LooksFor}
 use Rattle.bsi_inference.specs.Decimals.{AcceptsDecimal}
 use Rattle.bsi_inference.specs.declared.candidate.Candidate.{Candidate}

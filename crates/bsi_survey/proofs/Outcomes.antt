@@ -1,6 +1,6 @@
 -- What was decided of a column that has texts.
 use Rattle.std.proofs.Common.{◌≡◌, true, List, [], refl, ap}
-use Rattle.bsi_kinds.specs.Decimals.{Field}
+use Rattle.bsi_rows.specs.Fields.{Field}
 use Rattle.bsi_kinds.specs.declared.kind.Kind.{Kind}
 use Rattle.bsi_kinds.specs.declared.kind.Kind.TheVariants.{Boolean, Date, Decimal, Text, Time}
 use Rattle.bsi_inference.specs.Decisions.{Decides}

@@ -7,7 +7,7 @@ use Rattle.std.specs.List.{filter}
 use Rattle.csv.specs.Reading.{ReadRecord, reader_config}
 use Rattle.csv.specs.declared.reader.Reader.{Reader}
 use Rattle.bsi_syntax.specs.Bytes.{KnownBytes}
-use Rattle.bsi_syntax.specs.Numbers.{Field}
+use Rattle.bsi_rows.specs.Fields.{Field}
 use Rattle.bsi_inference.specs.declared.candidates.Candidates.{Candidates}
 use Rattle.bsi_survey.specs.Looking.{AcceptsRecord, AreGrown, HasObservedFields}
 use Rattle.bsi_survey.specs.Surveys.{column_fields, counted, is_whole, AcceptsWhole, AreCounted, HaveObserved, HaveObservedAll, HaveObservedEach}

@@ -8,7 +8,7 @@ use Rattle.csv.specs.declared.parser.State.{State}
 use Rattle.csv.specs.declared.parser.State.TheVariants as st
 use Rattle.csv.specs.declared.reader.Reader.{Reader}
 use Rattle.bsi_syntax.specs.Bytes.{KnownBytes}
-use Rattle.bsi_syntax.specs.Numbers.{Field}
+use Rattle.bsi_rows.specs.Fields.{Field}
 use Rattle.bsi_input.proofs.AllRecords.{records_behind}
 use Rattle.bsi_survey.specs.TextRecords.{config_of, AreLeft, AreTextRecords, HasRead}
 

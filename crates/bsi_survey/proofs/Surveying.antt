@@ -4,7 +4,7 @@ use Rattle.csv.specs.Reading.{ReadRecord, reader_config, reader_state, source_of
 use Rattle.csv.specs.declared.parser.State.TheVariants as st
 use Rattle.csv.specs.declared.reader.Reader.{Reader}
 use Rattle.bsi_syntax.specs.Bytes.{KnownBytes}
-use Rattle.bsi_kinds.specs.Decimals.{Field}
+use Rattle.bsi_rows.specs.Fields.{Field}
 use Rattle.bsi_inference.specs.Nulls.{usual_words}
 use Rattle.bsi_inference.specs.declared.candidates.Candidates.{Candidates}
 use Rattle.bsi_survey.specs.Looking.{AreGrown, AreLookedFor, AreNewBy, HasObservedFields, IsGrown}

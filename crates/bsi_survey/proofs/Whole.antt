@@ -9,7 +9,7 @@ use Rattle.std.proofs.lemmas.Slice.Eq.{bytes_eq-Decides}
 use Rattle.bsi_schema.specs.Columns.{column_at, entry_at, fits, is_accepted_by, NamedColumn}
 use Rattle.bsi_schema.proofs.Fitting.{fits-each}
 use Rattle.bsi_rows.specs.Rows.{Entries}
-use Rattle.bsi_kinds.specs.Decimals.{Field}
+use Rattle.bsi_rows.specs.Fields.{Field}
 use Rattle.bsi_inference.specs.ColumnCandidates.{Accepts}
 use Rattle.bsi_inference.specs.declared.candidates.Candidates.{Candidates}
 use Rattle.bsi_input.specs.Formats.{fields_at, fitting, good_row, in_order}

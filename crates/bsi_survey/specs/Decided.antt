@@ -1,6 +1,6 @@
 -- What is decided of the columns of a survey: a column each, which is true of the fields that were accepted.
 use Rattle.std.specs.Prelude.{◌≡◌, ℕ, ◌<◌, List, length, map, pos, slice_index_or}
-use Rattle.bsi_kinds.specs.Decimals.{Field}
+use Rattle.bsi_rows.specs.Fields.{Field}
 use Rattle.bsi_kinds.specs.Dictionaries.{AreRising}
 use Rattle.bsi_kinds.specs.declared.kind.Kind.{Kind}
 use Rattle.bsi_kinds.specs.declared.kind.Kind.TheVariants.{Boolean, Date, Decimal, Text, Time}

@@ -2,7 +2,7 @@
 use Rattle.std.specs.Prelude.{◌≡◌, ◌<◌, ◌||◌, ◌==◌, ℕ, Bool, false, List, length, slice_index_or, IsSome, IsTrue}
 use Rattle.std.specs.List.{Contains}
 use Rattle.bsi_schema.specs.Columns.{column_at, Declared}
-use Rattle.bsi_kinds.specs.Decimals.{Field}
+use Rattle.bsi_rows.specs.Fields.{Field}
 use Rattle.bsi_kinds.specs.Nulls.{is_null_word}
 use Rattle.bsi_inference.specs.declared.decision.Column.{Column}
 use Rattle.bsi_logical.specs.Entries.{is_text}

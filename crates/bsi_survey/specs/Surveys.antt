@@ -3,7 +3,7 @@
 use Rattle.std.specs.Prelude.{◌≡◌, ℕ, ◌+◌, ◌<◌, Bool, true, false, not, nat_eq, List, [], ◌∷◌, length, get_or, map, count_by, slice_index_or, All, IsTrue}
 use Rattle.std.specs.List.{filter}
 use Rattle.csv.specs.declared.reader.Reader.{Reader}
-use Rattle.bsi_kinds.specs.Decimals.{Field}
+use Rattle.bsi_rows.specs.Fields.{Field}
 use Rattle.bsi_syntax.specs.Bytes.{KnownBytes}
 use Rattle.bsi_inference.specs.ColumnCandidates.{LooksFor as LooksForKinds}
 use Rattle.bsi_inference.specs.Nulls.{usual_words}

@@ -1,6 +1,6 @@
 -- The fields of a header, as the titles of columns: no two are the same (`AreDistinct`), or one stands before, too.
 use Rattle.std.specs.Prelude.{◌≡◌, ℕ, ◌<◌, List, [], length, slice_index_or}
-use Rattle.bsi_kinds.specs.Decimals.{Field}
+use Rattle.bsi_rows.specs.Fields.{Field}
 
 -- The field of column c.
 abbrev pub field_of : List Field → ℕ → Field

@@ -3,7 +3,7 @@
 ghost use Rattle.std.specs.Prelude.{◌≡◌, ◌<◌, ℕ, length, map, All, IfOk, IsTrue, OnOk};
 ghost use Rattle.std.specs.List.{Contains};
 ghost use Rattle.bsi_schema.specs.Columns.{no_columns};
-ghost use Rattle.bsi_kinds.specs.Decimals.{Field};
+ghost use Rattle.bsi_rows.specs.Fields.{Field};
 ghost use Rattle.bsi_kinds.specs.Kinds.{IsKind};
 ghost use Rattle.bsi_logical.specs.Dialects.{usual_dialect};
 ghost use Rattle.bsi_logical.specs.Records.{with_kind, with_title};

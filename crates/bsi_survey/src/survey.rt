@@ -37,7 +37,7 @@ pub struct Survey {
 impl Survey {
     ghost use Rattle.std.specs.Prelude.{◌+◌, ◌<◌, ◌≤◌, ℕ, List, [], All, Err, slice_index_or, IfSome, IsSome, IsTrue, OnOk};
     ghost use Rattle.bsi_schema.specs.Columns.{max_columns};
-    ghost use Rattle.bsi_kinds.specs.Decimals.{Field};
+    ghost use Rattle.bsi_rows.specs.Fields.{Field};
     ghost use Rattle.bsi_input.specs.Formats.{good_row};
     ghost use Rattle.bsi_logical.specs.LogicalRows.{has_titles, logical_format};
     ghost use Rattle.bsi_inference.specs.ColumnCandidates.{Accepts, LooksFor as LooksForKinds};

@@ -22,7 +22,7 @@ use Rattle.bsi_schema.specs.declared.schema_error.SchemaError.TheVariants.{BadNa
 use Rattle.bsi_schema.specs.Columns.{Declared, form_of, named_column, size_in, with_column}
 use Rattle.bsi_schema.specs.Names.{begins_lower, is_name, is_name_byte, is_word}
 use Rattle.bsi_rows.specs.Refusals.{column_refusal, form_refusal, name_refusal, signed_refusal, IsFirstOr}
-use Rattle.bsi_syntax.specs.Numbers.{Field}
+use Rattle.bsi_rows.specs.Fields.{Field}
 use Rattle.bsi_syntax.specs.Setups.{added_after, with_new_column, IsChange}
 
 -- ---- what a record that can't be done leaves, and one that is done

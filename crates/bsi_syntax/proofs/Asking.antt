@@ -15,7 +15,8 @@ use Rattle.bsi_digits.specs.declared.extreme.Extreme.{Extreme}
 use Rattle.bsi_digits.specs.declared.extreme.Extreme.TheVariants.{Greatest, Least}
 use Rattle.bsi_rows.specs.declared.question.Question.{Question}
 use Rattle.bsi_rows.specs.declared.question.Question.TheVariants as question
-use Rattle.bsi_syntax.specs.Numbers.{Field, spelled_number}
+use Rattle.bsi_rows.specs.Fields.{Field}
+use Rattle.bsi_syntax.specs.Numbers.{spelled_number}
 use Rattle.bsi_syntax.specs.Predicates.{IsPredicate}
 use Rattle.bsi_syntax.specs.Questions.{extreme_word, max_group_columns, spelled_share, AreByColumns, AreColumns, AreFurther, IsQueryIn, IsQuestion}
 use Rattle.bsi_syntax.specs.Reading.{first_as, texts, IsParsedAs, Lent}

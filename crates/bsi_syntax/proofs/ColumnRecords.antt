@@ -4,7 +4,8 @@ use Rattle.std.specs.Prelude.{int_le, IsUtf8}
 use Rattle.bsi_schema.specs.declared.form.ColumnSpec.{ColumnSpec}
 use Rattle.bsi_schema.specs.declared.form.Form.{Form}
 use Rattle.bsi_schema.specs.Columns.{Declared, named_column, size_in, with_column}
-use Rattle.bsi_syntax.specs.Numbers.{Field, offset_of}
+use Rattle.bsi_rows.specs.Fields.{Field}
+use Rattle.bsi_syntax.specs.Numbers.{offset_of}
 use Rattle.bsi_syntax.specs.Setups.{added_after, checked_form, column_after, form_in, given_offset, with_new_column}
 use Rattle.bsi_syntax.proofs.Adding.{no_text}
 use Rattle.bsi_syntax.proofs.Fields.{three_behind}

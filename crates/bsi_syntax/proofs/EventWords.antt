@@ -1,7 +1,7 @@
 -- The words of the other events begin no query.
 use Rattle.std.proofs.Common.{◌≡◌, List, [], ◌∷◌, None, refl, codes}
 use Rattle.bsi_syntax.specs.Events.{total_of}
-use Rattle.bsi_syntax.specs.Numbers.{Field}
+use Rattle.bsi_rows.specs.Fields.{Field}
 use Rattle.bsi_syntax.specs.Vocabularies.{Words}
 
 pub no_submit_total : (words : Words) (rest : List Field) → total_of words (codes "submit" ∷ rest) ≡ None

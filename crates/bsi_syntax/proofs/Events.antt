@@ -8,7 +8,8 @@ use Rattle.bsi_schema.specs.Columns.{Declared}
 use Rattle.bsi_rows.specs.declared.query.Query.{Query}
 use Rattle.bsi_syntax.specs.Events.{IsEvent, IsQuery, feeder_event, only_feeder, plain_event, total_of}
 use Rattle.bsi_syntax.specs.Predicates.{IsPlainPredicate}
-use Rattle.bsi_syntax.specs.Numbers.{Field, feeder_of, values_in}
+use Rattle.bsi_rows.specs.Fields.{Field}
+use Rattle.bsi_syntax.specs.Numbers.{feeder_of, values_in}
 use Rattle.bsi_syntax.specs.Reading.{IsReadAs}
 use Rattle.bsi_syntax.specs.Vocabularies.{schema_vocabulary}
 use Rattle.bsi_syntax.proofs.Fields.{behind_word, no_field}

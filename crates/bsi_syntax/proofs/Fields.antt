@@ -1,7 +1,7 @@
 -- The fields of a record, by their places.
 use Rattle.std.proofs.Common.{◌≡◌, ℕ, zero, suc, ◌+◌, ◌<◌, ◌≤◌, List, [], ◌∷◌, ◌++◌, length, get_or, drop, take, Option, Some, None, option_map, unwrap_or, arith, ap, refl}
 use Rattle.csv.specs.Records.{field_at}
-use Rattle.bsi_syntax.specs.Numbers.{Field}
+use Rattle.bsi_rows.specs.Fields.{Field}
 use Rattle.bsi_syntax.specs.Reading.{texts, Lent}
 
 -- the field at a place, or no byte

@@ -2,7 +2,7 @@
 use Rattle.std.proofs.Common.{◌≡◌, ℕ, zero, suc, ◌<◌, List, [], ◌∷◌, length, get_or, Option, Some, None, option_map, Result, Ok, Err, arith, ap, subst, sym, ◌∙◌, refl}
 use Rattle.std.specs.Prelude.{IsErr, IsErrAnd}
 use Rattle.csv.specs.Records.{field_at}
-use Rattle.bsi_syntax.specs.Numbers.{Field}
+use Rattle.bsi_rows.specs.Fields.{Field}
 use Rattle.bsi_syntax.specs.Reading.{first_as, texts, IsParsedAs, Lent}
 use Rattle.bsi_syntax.specs.declared.grammar.QuestionError.{QuestionError}
 use Rattle.bsi_syntax.specs.declared.grammar.QuestionError.TheVariants.{NoMemory, Stopped}

@@ -7,7 +7,8 @@ use Rattle.bsi_rows.specs.declared.query.Total.{Total}
 use Rattle.bsi_rows.specs.declared.query.Total.TheVariants.{Rank}
 use Rattle.bsi_schema.specs.Columns.{Declared, position_of}
 use Rattle.bsi_syntax.specs.Events.{total_of}
-use Rattle.bsi_syntax.specs.Numbers.{Field, spelled_number}
+use Rattle.bsi_rows.specs.Fields.{Field}
+use Rattle.bsi_syntax.specs.Numbers.{spelled_number}
 use Rattle.bsi_syntax.specs.Predicates.{IsPredicate}
 use Rattle.bsi_syntax.specs.Questions.{asked_total, rank_total, IsQueryIn}
 use Rattle.bsi_syntax.specs.Reading.{first_as}

@@ -8,7 +8,7 @@ use Rattle.bsi_digits.specs.declared.op.Op.{Op}
 use Rattle.bsi_rows.specs.declared.query.Pred.{Pred, All, Compare, Columns, Null, Both', Either', Not'}
 use Rattle.bsi_syntax.specs.declared.predicates.Pending.{Pending}
 use Rattle.bsi_syntax.specs.declared.predicates.Pending.TheVariants.{Nothing, Column, Comparison}
-use Rattle.bsi_syntax.specs.Numbers.{Field}
+use Rattle.bsi_rows.specs.Fields.{Field}
 use Rattle.bsi_syntax.specs.Vocabularies.{NameNoWord, Words}
 use Rattle.bsi_syntax.specs.Postfix.{after_field, after_fields, after_name, after_sign, after_word, alike_column, begun, joined, joint, negated, newest_first, nowhere, only_of, op_of, plain, ready, IsState, State}
 use Rattle.bsi_syntax.specs.Predicates.{IsPredicate, sign_of, Spells}

@@ -11,7 +11,7 @@ use Rattle.bsi_schema.specs.Columns.{AreNamed, Declared, NamedColumn, no_column,
 use Rattle.bsi_schema.specs.Names.{begins_lower, is_name, is_name_byte, is_word}
 use Rattle.bsi_rows.specs.declared.query.Pred.{Pred}
 use Rattle.bsi_syntax.specs.declared.predicates.Pending.TheVariants.{Column, Comparison}
-use Rattle.bsi_syntax.specs.Numbers.{Field}
+use Rattle.bsi_rows.specs.Fields.{Field}
 use Rattle.bsi_syntax.specs.Postfix.{after_name, after_word, alike_column, op_of}
 use Rattle.bsi_syntax.specs.Predicates.{sign_of}
 use Rattle.bsi_syntax.specs.Vocabularies.{schema_vocabulary, NameNoWord, Words}

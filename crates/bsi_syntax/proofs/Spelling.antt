@@ -17,7 +17,7 @@ use Rattle.bsi_rows.specs.declared.query.Total.TheVariants.{Count, Sum, Least, G
 use Rattle.bsi_syntax.specs.declared.predicates.Pending.{Pending}
 use Rattle.bsi_syntax.specs.declared.predicates.Pending.TheVariants.{Nothing, Column, Comparison}
 use Rattle.bsi_syntax.specs.Events.{checked_total, column_total, total_of, total_of_column, IsQuery}
-use Rattle.bsi_syntax.specs.Numbers.{Field}
+use Rattle.bsi_rows.specs.Fields.{Field}
 use Rattle.bsi_syntax.specs.Postfix.{after_fields, begun, plain, ready, State}
 use Rattle.bsi_syntax.specs.Predicates.{compares_columns, IsPlainPredicate, IsPredicate, Spells}
 use Rattle.bsi_syntax.specs.Vocabularies.{schema_vocabulary, NameNoWord, Words}

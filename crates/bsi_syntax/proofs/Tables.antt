@@ -7,7 +7,8 @@ use Rattle.std.proofs.lemmas.List.{length-append}
 use Rattle.std.proofs.lemmas.List.Elements.{All-push}
 use Rattle.csv.specs.Records.{field_at}
 use Rattle.bsi_schema.specs.Columns.{Declared}
-use Rattle.bsi_syntax.specs.Numbers.{Field, number_between, spelled_number}
+use Rattle.bsi_rows.specs.Fields.{Field}
+use Rattle.bsi_syntax.specs.Numbers.{number_between, spelled_number}
 use Rattle.bsi_syntax.specs.declared.setups.DeclaredTable.{DeclaredTable}
 use Rattle.bsi_syntax.specs.Setups.{Setup, capacities_after, column_after, declared_after, limit_of, only_number, table_after, IsChange, IsSetup}
 use Rattle.bsi_syntax.proofs.Fields.{behind_word, no_field}

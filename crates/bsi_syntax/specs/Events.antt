@@ -7,7 +7,8 @@ use Rattle.bsi_schema.specs.Columns.{Declared}
 use Rattle.bsi_rows.specs.declared.query.Query.{Query}
 use Rattle.bsi_rows.specs.declared.query.Total.{Total}
 use Rattle.bsi_rows.specs.declared.query.Total.TheVariants.{Count, Sum, Least, Greatest, Median, Rows}
-use Rattle.bsi_syntax.specs.Numbers.{Field, feeder_of, values_in}
+use Rattle.bsi_rows.specs.Fields.{Field}
+use Rattle.bsi_syntax.specs.Numbers.{feeder_of, values_in}
 use Rattle.bsi_syntax.specs.Predicates.{IsPlainPredicate}
 use Rattle.bsi_syntax.specs.Vocabularies.{schema_vocabulary, Words}
 

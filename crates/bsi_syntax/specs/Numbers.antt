@@ -3,15 +3,12 @@ use Rattle.std.specs.Prelude.{ℕ, Bool, ◌&&◌, ◌==◌, nat_lt, nat_le, min
 use Rattle.std.specs.Char.{is_ascii_digit}
 use Rattle.std.specs.List.{list_all, slice_split}
 use Rattle.std.specs.Str.Parse.{digits_value}
+use Rattle.bsi_rows.specs.Fields.{Field}
 use Rattle.bsi_bits.specs.Packed.{end_of_u64}
 use Rattle.bsi_digits.specs.Signed.{end_of_i64, least_i64}
 use Rattle.bsi_schema.specs.Columns.{is_between}
 use Rattle.bsi_schema.specs.declared.limits.Limits.{Limits}
 use Rattle.bsi_syntax.specs.Bytes.{KnownBytes}
-
--- The bytes of a field.
-abbrev pub Field : Type 0
-Field = List ℕ
 
 -- The most digits of a number.
 abbrev pub max_digits : ℕ

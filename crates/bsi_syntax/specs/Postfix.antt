@@ -13,7 +13,7 @@ use Rattle.bsi_syntax.specs.declared.grammar.QuestionError.TheVariants.{NoMemory
 use Rattle.bsi_syntax.specs.declared.grammar.Stop.{Stop}
 use Rattle.bsi_syntax.specs.declared.predicates.Pending.{Pending}
 use Rattle.bsi_syntax.specs.declared.predicates.Pending.TheVariants.{Nothing, Column, Comparison}
-use Rattle.bsi_syntax.specs.Numbers.{Field}
+use Rattle.bsi_rows.specs.Fields.{Field}
 use Rattle.bsi_syntax.specs.Vocabularies.{Words}
 
 -- A box without an address.

@@ -12,7 +12,8 @@ use Rattle.bsi_digits.specs.declared.extreme.Extreme.TheVariants as extreme
 use Rattle.bsi_rows.specs.declared.question.Question.{Question}
 use Rattle.bsi_rows.specs.declared.question.Question.TheVariants as question
 use Rattle.bsi_syntax.specs.Events.{total_of}
-use Rattle.bsi_syntax.specs.Numbers.{Field, spelled_number}
+use Rattle.bsi_rows.specs.Fields.{Field}
+use Rattle.bsi_syntax.specs.Numbers.{spelled_number}
 use Rattle.bsi_syntax.specs.Predicates.{IsPlainPredicate, IsPredicate}
 use Rattle.bsi_syntax.specs.Reading.{first_as, texts, Lent}
 use Rattle.bsi_syntax.specs.Vocabularies.{Words}

@@ -1,7 +1,7 @@
 -- What a function that reads fields returns: a value that they spell, or an error if they spell none (`IsParsedAs`).
 use Rattle.std.specs.Prelude.{ℕ, List, [], ◌∷◌, map, Option, Some, None, option_map, Result, Ok, Err, MatchOption}
 use Rattle.std.specs.Borrow.{Bor}
-use Rattle.bsi_syntax.specs.Numbers.{Field}
+use Rattle.bsi_rows.specs.Fields.{Field}
 use Rattle.bsi_syntax.specs.declared.grammar.QuestionError.{QuestionError}
 use Rattle.bsi_syntax.specs.declared.grammar.QuestionError.TheVariants.{NoMemory, Stopped}
 use Rattle.bsi_syntax.specs.declared.grammar.Stop.{Stop}

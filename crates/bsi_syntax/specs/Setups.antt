@@ -13,7 +13,8 @@ use Rattle.bsi_schema.specs.Columns.{max_slices, Declared, form_of, named_column
 use Rattle.bsi_rows.specs.Refusals.{form_refusal, name_refusal}
 use Rattle.bsi_rows.specs.Table.{max_feeders, max_rows}
 use Rattle.bsi_syntax.specs.Bytes.{KnownBytes}
-use Rattle.bsi_syntax.specs.Numbers.{Field, bases_of, number_between, offset_of}
+use Rattle.bsi_rows.specs.Fields.{Field}
+use Rattle.bsi_syntax.specs.Numbers.{bases_of, number_between, offset_of}
 use Rattle.bsi_syntax.specs.declared.setups.DeclaredTable.{DeclaredTable}
 
 -- A table of columns and a limit.

@@ -4,7 +4,8 @@ use Rattle.std.specs.Prelude.{◌≡◌, ℕ, ℤ, Bool, false, true, Option, So
 use Rattle.bsi_digits.specs.declared.op.Op.{Op}
 use Rattle.bsi_schema.specs.Columns.{position_of, Declared}
 use Rattle.bsi_schema.specs.Names.{is_word}
-use Rattle.bsi_syntax.specs.Numbers.{spelled_integer, Field}
+use Rattle.bsi_rows.specs.Fields.{Field}
+use Rattle.bsi_syntax.specs.Numbers.{spelled_integer}
 
 -- The meaning of names and constants, and what the columns may be asked.
 pub record Words : Type 0 where

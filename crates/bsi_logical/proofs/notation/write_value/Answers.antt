@@ -3,7 +3,7 @@ use Rattle.std.specs.Int.{w64}
 use Rattle.std.specs.Prelude.{OnOk}
 use Rattle.std.proofs.lemmas.Int.{to_z-of_z}
 use Rattle.std.proofs.lemmas.Result.{IfOk-weaker}
-use Rattle.bsi_kinds.specs.Decimals.{Field}
+use Rattle.bsi_rows.specs.Fields.{Field}
 use Rattle.bsi_kinds.specs.Kinds.{Writes}
 use Rattle.bsi_kinds.specs.declared.kind.Kind.TheVariants.{Text}
 use Rattle.bsi_logical.proofs.ValueTexts.{value_text}

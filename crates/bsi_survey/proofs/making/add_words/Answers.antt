@@ -1,7 +1,7 @@
 use Rattle.std.proofs.Common.{◌≡◌, ◌<◌, ℕ, inl, inr, List, Vec, Global, get_or, length, sym, subst, ap, ◌∙◌, arith, IsTrue}
 use Rattle.std.proofs.lemmas.Bool.{cases_eq}
 use Rattle.std.proofs.lemmas.List.{length-map}
-use Rattle.bsi_kinds.specs.Decimals.{Field}
+use Rattle.bsi_rows.specs.Fields.{Field}
 use Rattle.bsi_survey.specs.Made.{is_null_by}
 use Rattle.bsi_survey.proofs.Lists.{mapped_at, read_at}
 use Rattle.bsi_survey.proofs.Saying.{adds_none, adds_then}

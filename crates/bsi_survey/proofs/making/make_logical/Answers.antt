@@ -1,6 +1,6 @@
 use Rattle.std.proofs.Common.{◌≡◌, List, length, ap, sym, subst, All, ◌∙◌, arith}
 use Rattle.bsi_schema.specs.Columns.{Declared}
-use Rattle.bsi_kinds.specs.Decimals.{Field}
+use Rattle.bsi_rows.specs.Fields.{Field}
 use Rattle.bsi_inference.specs.declared.decision.Column.{Column}
 use Rattle.bsi_logical.specs.Logical.{Logical}
 use Rattle.bsi_survey.specs.Made.{AreStoredFor, HasNullsOf}

@@ -1,6 +1,6 @@
 use Rattle.std.proofs.Common.{Vec, Global, ℕ, ◌<◌, [], length, get_or, map, arith, subst}
 use Rattle.csv.specs.Records.{fields_of}
-use Rattle.bsi_kinds.specs.Decimals.{Field}
+use Rattle.bsi_rows.specs.Fields.{Field}
 use Rattle.bsi_survey.specs.Looking.{IsStep}
 use Rattle.bsi_survey.proofs.Growing.{between_at}
 use Rattle.bsi_survey.proofs.observing.observe_fields.Goals as goal

@@ -1,7 +1,7 @@
 use Rattle.std.proofs.Common.{◌≡◌, ap, sym, subst, ◌∙◌, List}
 use Rattle.csv.specs.Records.{fields_of}
 use Rattle.bsi_rows.specs.declared.query.Query.{Query}
-use Rattle.bsi_syntax.specs.Numbers.{Field}
+use Rattle.bsi_rows.specs.Fields.{Field}
 use Rattle.bsi_syntax.specs.Questions.{IsQueryIn}
 use Rattle.bsi_syntax.specs.Reading.{texts}
 use Rattle.bsi_syntax.specs.Vocabularies.{schema_vocabulary}

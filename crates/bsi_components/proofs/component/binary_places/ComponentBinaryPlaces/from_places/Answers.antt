@@ -3,7 +3,7 @@ use Rattle.bsi_bits.specs.BitList.{BitList}
 use Rattle.bsi_bits.specs.BitLists.{bits_at}
 use Rattle.bsi_components.specs.Bitmaps.{stored_places}
 use Rattle.bsi_components.specs.PlaceNumbers.{numbers_in, place_count}
-use Rattle.bsi_components.specs.Marked.{IsMarked}
+use Rattle.bsi_components.specs.Encodings.{IsMarked}
 use Rattle.bsi_components.proofs.Built.{marked_built, built_even, IsStoredCount}
 use Rattle.bsi_components.proofs.PlaceCounts.{count_few, count_enough, stored_all}
 use Rattle.bsi_components.proofs.PlaceNumbers.{places_are}

@@ -1,5 +1,5 @@
 use Rattle.std.proofs.Common.{◌≤◌, ◌+◌, ◌^◌, length, sym, arith}
-use Rattle.bsi_components.specs.Marked.{digits_in}
+use Rattle.bsi_components.specs.Encodings.{digits_in}
 use Rattle.bsi_components.proofs.MarkedDigits.{marked_same, marked_rows, marked_digits, itself_marked}
 use Rattle.bsi_components.proofs.component.encoding.ComponentEncoding.reserve.Goals as goal
 

@@ -1,4 +1,5 @@
--- Digits as bitmaps: one for each digit below the base from a first digit on, and after them their binary places.
+-- Components of any encoding, given by the digits at which each bitmap is set: the bitmaps of some digits
+-- (`IsMarked`), and the digits that some bitmaps encode (`digits_in`).
 use Rattle.std.specs.Prelude.{◌≡◌, ℕ, zero, suc, ◌+◌, ◌-◌, ◌<◌, ◌≤◌, Bool, false, not, List, length, slice_index, slice_index_or, if◌then◌else◌}
 use Rattle.bsi_bits.specs.BitList.{BitList}
 use Rattle.bsi_kernels.specs.Places.{IsCount, IsEncoded, then_places}
