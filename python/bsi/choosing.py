@@ -183,8 +183,8 @@ def _texts_of(name: str, dtype: Any) -> Texts:
     texts = () if dtype.categories is None else tuple(dtype.categories)
     if not texts or not all(isinstance(text, str) for text in texts):
         has = f"the categories {shown(list(texts))}" if texts else "no categories"
-        reason = f"its dtype has {has}, and a list of texts is wanted"
-        raise BadSchema(f"column {name!r}: {reason}; kinds= with Texts takes those that are there")
+        reason = f"its dtype has {has}, but needs a list of texts"
+        raise BadSchema(f"column {name!r}: {reason}; kinds= with Texts accepts those that are there")
     return Texts(texts, ordered=bool(dtype.ordered))
 
 
@@ -270,7 +270,7 @@ class Wishes:
 
 def too_far(kind: Kind, low: int, high: int) -> str:
     """Returns what is wrong with numbers that lie too far apart."""
-    return f"from {kind.show(low)} to {kind.show(high)} are more than the 2^63 values that a column takes"
+    return f"from {kind.show(low)} to {kind.show(high)} are more than the 2^63 values that a column can hold"
 
 
 def kind_of(name: str, blocks: Iterable[AnyBlock], most: Optional[int] = MAX_TEXTS) -> Optional[Kind]:

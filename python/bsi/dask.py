@@ -155,7 +155,7 @@ class Workers(Table):
     further."""
 
     def append(self, data: Any) -> int:
-        raise TypeError("an index over workers takes no further rows: make it of a frame that has them")
+        raise TypeError("an index over workers accepts no further rows: make it of a frame that has them")
 
 
 def from_frame(

@@ -83,7 +83,7 @@ def runs_where(kind: Kind, part: str, test: Callable[[np.ndarray], np.ndarray], 
             raise OverflowError
         return list(_within([[_number(kind, first + place) for place in edge] for edge in edges], low, high))
     except OverflowError:
-        raise ValueError(f"the column takes times of too long a span to look at each {part}") from None
+        raise ValueError(f"the column's times span too long to look at each {part}") from None
 
 
 def _within(edges: List[List[int]], low: int, high: int) -> Iterator[Tuple[int, int]]:

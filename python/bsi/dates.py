@@ -91,9 +91,9 @@ def _moment(text: str, year: int, month: int, day: int, parts: Dict[str, Optiona
         raise ValueError(f"{shown(text)} is no date or time: that day is a {weekday.title()}")
     fraction, zone = (parts["fraction"] or "").rstrip("0"), (parts["zone"] or "").upper().replace("GMT", "UTC")
     if len(fraction) > 9:
-        raise Unclear(f"{shown(text)} is finer than nanoseconds; kinds= with Texts keeps it")
+        raise Unclear(f"{shown(text)} is finer than nanoseconds; kinds= with Texts stores it")
     if zone.isalpha() and zone not in ("Z", "UTC"):
-        raise Unclear(f"{shown(text)} has the zone {parts['zone']!r}, which is not known; kinds= with Texts keeps it")
+        raise Unclear(f"{shown(text)} has the zone {parts['zone']!r}, which is unknown; kinds= with Texts stores it")
     nanoseconds = (moment - EPOCH) // MICROSECOND * 1000 + int(fraction.ljust(9, "0"))
     return nanoseconds - seconds_ahead(zone) * NANOSECONDS["s"], bool(zone)
 

@@ -48,7 +48,7 @@ class NoMemory(Error, MemoryError):
 class BadSchema(Error, ValueError):
     """A column can't be kept in that form. `record` is that of the schema which the library refused, from 1."""
 
-    status, why = 4, "a column can't be kept in that form"
+    status, why = 4, "a column can't be stored in that form"
 
     def __init__(self, reason: Optional[str] = None, record: int = 0):
         super().__init__(reason)
@@ -117,7 +117,7 @@ class NoRoom(Error):
 class BadText(Error, ValueError):
     """The text of a schema is too long, or is none."""
 
-    status, why = 13, "the text of a schema is too long, or is none"
+    status, why = 13, "the text of a schema is too long or invalid"
 
 
 class LongNotes(Error, ValueError):
@@ -145,13 +145,13 @@ class KeptError(Error, ValueError):
 class NotKept(KeptError):
     """A file that keeps no index."""
 
-    status, why = 15, "it keeps no index"
+    status, why = 15, "it contains no index"
 
 
 class OtherVersion(KeptError):
     """A kept index of another version."""
 
-    status, why = 16, "it keeps an index in another version of the format"
+    status, why = 16, "it contains an index in another version of the format"
 
 
 class CutShort(KeptError):
@@ -169,7 +169,7 @@ class Damaged(KeptError):
 class HasKinds(KeptError):
     """A kept index that says by a text of kinds what its numbers stand for."""
 
-    status, why = 19, "it says what its numbers stand for by a text of kinds, which this package does not read"
+    status, why = 19, "it has a text of kinds, which this package does not read"
 
 
 class BadNotes(KeptError):

@@ -79,7 +79,7 @@ def _unpacked(stack: ExitStack, raw: IO[bytes], name: str) -> IO[bytes]:
         except zipfile.BadZipFile as why:
             raise BadColumns(f"{name}: it can't be unpacked: {why}") from None
         if len(packed.namelist()) != 1:
-            raise BadColumns(f"{name}: it packs {len(packed.namelist())} files, and one is wanted")
+            raise BadColumns(f"{name}: it packs {len(packed.namelist())} files, not one")
         return stack.enter_context(packed.open(packed.namelist()[0]))
     if ending in (".zst", ".lz4", ".7z"):
         raise BadColumns(f"{name}: such files are not unpacked here; .gz, .bz2, .xz and .zip are")

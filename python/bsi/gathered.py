@@ -109,7 +109,7 @@ class Gathered:
     def _median(self, name: bytes, fields: Fields) -> Optional[int]:
         """Finds the median between those of the parts."""
         if len(fields) + BOUND > MAX_FIELDS:
-            rule = f"a median over several parts takes a predicate of at most {MAX_FIELDS - BOUND} fields"
+            rule = f"a median over several parts accepts a predicate of at most {MAX_FIELDS - BOUND} fields"
             raise BadQuery(f"{rule}, and this one has {len(fields):,}")
         numbers, counts = zip(*self._each("median_and_count", name, fields))
         known = [(max(0, count - 1) // 2, number) for number, count in zip(numbers, counts)]

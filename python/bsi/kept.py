@@ -88,7 +88,7 @@ def _zone_name(name: str, zone: Any) -> Optional[str]:
         return f"{round(zone.utcoffset(None).total_seconds()):+d}"
     if zone.utcoffset(datetime(2026, 1, 1)) == timedelta(0) and "utc" in repr(zone).lower():
         return "+0"
-    raise Error(f"column {name!r} has the time zone {zone!r}, which has no name to be kept by; zoneinfo.ZoneInfo has")
+    raise Error(f"column {name!r} has the time zone {zone!r}, which has no name to be saved by; zoneinfo.ZoneInfo has")
 
 
 def _zone(name: Optional[str]) -> Any:
@@ -164,13 +164,13 @@ def _named(forms: Dict[str, Form], notes: bytes) -> Tuple[Dict[str, Form], Dict[
 
 
 def _refuse_unknown(handle: Handle, within: Iterable[str], forms: Mapping[str, Form]) -> None:
-    """Raises ValueError where a column has a number that stands for no text, or is neither true nor false."""
+    """Raises ValueError where a column has a number that represents no text, or is neither true nor false."""
     for name, (column, form) in zip(within, forms.items()):
         count = len(form.kind.values) if isinstance(form.kind, Texts) else 2
         if isinstance(form.kind, (Texts, Flags)):
             ends = [handle.value(word, name.encode(), [b"all"]) for word in (b"least", b"greatest")]
             if not all(end is None or 0 <= end < count for end in ends):
-                raise ValueError(f"column {column!r} has a number that stands for nothing")
+                raise ValueError(f"column {column!r} has a number that represents no value")
 
 
 # ---- Bytes ----

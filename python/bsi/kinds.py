@@ -294,7 +294,7 @@ class Decimals(Kind):
         first_misfit(valid & ~np.isfinite(values), values, "is no finite number")
         fits = (np.abs(scaled) <= most) & (back == np.where(valid, values, 0))
         way = f"a column of Decimals({self.places}, rounded=True) rounds it"
-        reason = f"can't be kept exactly with {self.places} decimal places; {way}"
+        reason = f"can't be stored exactly with {self.places} decimal places; {way}"
         first_misfit(~fits, values, reason, TooFine)
         return scaled.astype(np.int64)
 
@@ -514,7 +514,7 @@ class Texts(Kind):
         object.__setattr__(self, "values", values)
         object.__setattr__(self, "places", {value: place for place, value in enumerate(values)})
         if len(self.places) < len(values):
-            raise ValueError("a text stands twice in the list")
+            raise ValueError("a text is twice in the list")
 
     def cut(self, constant: Any) -> Cut:
         if not isinstance(constant, str):
@@ -524,7 +524,7 @@ class Texts(Kind):
         if self.grows:
             return len(self.values), len(self.values)
         if self.ordered:
-            raise ValueError(f"{shown(constant)} is none of the texts, whose order was given")
+            raise ValueError(f"{shown(constant)} is not one of the texts, whose order was given")
         return bisect_left(self.values, constant), bisect_right(self.values, constant)
 
     def numbers_where(self, sign: str, constant: Any) -> List[int]:
@@ -540,7 +540,7 @@ class Texts(Kind):
 
     @property
     def unfit(self) -> str:  # type: ignore[override]
-        return f"is none of its {len(self.values):,} texts" + ("" if self.ordered or self.grows else GROWS)
+        return f"is not one of its {len(self.values):,} texts" + ("" if self.ordered or self.grows else GROWS)
 
     def parse(self, text: str) -> str:
         return text

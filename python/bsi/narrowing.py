@@ -79,7 +79,7 @@ def _of_objects(given: Values, texts: Optional[int], round: Optional[int]) -> Na
         return _times(given)
     if isinstance(first, (numbers.Real, Decimal, np.number)):
         return _numbers(given, round)
-    raise Misfit(int(given.valid.argmax()), first, f"{shown(first)} is none of numbers, times, booleans or texts")
+    raise Misfit(int(given.valid.argmax()), first, f"{shown(first)} is not one of numbers, times, booleans or texts")
 
 
 def _texts(given: Values, most: Optional[int]) -> Narrowed:
@@ -104,15 +104,15 @@ def _refuse_texts(given: Values, most: Optional[int]) -> None:
 
 def too_fine(value: Any) -> str:
     """Returns what is wrong with a float of more places than are tried."""
-    return f"{shown(value)} can't be kept exactly with {MAX_PLACES} decimal places; round= rounds it"
+    return f"{shown(value)} can't be stored exactly with {MAX_PLACES} decimal places; round= rounds it"
 
 
 def too_many_texts(text: str, for_dates: str = "pandas.to_datetime makes dates of texts") -> str:
     """Returns what is wrong with a text past those that a column may have, and what to do where it looks like a
     date."""
-    ways = "kinds= with Texts takes all of them, and drop= leaves the column out"
+    ways = "kinds= with Texts accepts all of them, and drop= leaves the column out"
     ways = f"it looks like a date, and {for_dates}; {ways}" if is_date(text) else ways
-    return f"{shown(text)} is one text more than the {MAX_TEXTS:,} that are taken unasked; {ways}"
+    return f"{shown(text)} is one text more than the {MAX_TEXTS:,} that are accepted unasked; {ways}"
 
 
 def _numbers(given: Values, round: Optional[int]) -> Narrowed:

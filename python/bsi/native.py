@@ -152,7 +152,7 @@ class Handle:
             status = self._call("bsi_open", _address(text), len(text), 1, byref(bad_record))
             if status == BAD_SCHEMA:
                 raise errors.BadSchema(
-                    f"the library does not take record {bad_record.value} of the schema", bad_record.value
+                    f"the library does not accept record {bad_record.value} of the schema", bad_record.value
                 )
             check(status)
 

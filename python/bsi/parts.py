@@ -214,7 +214,7 @@ def _of(cls: type, each: List[Kept], paths: Sequence[str]) -> Any:
     try:
         runs, limit = _placed(each)
     except (ValueError, KeyError, TypeError, AttributeError) as why:
-        raise BadNotes(f"it is none of these parts: {why}", paths[0], first.handle.rows()) from None
+        raise BadNotes(f"it is not one of these parts: {why}", paths[0], first.handle.rows()) from None
     parts, store = object.__new__(cls), _Threads([kept.handle for kept in each], limit, runs)
     Table.__init__(parts, first.forms, limit, store)
     return parts
@@ -233,7 +233,7 @@ def _placed(each: Sequence[Kept]) -> Tuple[List[Tuple[int, int]], int]:
         raise ValueError("all files that were saved together are opened together, in their order, and no others")
     runs = [(int(part), int(count)) for part, count in notes["runs"]]
     if [sum(count for part, count in runs if part == place) for place in range(len(each))] != rows:
-        raise ValueError("its notes tell other rows")
+        raise ValueError("its notes describe other rows")
     return runs, min(MAX_ROWS, int(notes["limit"]))
 
 

@@ -421,7 +421,7 @@ class _Reader:
                 seen |= {code} - {-1}
                 if len(seen) > (reader.most or FAR):
                     text = reader.distinct.texts[code]
-                    reason = too_many_texts(text, "dates= tells how to read it")
+                    reason = too_many_texts(text, "dates= says how to read it")
                     column.refusal = rows.bad(column.name, first, text, reason)
                     return
 

@@ -98,7 +98,7 @@ def _sign_of(grouped: Any) -> str:
 def _hint(text: str, options: Options) -> str:
     """Returns how a text could be read that looks like a number."""
     if mark := MARK.search(text):
-        return f"; take the {mark[0].strip()!r} out, or kinds= with Texts keeps it" if _is_like_number(text) else ""
+        return f"; take the {mark[0].strip()!r} out, or kinds= with Texts stores it" if _is_like_number(text) else ""
     other = {".": ",", ",": "."}[options.decimal]
     if found := GROUPED.fullmatch(text):
         sign = _sign_of(found)
@@ -242,7 +242,7 @@ class TimeReader:
 
 def other_zone(text: str, is_aware: bool) -> str:
     """Returns what is wrong with a time that alone has a time zone, or alone has none."""
-    return f"{shown(text)} has {'a' if is_aware else 'no'} time zone, as none before it"
+    return f"{shown(text)} has {'a' if is_aware else 'no'} time zone, like those before it"
 
 
 def _text(fields: Fields, row: int) -> str:
@@ -459,5 +459,5 @@ def misread(texts: List[str], count: Callable[[], np.ndarray], options: Options)
             return {place: why + ("" if "nulls=" in why else more) for place, why in reasons.items()}
     if not there and texts:
         each = enumerate(texts)
-        return {place: told(text, f"{shown(text)} stands for no text", options.nulls) for place, text in each}
+        return {place: told(text, f"{shown(text)} represents no text", options.nulls) for place, text in each}
     return {}

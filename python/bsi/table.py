@@ -82,7 +82,7 @@ def opened(columns: Mapping[str, Form], limit: Optional[int] = None) -> Handle:
             raise
         name, form = list(columns.items())[why.record - 1]
         rule = "1 to 63 slices, or bases of 2 to 1,024 with a sum of at most 4,096 and a product of at most 2^63"
-        reason = f"column {name!r} can't be kept as {form}: {rule}; all numbers within 64 bits"
+        reason = f"column {name!r} can't be stored as {form}: {rule}; all numbers within 64 bits"
         raise BadSchema(reason, why.record) from None
 
 
@@ -96,7 +96,7 @@ def schema_of(columns: Mapping[str, Form], limit: Optional[int]) -> bytes:
             raise BadSchema(f"an index has columns by name, each {shape}, and not {name!r}: {form!r}")
         refuse_no_kind(name, form.kind)
     if len(columns) > MAX_COLUMNS:
-        raise BadSchema(f"an index has at most {MAX_COLUMNS} columns, and not {len(columns)}; name those wanted")
+        raise BadSchema(f"an index has at most {MAX_COLUMNS} columns, and not {len(columns)}; name those to read")
     if limit is not None and (not isinstance(limit, Integral) or not 1 <= limit <= MAX_ROWS):
         raise BadSchema(f"the limit is 1 to {MAX_ROWS:,} rows, and not {shown(limit)}")
     within = names_within(list(columns))
@@ -398,7 +398,7 @@ class Table:
         if method not in ("average", "min", "max"):
             raise ValueError(f"method is 'average', 'min' or 'max', and not {method!r}")
         if isinstance(value, Column):
-            raise TypeError("rank takes a value of the column, and not a column")
+            raise TypeError("rank needs a value of the column, not a column")
         one = Column(self._name(column))
         less, same = self.count((one < value) & where), self.count((one == value) & where)
         places = {"min": less + 1, "max": less + same, "average": less + (same + 1) / 2}
@@ -417,7 +417,7 @@ class Table:
     def _outermost(self, n: int, name: str, where: Predicate, sign: str) -> np.ndarray:
         """Returns the n rows of which the others lie on one side, the outermost first."""
         if not hasattr(n, "__index__") or isinstance(n, bool) or n < 0:
-            raise ValueError(f"so many rows is a whole number from 0 up, and not {n!r}")
+            raise ValueError(f"the number of rows is a whole number from 0 up, not {n!r}")
         count = self.count(name, where)
         n = min(n, count)
         if not n:
@@ -690,7 +690,7 @@ class Table:
 
 def rows_of(rows: Any, count: int) -> np.ndarray:
     """Returns numbers of rows as an array, or raises TypeError or BadQuery where they are none of so many rows."""
-    wrong = f"rows are a list of their numbers, as rows(where) returns them, and not {shown(rows)}"
+    wrong = f"rows are a list of their numbers, as rows(where) returns them, not {shown(rows)}"
     try:
         given = np.asarray(list(rows) if isinstance(rows, (Iterator, AbstractSet)) else rows)
     except ValueError:

@@ -109,7 +109,7 @@ def _of_array(array: np.ndarray, hidden: Optional[np.ndarray] = None) -> Values:
         if hidden is not None:
             objects = [None if is_hidden else value for value, is_hidden in zip(objects, hidden.tolist())]
         return _of_objects(objects)._replace(kind=NO_TEXTS if kind == "U" else None)
-    raise BadColumns(f"an array of {array.dtype} is none of numbers, times, booleans or texts")
+    raise BadColumns(f"an array of {array.dtype} is not one of numbers, times, booleans or texts")
 
 
 def _of_arrow(chunks: List[arrow.Read]) -> Values:
@@ -140,7 +140,7 @@ def _of_pandas(pandas: Any, series: Any) -> Values:
         values = series.to_numpy(dtype=plain, na_value=False if plain.kind == "b" else 0)
         return Values(values, valid & ~np.isnan(values) if plain.kind == "f" else valid)
     if isinstance(dtype, (pandas.PeriodDtype, pandas.IntervalDtype)):
-        raise BadColumns(f"a series of {dtype} is none of numbers, times, booleans or texts")
+        raise BadColumns(f"a series of {dtype} is not one of numbers, times, booleans or texts")
     if isinstance(dtype, pandas.SparseDtype):
         return _of_array(np.asarray(series))
     return _of_objects(series.to_numpy(object).tolist())._replace(kind=_kind_of(dtype))

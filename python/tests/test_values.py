@@ -389,7 +389,7 @@ REFUSED = {
     "a large uint64": (np.array([1, 2**63], np.uint64), 1, "past 63 bits"),
     "a third": (np.array([0.5, 1 / 3, 0.1]), 1, "exactly with 6 decimal places; round= rounds it"),
     "a third as a decimal": (np.array([1 / 3], np.float64), 0, "0.3333333333333333 can't be kept exactly"),
-    "a third in a list": ([1, 1 / 3], 1, "0.3333333333333333 can't be kept exactly with 6 decimal places"),
+    "a third in a list": ([1, 1 / 3], 1, "0.3333333333333333 can't be stored exactly with 6 decimal places"),
     "a third of few digits": (np.array([1, 1 / 3], np.float32), 1, "0.33333334 can't be kept exactly"),
     "a long double of 17 digits": (np.array([1, 1234567890123456.5], np.longdouble), 1, "exactly with"),
     "numbers far apart": ([None, -1, 5, 2**63 - 1], 3, "more than the 2\\^63 values"),
