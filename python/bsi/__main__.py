@@ -1,8 +1,8 @@
 """python -m bsi FILE.. [QUESTION..]
 
-Reads CSV or Parquet files, or opens kept indexes, says how it keeps their columns, and answers the questions. At a
-terminal it then waits for further ones, one a line; where no question is given, it reads them from standard input. The
-questions are those of bsi.questions, and `help` and `quit` are taken too:
+Reads CSV or Parquet files, or opens saved indexes, shows how their columns are stored, and answers the questions. At a
+terminal it then waits for further ones, one a line; if no question is given, it reads them from standard input. The
+questions are those of bsi.questions, and `help` and `quit`:
 
     count price < 100 and temp null
     median "Amount (EUR)" Ordered >= 2026-01-31
@@ -101,7 +101,7 @@ def _wishes(given: Any) -> Dict[str, Any]:
 
 
 def _csv(files: List[str], columns: Optional[List[str]], given: Any, progress: bool) -> Any:
-    """Makes the index of CSV files, and tells which rows were left out."""
+    """Makes the index of CSV files, and reports which rows were left out."""
     named = ("delimiter", "thousands", "dates", "encoding", "skiprows", "parts")
     how = {**_wishes(given), **{name: getattr(given, name) for name in named}, "decimal": given.decimal or "."}
     nulls = ["", *given.null, *filter(None, given.nulls.split(","))]

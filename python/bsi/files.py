@@ -31,7 +31,7 @@ def name_of(path: Path) -> str:
 
 
 def size_of(path: Path) -> int:
-    """Returns how many bytes a file has, and 0 where that is not known."""
+    """Returns how many bytes a file has, and 0 if that is not known."""
     return 0 if hasattr(path, "read") else os.path.getsize(path)  # type: ignore[arg-type]
 
 
@@ -194,7 +194,7 @@ class Runs:
         return bool(more)
 
     def _cut(self, text: bytes, quotes: np.ndarray) -> int:
-        """Returns where the last record ends that the text has as a whole, and 0 where it has none."""
+        """Returns where the last record ends that the text has as a whole, and 0 if it has none."""
         if self._is_end and len(text) == len(self._rest):
             return len(text)
         if not len(quotes):

@@ -169,7 +169,7 @@ class GroupBy:
     def _at_once(
         self, keys: Tuple[Key, ...], word: Optional[bytes], column: Optional["Name"], where: Predicate
     ) -> Optional[Dict[Identity, Any]]:
-        """Returns the answers that the library has in one question, or None where it has not."""
+        """Returns the answers that the library has in one question, or None if it has not."""
         names, has_parts = tuple(dict.fromkeys(key.column for key in keys)), any(key.part for key in keys)
         if word is None or len(names) > 2 or has_parts and word == b"median":
             return None

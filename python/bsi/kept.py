@@ -222,7 +222,7 @@ def _reason(why: BaseException) -> str:
 
 
 def opened_file(path: Path, so_far: bool = False) -> Kept:
-    """Opens the index that a file keeps. The file is mapped, and not read into memory of its own."""
+    """Opens the index in a file. The file is mapped, and not read into memory of its own."""
     name = os.fspath(path)
     if not (stat.S_ISREG(os.stat(name).st_mode) or os.path.isdir(name)):
         raise NotKept("it is no regular file", name)
@@ -234,7 +234,7 @@ def opened_file(path: Path, so_far: bool = False) -> Kept:
 
 
 def is_kept(path: str) -> bool:
-    """Returns whether a file's first bytes are those of a kept index."""
+    """Returns whether a file's first bytes are those of a saved index."""
     try:
         with open(path, "rb") as file:
             return stat.S_ISREG(os.fstat(file.fileno()).st_mode) and file.read(len(MAGIC)) == MAGIC
@@ -290,7 +290,7 @@ def _create(name: str, mode: int) -> Tuple[int, str]:
 
 
 def _stat(name: str) -> Optional[os.stat_result]:
-    """Returns what the system says of a file, or None where there is none."""
+    """Returns what the system says of a file, or None if there is none."""
     try:
         return os.stat(name)
     except FileNotFoundError:

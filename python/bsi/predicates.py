@@ -70,7 +70,7 @@ class Holds(NamedTuple):
 
 
 class Stored(NamedTuple):
-    """A column, one of the signs, and a number of those that stand for its values."""
+    """A column, one of the signs, and a number of those that represent its values."""
 
     column: str
     sign: str

@@ -8,8 +8,8 @@
 rank gives the value of rank K, from 0, and quantile that of the share PART / WHOLE. A KEY is a column, or a part of its
 dates: day.year, .quarter, .month, .week, .day, .weekday (from Monday, 0) or .hour. Nulls are groups of their own.
 P is made of `COLUMN SIGN CONSTANT` with one of = == != < <= > >= startswith endswith contains, `COLUMN null`,
-`COLUMN not null`, `all`, `and`, `or`, `not` and brackets; `where` may stand before it. COLUMN may be a part of dates. What is none of the column's constants may name another column. `not`
-binds closest, then `and`. A name or a constant that is no plain word, or one of these words, stands in quotes:
+`COLUMN not null`, `all`, `and`, `or`, `not` and brackets; `where` may precede it. COLUMN may be a part of dates. A word that is no constant of the column may name another column. `not`
+binds closest, then `and`. A name or a constant that is no plain word, or one of these words, is in quotes:
 "Amount (EUR)", 'Okafor, Ada'; a quote within them is written twice.
 Constants are read as the column's own kind: 100, 12.50, 2026-01-31, true, Meyer.
 """
@@ -39,11 +39,11 @@ BINDS = {"(": 0, "or": 1, "and": 2, "not": 3}
 
 
 class NoSign(BadQuery):
-    """A column is named where it is to be compared, and no sign follows."""
+    """A column that is to be compared is named, and no sign follows."""
 
 
 class Token(str):
-    """A word of a question, and whether it stood in quotes."""
+    """A word of a question, and whether it was in quotes."""
 
     quoted: bool
 

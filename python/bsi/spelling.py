@@ -1,6 +1,6 @@
 """How the fields of a column of a file are read: as numbers, times, booleans or texts.
 
-A reader turns the fields of a run into numbers, or into the places of their texts in a list: what these stand for is
+A reader turns the fields of a run into numbers, or into the places of their texts in a list: what these represent is
 then found at the end, over all of the column. A field that it can't read is told with why.
 """
 
@@ -46,7 +46,7 @@ class Options(NamedTuple):
 
 
 class Read(NamedTuple):
-    """Numbers of fields and their kind, or places of texts in a list where there is none yet; and the fields that are
+    """Numbers of fields and their kind, or places of texts in a list if there is none yet; and the fields that are
     not read."""
 
     kind: Optional[Kind]
@@ -55,7 +55,7 @@ class Read(NamedTuple):
 
 
 class Meaning(NamedTuple):
-    """What the places in a list of texts stand for, and those that stand for nothing."""
+    """What the places in a list of texts represent, and those that are nulls."""
 
     kind: Kind
     numbers: np.ndarray
@@ -307,7 +307,7 @@ class TextReader:
         return Read(None, self.distinct.codes(fields), {})
 
     def meaning(self) -> Meaning:
-        """Returns what the places stand for, when all fields are read."""
+        """Returns what the places represent, when all fields are read."""
         self.distinct.end()
         return self._meaning(self.distinct.texts, self.options)
 

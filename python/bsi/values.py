@@ -26,7 +26,7 @@ NUMPY_TYPES: Dict[type, Any] = {int: np.int64, bool: np.bool_, float: np.float64
 
 class Values(NamedTuple):
     """An array of the dtypes b, i, u, f, M or object, which of its places are valid, the time zone of its times, and
-    the order of its texts, where it has these; and the kind that it has without values, where its dtype tells one."""
+    the order of its texts, if it has these; and the kind that it has without values, where its dtype tells one."""
 
     values: np.ndarray
     valid: np.ndarray
@@ -171,7 +171,7 @@ def _kind_of_first(values: Any) -> Optional[Kind]:
 
 
 def is_null(value: Any) -> bool:
-    """Returns whether the value stands for nothing: None, NaN, NaT or pandas.NA."""
+    """Returns whether the value represents no value: None, NaN, NaT or pandas.NA."""
     if value is None:
         return True
     try:
