@@ -737,7 +737,7 @@ def _entries(numbers: np.ndarray, valid: np.ndarray) -> Entries:
 def _span(form: Form) -> str:
     """Returns what the column takes as a text, where that is no matter of course."""
     is_known = form.kind.names_values or form.kind == Flags()
-    return "" if is_known else f", takes {form.show(form.offset)} to {form.show(form.most)}"
+    return "" if is_known else f", from {form.show(form.offset)} to {form.show(form.most)}"
 
 
 def _bytes(size: float) -> str:

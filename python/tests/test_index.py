@@ -38,7 +38,7 @@ def test_the_first_example():
 def test_it_says_what_it_is():
     index = small()
     assert repr(index).splitlines()[0].startswith("Index of 4 rows, about ")
-    assert "temp   range(10, 10, 10, offset=-400)  whole numbers, takes -400 to 599" in repr(index)
+    assert "temp   range(10, 10, 10, offset=-400)  whole numbers, from -400 to 599" in repr(index)
     assert index.columns == ["price", "temp", "day"] and str(index.forms["day"]) == "equality(7)"
     assert index.schema == "column,price,slices,20\ncolumn,temp,range,10 10 10,-400\ncolumn,day,equality,7\n"
     index.close()
@@ -815,7 +815,7 @@ def test_sums_past_64_bits():
 
 def test_what_it_takes_is_said_in_words():
     index = bsi.Index({"a": bsi.slices(3, kind=bsi.Decimals(7))})
-    assert "takes 0.0000000 to 0.0000007" in repr(index)
+    assert "from 0.0000000 to 0.0000007" in repr(index)
 
 
 def test_closing():

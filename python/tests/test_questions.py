@@ -185,8 +185,8 @@ def test_the_command(tmp_path, capsys):
     other.write_text("n,Day\n5,2026-02-03\n")
     ran = run(str(path), str(other), "--null", "n/a", "sum n", "greatest Day n < 5", "rows n null", "count n = x")
     assert ran.stdout.splitlines()[1:] == [
-        "  n    slices(3)                whole numbers, takes 0 to 7",
-        "  Day  slices(2, offset=20484)  dates, takes 2026-01-31 to 2026-02-03",
+        "  n    slices(3)                whole numbers, from 0 to 7",
+        "  Day  slices(2, offset=20484)  dates, from 2026-01-31 to 2026-02-03",
         "8",
         "2026-02-01",
         "2",
