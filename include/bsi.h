@@ -6,8 +6,8 @@
  * Each call takes a handle and returns a status. If the status is not BSI_OK, the call has changed no row, and
  * written nothing except what is said at the call.
  *
- * Pointers. No pointer is null, but one to a length of 0 may be: nothing is read or written there. What a call reads is the
- * caller's, and is not used after the call. What a call writes must not overlap anything else that it is given.
+ * Pointers. No pointer is null, but one to a length of 0 may be: nothing is read or written there. What a call reads is
+ * the caller's, and is not used after the call. What a call writes must not overlap anything else that it is given.
  *
  * Threads. No other call may use a handle while a call runs, not even to ask. Two handles of one index, made by bsi_share, may be
  * used by two threads at once. A handle may be used by one thread after another.
@@ -216,8 +216,8 @@ uint32_t bsi_save(bsi_index *index, const uint8_t *notes, size_t notes_len, uint
 uint32_t bsi_open_kept(bsi_index *index, const uint8_t *bytes, size_t len, uint8_t *notes, size_t notes_room,
                        size_t *notes_len, uint64_t *whole);
 
-/* Opens another, closed handle of the same index, whose rows stay the same from then on: neither handle accepts more. If memory is
- * refused, the other stays closed, and the index may take no more rows. */
+/* Opens another, closed handle of the same index, whose rows stay the same from then on: neither handle accepts more. If
+ * memory is refused, the other stays closed, and the index may accept no more rows. */
 uint32_t bsi_share(bsi_index *index, bsi_index *other);
 
 /* Closes a handle. The index is freed with its last handle. */
