@@ -228,7 +228,7 @@ def test_a_column_is_no_truth():
 
 def test_a_text_is_no_list():
     for text in ("Meyer", b"Meyer"):
-        with pytest.raises(TypeError, match="a list of constants, and not a text"):
+        with pytest.raises(TypeError, match="a list of constants, not a text"):
             col.who.isin(text)
     with pytest.raises(TypeError, match="and not one text"):
         bsi.Texts("abc")
