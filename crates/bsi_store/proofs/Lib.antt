@@ -1,3 +1,5 @@
 mod Failing
 mod Named
 mod Notes
+mod SaidKinds
+mod Seen

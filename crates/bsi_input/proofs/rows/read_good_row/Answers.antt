@@ -6,7 +6,7 @@ use Rattle.bsi_input.proofs.Taking.{has_ended, is_too_long, memory_fails, read_f
 use Rattle.bsi_input.proofs.rows.read_good_row.Goals as goal
 
 pub records-init : goal.records-init
-records-init g c = record { read_so_far = taken_none _ _ _ _; plain = c.requires.plain; counts = c.requires.counts }
+records-init g c = record { read_so_far = taken_none _ _ _ _; plain = c.requires.by; counts = c.requires.counts }
 
 pub returns-in_err-read_next-clause-stopped : goal.returns-in_err-read_next-clause-stopped
 returns-in_err-read_next-clause-stopped g c = read_fails _ _ _ _ _ _ c.records.invariant _ c.from_residual.result c.from_residual.ensures.1
@@ -35,7 +35,7 @@ records-preserved g c =
     let input = c.read_next.new.input in
     let fields = fields_of c.read_next.new.fields in
     let reads : ReadRecord g.R.Read.remaining c.records.input input true fields = search rules in
-    taken_bad _ _ _ _ _ _ c.records.invariant input fields reads c.in_ok-read_next.ensures.plain (omega (arith, c.records-test.true, c.most_records-most.ensures))
+    taken_bad _ _ _ _ _ _ c.records.invariant input fields reads c.in_ok-read_next.ensures.by (omega (arith, c.records-test.true, c.most_records-most.ensures))
     (subst (λ good. given good c.read.new.row ≡ good_row (g.F.RowFormat.format c.args.layout.now.format) c.args.layout.now.header fields) c.if-good.false c.in_ok-good.ensures.row)
 
 pub returns-in_err-read_next-2-clause-stopped : goal.returns-in_err-read_next-2-clause-stopped
