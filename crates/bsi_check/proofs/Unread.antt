@@ -7,18 +7,17 @@ use Rattle.csv.specs.declared.parser.State.TheVariants as st
 use Rattle.csv.specs.declared.reader.Reader.{Reader}
 use Rattle.bsi_syntax.specs.Bytes.{KnownBytes}
 use Rattle.bsi_rows.specs.Fields.{Field}
-use Rattle.bsi_schema.specs.Columns.{Declared}
-use Rattle.bsi_input.specs.RowFiles.{is_header}
+use Rattle.bsi_input.specs.Formats.{Format}
 use Rattle.bsi_input.proofs.FirstRecords.{first_join, first_more, first_none}
 use Rattle.bsi_input.proofs.Taking.{one_read}
-use Rattle.bsi_check.specs.Checks.{HasTooManyRecords, IsTooLongRowFile}
+use Rattle.bsi_check.specs.Checks.{HasMoreRecords, IsTooLongRowFile}
 
 -- a header was read, and then too many records
-pub long_file : {R : Type 0} (rem : R → KnownBytes) (schema : Declared) (header : List Field) (a b : Reader R) (known : KnownBytes)
-    → is_header schema header ≡ true → reader_config a ≡ default_config → reader_state a ≡ st.StartRecord → source_of rem a ≡ option_map strip_bom known
-    → ReadRecord rem a b true header → HasTooManyRecords rem b → IfSome known (IsTooLongRowFile schema)
-long_file rem schema header a b None named plain start left next many = tt
-long_file rem schema header a b (Some text) named plain start left next many =
+pub long_file : {R : Type 0} (rem : R → KnownBytes) (format : Format) (header : List Field) (a b : Reader R) (known : KnownBytes)
+    → format.is_header header ≡ true → reader_config a ≡ default_config → reader_state a ≡ st.StartRecord → source_of rem a ≡ option_map strip_bom known
+    → ReadRecord rem a b true header → HasMoreRecords rem format.most b → IfSome known (IsTooLongRowFile format)
+long_file rem format header a b None named plain start left next many = tt
+long_file rem format header a b (Some text) named plain start left next many =
     let one = first_more rem text a b [] header (first_none text (reader_state a) (source_of rem a) start left) (one_read rem a b header plain next) in
     let all = first_join rem text b many.at (header ∷ []) many.records one many.read in
     record {

@@ -1,6 +1,7 @@
 -- What a check finds in the row files (`IsFileFinding`) and in the asks (`IsAsksFinding`) of a run.
-use Rattle.std.specs.Prelude.{◌≡◌, ⊤, ◌⊎◌, ℕ, ◌+◌, ◌≤◌, Bool, true, false, nat_eq, List, [], ◌∷◌, length}
-use Rattle.csv.specs.Reading.{strip_bom}
+use Rattle.std.specs.Prelude.{◌≡◌, ⊤, ◌⊎◌, ℕ, ◌+◌, ◌≤◌, Bool, true, false, nat_eq, List, [], ◌∷◌, length, IsSome}
+use Rattle.csv.specs.Machine.{next_record}
+use Rattle.csv.specs.Reading.{default_config, strip_bom}
 use Rattle.csv.specs.declared.parser.State.{State}
 use Rattle.csv.specs.declared.reader.Reader.{Reader}
 use Rattle.bsi_syntax.specs.Bytes.{Bytes, KnownBytes}
@@ -9,8 +10,7 @@ use Rattle.bsi_rows.specs.Fields.{Field}
 use Rattle.bsi_rows.specs.Rows.{Entries}
 use Rattle.bsi_rows.specs.declared.query.Query.{Query}
 use Rattle.bsi_schema.specs.Columns.{Declared}
-use Rattle.bsi_input.specs.Formats.{max_records}
-use Rattle.bsi_input.specs.RowFiles.{is_header, plain_format}
+use Rattle.bsi_input.specs.Formats.{max_records, Format}
 use Rattle.bsi_input.specs.Sources.{counts_of, HasNext, HasNoHeader, HasReadRecords, HasReadRows, IsOver, IsWholeFile, Layout}
 use Rattle.bsi_input.specs.Texts.{AreAllRecords, AreFirstRecords, AreTooMany}
 use Rattle.bsi_input.specs.declared.rows.SourceFault.TheVariants as source
@@ -22,8 +22,8 @@ use Rattle.bsi_check.specs.declared.finding.FileFinding.TheVariants.{Counted, No
 
 -- ---- a row file
 
-abbrev pub layout_of : Declared → List Field → Layout
-layout_of schema header = record { format = plain_format schema; header = header }
+abbrev pub layout_of : Format → List Field → Layout
+layout_of format header = record { format = format; header = header }
 
 -- The records that a reader had left were counted.
 pub record HasCounted {R : Type 0} (rem : R → KnownBytes) (layout : Layout) (input : Reader R)
@@ -36,34 +36,41 @@ pub record HasCounted {R : Type 0} (rem : R → KnownBytes) (layout : Layout) (i
   pub read_so_far : HasReadRows rem layout input at (counts_of 0 0) (counts_of counts.records counts.bad) rows
   -- No record is left.
   pub over : IsOver rem at
+  -- The records are no more than the format has at most.
+  pub few : counts.records ≤ layout.format.most
 
--- More than 1,000,000 records can be read from the input.
-pub record HasTooManyRecords {R : Type 0} (rem : R → KnownBytes) (input : Reader R) : Type 0 where
-  -- The reader after the first million records.
+-- More than `most` records can be read from the input.
+pub record HasMoreRecords {R : Type 0} (rem : R → KnownBytes) (most : ℕ) (input : Reader R) : Type 0 where
+  -- The reader after the first of the records.
   pub at : Reader R
-  -- The first million records.
+  -- The first of the records.
   pub records : List (List Field)
   -- These records were read from the input, up to `at`.
   pub read : HasReadRecords rem input at records
-  -- The records are 1,000,000.
-  pub many : length records ≡ max_records
+  -- They are as many as `most`.
+  pub many : length records ≡ most
   -- One more record follows.
   pub more : HasNext rem at
 
--- The text is a row file of the schema, with these counts.
-pub record IsCountedFile (schema : Declared) (counts : FileCounts) (text : Bytes) : Type 0 where
+-- The text is a row file of the format, with these counts.
+pub record IsCountedFile (format : Format) (counts : FileCounts) (text : Bytes) : Type 0 where
   -- The fields of the header.
   pub header : List Field
   -- The rows of the good records.
   pub rows : List Entries
-  -- The fields of the header are the names of the columns, each once, in any order.
-  pub named : is_header schema header ≡ true
+  -- The format accepts the header.
+  pub named : format.is_header header ≡ true
   -- After the header, all records and the bad ones are counted, and the good ones have the rows.
-  pub whole : IsWholeFile (layout_of schema header) (strip_bom text) (counts_of 0 0)
+  pub whole : IsWholeFile (layout_of format header) (strip_bom text) (counts_of 0 0)
       (counts_of counts.records counts.bad) rows
 
--- The text is a row file of the schema that is too long.
-pub record IsTooLongRowFile (schema : Declared) (text : Bytes) : Type 0 where
+-- There are `most` records, and the text has one more.
+abbrev pub AreMoreThan : ℕ → List (List Field) → State → List ℕ → Type 0
+AreMoreThan most records state rest =
+    (length records ≡ most) × IsSome (next_record default_config state [] [] rest)
+
+-- The text is a row file of the format that is too long.
+pub record IsTooLongRowFile (format : Format) (text : Bytes) : Type 0 where
   -- The fields of the header.
   pub header : List Field
   -- The first records after the header.
@@ -72,20 +79,26 @@ pub record IsTooLongRowFile (schema : Declared) (text : Bytes) : Type 0 where
   pub state : State
   -- The bytes after the records.
   pub rest : List ℕ
-  -- The fields of the header are the names of the columns, each once, in any order.
-  pub named : is_header schema header ≡ true
+  -- The format accepts the header.
+  pub named : format.is_header header ≡ true
   -- The text begins with the header and the records, and goes on with the rest.
   pub first : AreFirstRecords text (header ∷ records) state rest
-  -- The records are 1,000,000, and one more follows.
-  pub too_long : AreTooMany records state rest
+  -- The records are as many as the format has at most, and one more follows.
+  pub too_long : AreMoreThan format.most records state rest
 
 -- The finding that a check has for a row file with this text. A fault of the reader says nothing of the text.
-abbrev pub IsFileFinding : Declared → FileFinding → List ℕ → Type 0
-IsFileFinding schema (Counted counts) text = IsCountedFile schema counts text
-IsFileFinding schema NoHeader text = HasNoHeader (plain_format schema) (strip_bom text)
-IsFileFinding schema (Unread source.TooLong) text = IsTooLongRowFile schema text
-IsFileFinding schema (Unread source.Read) text = ⊤
-IsFileFinding schema (Unread fault) text = ⊥
+abbrev pub IsFileFinding : Format → FileFinding → List ℕ → Type 0
+IsFileFinding format (Counted counts) text = IsCountedFile format counts text
+IsFileFinding format NoHeader text = HasNoHeader format (strip_bom text)
+IsFileFinding format (Unread source.TooLong) text = IsTooLongRowFile format text
+IsFileFinding format (Unread source.Read) text = ⊤
+IsFileFinding format (Unread fault) text = ⊥
+
+-- The records that were counted, if they were, are at most so many.
+abbrev pub HasAtMost : ℕ → FileFinding → Type 0
+HasAtMost most (Counted counts) = counts.records ≤ most
+HasAtMost most NoHeader = ⊤
+HasAtMost most (Unread fault) = ⊤
 
 -- All records of the file are good.
 abbrev pub is_clean : FileFinding → Bool

@@ -1,14 +1,17 @@
 -- The reasons that a check writes, a line each.
 use Rattle.std.specs.Prelude.{◌≡◌, ◌≢◌, ℕ, ◌<◌, ◌-◌, Bool, true, false, if◌then◌else◌, ◌||◌, nat_eq, nat_le, All, List, [], ◌∷◌, ◌++◌, length, map, Option, None, Some, IfSome, codes, decimal}
 use Rattle.std.specs.List.{concat}
+use Rattle.bsi_rows.specs.Fields.{Field}
 use Rattle.bsi_syntax.specs.Bytes.{KnownBytes}
 use Rattle.bsi_syntax.specs.declared.setups.DeclaredTable.{DeclaredTable}
 use Rattle.bsi_input.specs.FaultTexts.{source_fault_text}
+use Rattle.bsi_input.specs.Formats.{Format}
 use Rattle.bsi_input.specs.SchemaTexts.{IsSchemaFault, IsSchemaText}
 use Rattle.bsi_input.specs.declared.rows.SourceFault.{SourceFault}
 use Rattle.bsi_input.specs.declared.rows.SourceFault.TheVariants as source
 use Rattle.bsi_input.specs.declared.schema_text.SchemaFault.{SchemaFault}
 use Rattle.bsi_input.specs.declared.schema_text.SchemaFault.TheVariants.{BadRecord, NoColumns, Source}
+use Rattle.bsi_check.specs.Judges.{IsReason, Judge}
 use Rattle.bsi_check.specs.declared.finding.AsksFinding.{AsksFinding}
 use Rattle.bsi_check.specs.declared.finding.AsksFinding.TheVariants as asks
 use Rattle.bsi_check.specs.declared.finding.FileFinding.{FileFinding}
@@ -29,6 +32,10 @@ one_line text = map (λ byte. if is_line_end byte then 32 else byte) text
 -- The line of a reason: the path of the file, a colon, and what is wrong.
 abbrev pub reason_line : List ℕ → List ℕ → List ℕ
 reason_line path why = path ++ codes ":" ++ why ++ codes "\n"
+
+-- What is wrong with a record, behind the line at which it begins.
+abbrev pub line_why : ℕ → List ℕ → List ℕ
+line_why line text = decimal line ++ (codes ": " ++ text)
 
 -- The reasons `whys` of one file, a line each, were appended to a text.
 abbrev pub AddsReasons : List ℕ → List (List ℕ) → List ℕ → List ℕ → Type 0
@@ -73,6 +80,16 @@ more_whys bad = if nat_le bad max_reasons then [] else more_why (bad - max_reaso
 abbrev pub AddsBadRecordReasons : List ℕ → ℕ → List ℕ → List ℕ → Type 0
 AddsBadRecordReasons path bad before after =
     (whys : List (List ℕ)) × (length whys ≡ reason_count bad) × AddsReasons path (whys ++ more_whys bad) before after
+
+-- One reason was appended, of a record of a row file: it tells the line, and why the record is bad.
+pub record AddsRecordReason (format : Format) (judge : Judge) (header fields : List Field) (path before after : List ℕ)
+    : Type 0 where
+  -- The line.
+  pub line : ℕ
+  -- Why the record is bad.
+  pub text : List ℕ
+  pub tells : IsReason format judge header fields text
+  pub added : AddsReasons path (one_line (line_why line text) ∷ []) before after
 
 -- ---- the reasons of a file
 

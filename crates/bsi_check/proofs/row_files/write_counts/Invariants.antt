@@ -1,6 +1,6 @@
 use Rattle.std.proofs.Common.{◌≡◌, ◌++◌, drop}
 use Rattle.bsi_check.specs.Reports.{fed_text}
-use Rattle.bsi_check.proofs.check.write_counts.Given as goal
+use Rattle.bsi_check.proofs.row_files.write_counts.Given as goal
 
 -- the lines of the files that are left make up the text
 abbrev pub invariant-files : goal.invariant-files
