@@ -107,5 +107,4 @@ counted_text rem format header a b counts known named is stands counted =
       rows = counted.rows;
       named = named;
       whole = is_whole rem (layout_of format header) b counted.at (strip_bom bytes) (counts_of 0 0) (counts_of counts.records counts.bad) counted.rows after counted.read_so_far counted.over;
-      few = counted.few;
     }

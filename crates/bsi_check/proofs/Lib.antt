@@ -3,5 +3,7 @@ mod Counting
 mod Joined
 mod Judging
 mod OneLine
+mod RecordReasons
 mod Telling
 mod Unread
+mod Written

@@ -1,6 +1,7 @@
 //! Why a logical schema does not accept a field: it spells no value of the column's kind, or one out of its range.
 
 ghost use Rattle.std.specs.Prelude.{◌≡◌, ◌<◌, length, position, IfOk, IfSome};
+ghost use Rattle.std.specs.List.{position_or_len};
 ghost use Rattle.std.specs.Option.{is_none};
 ghost use Rattle.std.specs.Str.{bytes_eq};
 ghost use Rattle.bsi_kinds.specs.Kinds.{IsKind};
@@ -41,12 +42,25 @@ fn find_titled(logical: &LogicalSchema, name: &[u8]) -> Option<u32>
     ensures column { result ≡ position (λ title. bytes_eq title name.now) logical.now.titles }
     ensures within { IfSome result (λ c. c < length logical.now.schema.columns) }
 {
-    'columns: for c in 0..logical.schema().columns() {
+    let c = count_other_titles(logical, name);
+    if c < logical.schema().columns() {
+        Some(c)
+    } else {
+        None
+    }
+}
+
+/// Counts the titles that precede this one, or all if it is none of them.
+fn count_other_titles(logical: &LogicalSchema, name: &[u8]) -> u32
+    ensures { result ≡ position_or_len (λ title. bytes_eq title name.now) logical.now.titles }
+{
+    let columns = logical.schema().columns();
+    'columns: for c in 0..columns {
         if logical.title(c) == name {
-            return Some(c);
+            return c;
         }
     }
-    None
+    columns
 }
 
 /// Returns why a column does not accept a field, or none if it does.

@@ -3,7 +3,7 @@ use Rattle.csv.specs.Reading.{ReadRecord}
 use Rattle.csv.specs.Records.{fields_of}
 use Rattle.bsi_input.proofs.Taking.{stands_after}
 use Rattle.bsi_input.specs.Sources.{layout_by, LayoutOf}
-use Rattle.bsi_check.specs.Checks.{layout_of, HasCounted}
+use Rattle.bsi_check.specs.Checks.{layout_of, HasCounted, HasMoreRecords}
 use Rattle.bsi_check.proofs.Counting.{counted_text}
 use Rattle.bsi_check.proofs.Unread.{long_file, passed_on}
 use Rattle.bsi_check.proofs.rows.check_input.Goals as goal
@@ -34,5 +34,6 @@ returns-in_err-counts-clause-too_long g c =
     let named : format.is_header header ≡ true = search rules in
     passed_on c.from_residual-in_err-counts.result (λ fault same long bytes known.
     long_file g.I.Read.remaining format header start input (Some bytes) named c.requires.plain.config c.requires.start known next
-    (c.in_err-counts.ensures.too_long (sym same ∙ long)))
+    (subst (λ (l : LayoutOf g.row.F.Denot). HasMoreRecords g.I.Read.remaining (g.F.RowFormat.format l.format).most input) c.in_ok-layout.ensures
+    (c.in_err-counts.ensures.too_long (sym same ∙ long))))
     c.from_residual-in_err-counts.ensures.1

@@ -1,4 +1,4 @@
-use Rattle.std.proofs.Common.{◌≡◌, ◌<◌, true, false, rules, arith, refl, sym, ◌∙◌, is_some}
+use Rattle.std.proofs.Common.{◌≡◌, ◌<◌, ◌≤◌, true, false, rules, ap, arith, refl, sym, ◌∙◌, is_some}
 use Rattle.csv.specs.Reading.{ReadRecord}
 use Rattle.csv.specs.Records.{fields_of}
 use Rattle.bsi_input.specs.Formats.{good_row}
@@ -24,7 +24,7 @@ records-preserved-then-good g c =
     let fields = fields_of c.read_next.new.fields in
     let next : ReadRecord g.I.Read.remaining c.records.input c.read_next.new.input true fields = search rules in
     let good : true ≡ is_some (good_row (g.F.RowFormat.format c.args.layout.now.format) c.args.layout.now.header fields) = sym c.if-good.true ∙ c.in_ok-good.ensures in
-    let few : c.records.records < (g.F.RowFormat.format c.args.layout.now.format).most = omega (arith, c.records-test.true, c.most_records-most.ensures) in
+    let few : c.records.records < (g.F.RowFormat.format c.args.layout.now.format).most = omega (arith, c.records-test.true, c.most_records-most.ensures, ap (λ (f : g.row.F.Denot). (g.F.RowFormat.format f).most) c.format.ensures) in
     record {
       counted = counted_good g.I.Read.remaining (layout_by g.F.RowFormat.format c.args.layout.now) c.args.input.now c.records.input c.records.records c.records.bad
           c.records.invariant.counted c.read_next.new.input fields next c.in_ok-read_next.ensures.plain few good;
@@ -37,7 +37,7 @@ records-preserved-in_ok-add_bad_record g c =
     let fields = fields_of c.read_next.new.fields in
     let next : ReadRecord g.I.Read.remaining c.records.input c.read_next.new.input true fields = search rules in
     let bad : false ≡ is_some (good_row (g.F.RowFormat.format c.args.layout.now.format) c.args.layout.now.header fields) = sym c.if-good.false ∙ c.in_ok-good.ensures in
-    let few : c.records.records < (g.F.RowFormat.format c.args.layout.now.format).most = omega (arith, c.records-test.true, c.most_records-most.ensures) in
+    let few : c.records.records < (g.F.RowFormat.format c.args.layout.now.format).most = omega (arith, c.records-test.true, c.most_records-most.ensures, ap (λ (f : g.row.F.Denot). (g.F.RowFormat.format f).most) c.format.ensures) in
     record {
       counted = counted_bad g.I.Read.remaining (layout_by g.F.RowFormat.format c.args.layout.now) c.args.input.now c.records.input c.records.records c.records.bad
           c.records.invariant.counted c.read_next.new.input fields next c.in_ok-read_next.ensures.plain few bad;
@@ -51,7 +51,7 @@ records-preserved g c =
     let fields = fields_of c.read_next.new.fields in
     let next : ReadRecord g.I.Read.remaining c.records.input c.read_next.new.input true fields = search rules in
     let bad : false ≡ is_some (good_row (g.F.RowFormat.format c.args.layout.now.format) c.args.layout.now.header fields) = sym c.if-good.false ∙ c.in_ok-good.ensures in
-    let few : c.records.records < (g.F.RowFormat.format c.args.layout.now.format).most = omega (arith, c.records-test.true, c.most_records-most.ensures) in
+    let few : c.records.records < (g.F.RowFormat.format c.args.layout.now.format).most = omega (arith, c.records-test.true, c.most_records-most.ensures, ap (λ (f : g.row.F.Denot). (g.F.RowFormat.format f).most) c.format.ensures) in
     record {
       counted = counted_bad g.I.Read.remaining (layout_by g.F.RowFormat.format c.args.layout.now) c.args.input.now c.records.input c.records.records c.records.bad
           c.records.invariant.counted c.read_next.new.input fields next c.in_ok-read_next.ensures.plain few bad;
@@ -67,6 +67,8 @@ returns-clause-counted g c =
 -- and one more than the most
 pub returns-then-branch-clause-too_long : goal.returns-then-branch-clause-too_long
 returns-then-branch-clause-too_long g c = λ is.
+    let many : (g.F.RowFormat.format c.args.layout.now.format).most ≤ c.records.records =
+    omega (arith, c.records-test.false, c.most_records-most.ensures, ap (λ (f : g.row.F.Denot). (g.F.RowFormat.format f).most) c.format.ensures) in
     let next : ReadRecord g.I.Read.remaining c.records.input c.read_next-2.new.input true (fields_of c.read_next-2.new.fields) = search rules in
     counted_long g.I.Read.remaining (layout_by g.F.RowFormat.format c.args.layout.now) c.args.input.now c.records.input c.records.records c.records.bad
-    c.records.invariant.counted c.read_next-2.new.input (fields_of c.read_next-2.new.fields) (omega (arith, c.records-test.false, c.most_records-most.ensures)) next
+    c.records.invariant.counted c.read_next-2.new.input (fields_of c.read_next-2.new.fields) many next
