@@ -25,7 +25,7 @@ const SALES: &str = "column,price,slices,21,-500\n\
 
 /// Records under a header that has another field too, from line 2 on; the first three are good.
 const ROWS: &str = "day,price,station,open,Last seen,note,pieces\n\
-    2026-01-31,12.50,Harbour,true,2026-01-31T10:30:00.5Z,fine,7\n\
+    2026-01-31,12.50,Harbour,true,2004-01-31T10:30:00.5Z,fine,7\n\
     n/a,,,n/a,,,\n\
     ,12.500,Wood,,,,255\n\
     ,12.505,,,,,\n\
@@ -96,8 +96,7 @@ const CHECKED: [(&str, &str, &str); 6] = [
         "price,Day,day,day,station,open,Last sen,note,prices\n",
         "a.csv:1: the header names 'price', 'Day', 'day', 'day', 'station', 'open', 'Last sen', 'note', 'prices'; \
             the columns are 'price', 'day', 'station', 'open', 'Last seen', 'pieces'; 'day' stands 2 times; \
-            'Last seen' is missing; 'pieces' is missing; unknown column 'Last sen', did you mean 'Last seen'?; \
-            unknown column 'prices', did you mean 'pieces'?\n",
+            'Last seen' is missing; 'pieces' is missing; unknown column 'Last sen', did you mean 'Last seen'?\n",
     ),
     (SALES, "", "a.csv: is empty: it has no header\n"),
     (
