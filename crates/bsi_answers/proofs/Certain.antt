@@ -64,7 +64,7 @@ names_of bytes schema limit is = named_all undeclared_table (record { schema = s
 
 -- ---- the row files
 
-one_file : OneReading → (schema : Declared) (bytes : List ℕ) (a b : RowFile) → IsRowFile schema bytes a → IsRowFile schema bytes b → a ≡ b
+one_file : OneReading → (schema : Declared) (bytes : List ℕ) (a b : RowFile) → IsRowFile (plain_format schema) bytes a → IsRowFile (plain_format schema) bytes b → a ≡ b
 one_file reading schema bytes a b one two =
     let same : one.header ∷ one.records ≡ two.header ∷ two.records = reading bytes (one.header ∷ one.records) (two.header ∷ two.records) one.all two.all in
     let header : one.header ≡ two.header = cc (same) in
@@ -76,7 +76,7 @@ one_file reading schema bytes a b one two =
         → (let f : RowFile = record { rows = xs; bad = m } in let g : RowFile = record { rows = ys; bad = n } in f ≡ g)
     made xs ys m n rows bad = cc
 
-one_files : OneReading → (schema : Declared) (texts : List (List ℕ)) (a b : List RowFile) → AllZip (IsRowFile schema) texts a → AllZip (IsRowFile schema) texts b → a ≡ b
+one_files : OneReading → (schema : Declared) (texts : List (List ℕ)) (a b : List RowFile) → AllZip (IsRowFile (plain_format schema)) texts a → AllZip (IsRowFile (plain_format schema)) texts b → a ≡ b
 one_files reading schema [] [] [] one two = refl
 one_files reading schema [] (x ∷ a) b one two = absurd one
 one_files reading schema [] [] (y ∷ b) one two = absurd two
@@ -181,7 +181,7 @@ one_run reading declared texts records a b one two found_a found_b =
     let table = one_table reading declared (record { schema = one.schema; limit = one.limit }) (record { schema = two.schema; limit = two.limit }) one.schema_is.declares two.schema_is.declares in
     let schema : one.schema ≡ two.schema = ap (λ (d : DeclaredTable). d.schema) table in
     let files : one.files ≡ two.files =
-    one_files reading one.schema texts one.files two.files one.files_are (subst (λ d. AllZip (IsRowFile d) texts two.files) (sym schema) two.files_are) in
+    one_files reading one.schema texts one.files two.files one.files_are (subst (λ d. AllZip (IsRowFile (plain_format d)) texts two.files) (sym schema) two.files_are) in
     let lines : AreLines one.schema (file_by_file 0 (map file_rows one.files)) (map file_counts one.files) records b =
     subst (λ fs. AreLines one.schema (file_by_file 0 (map file_rows fs)) (map file_counts fs) records b) (sym files)
     (subst (λ d. AreLines d (file_by_file 0 (map file_rows two.files)) (map file_counts two.files) records b) (sym schema) two.lines_are) in

@@ -3,11 +3,9 @@
 use Rattle.std.specs.Prelude.{◌≡◌, ◌≤◌, ℕ, true, List, [], ◌∷◌, length, slice_index_or}
 use Rattle.bsi_syntax.specs.Bytes.{Bytes}
 use Rattle.bsi_rows.specs.Fields.{Field}
-use Rattle.bsi_schema.specs.Columns.{Declared}
 use Rattle.bsi_rows.specs.Rows.{Entries}
-use Rattle.bsi_input.specs.Formats.{bad_count, good_rows, max_records}
-use Rattle.bsi_input.specs.RowFiles.{is_header, plain_format}
-use Rattle.bsi_input.specs.Texts.{AreAllRecords}
+use Rattle.bsi_input.specs.Formats.{bad_count, good_rows, Format}
+use Rattle.bsi_input.specs.Texts.{AreRecordsBy}
 use Rattle.bsi_answers.specs.declared.fed.Fed.{Fed}
 
 -- A row file: the rows of its good records, in order, and the number of bad records.
@@ -15,22 +13,22 @@ pub record RowFile : Type 0 where
   pub rows : List Entries
   pub bad : ℕ
 
--- The rows and the number of bad records of a row file, by the bytes of the file.
-pub record IsRowFile (schema : Declared) (bytes : Bytes) (file : RowFile) : Type 0 where
+-- The rows and the number of bad records of a row file of a format, by the bytes of the file.
+pub record IsRowFile (format : Format) (bytes : Bytes) (file : RowFile) : Type 0 where
   -- The fields of the header.
   pub header : List Field
   -- The records after the header.
   pub records : List (List Field)
   -- The bytes have the header, then these records, and no others.
-  pub all : AreAllRecords bytes (header ∷ records)
-  -- At most 1,000,000 records follow the header.
-  pub few : length records ≤ max_records
-  -- The fields of the header are the names of the columns, each once, in any order.
-  pub header_is : is_header schema header ≡ true
+  pub all : AreRecordsBy format.config bytes (header ∷ records)
+  -- No more records follow the header than the format has at most.
+  pub few : length records ≤ format.most
+  -- The header is one of the format.
+  pub header_is : format.is_header header ≡ true
   -- The rows are those of the good records.
-  pub rows_are : file.rows ≡ good_rows (plain_format schema) header records
+  pub rows_are : file.rows ≡ good_rows format header records
   -- The count is that of the bad records.
-  pub bad_is : file.bad ≡ bad_count (plain_format schema) header records
+  pub bad_is : file.bad ≡ bad_count format header records
 
 abbrev pub file_rows : RowFile → List Entries
 file_rows file = file.rows

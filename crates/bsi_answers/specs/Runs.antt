@@ -6,6 +6,8 @@ use Rattle.bsi_syntax.specs.Lines.{fed_line}
 use Rattle.bsi_rows.specs.Fields.{Field}
 use Rattle.bsi_schema.specs.Columns.{Declared}
 use Rattle.bsi_rows.specs.Rows.{SourcedRow}
+use Rattle.bsi_input.specs.Formats.{Format}
+use Rattle.bsi_input.specs.RowFiles.{plain_format}
 use Rattle.bsi_input.specs.SchemaTexts.{IsSchemaText}
 use Rattle.bsi_answers.specs.AskLines.{IsAskLine}
 use Rattle.bsi_syntax.specs.declared.grammar.Grammar.TheVariants.{Script}
@@ -25,13 +27,13 @@ pub record AreLines (schema : Declared) (rows : List SourcedRow) (counts : List 
   pub each : AllZip (IsAskLine Script schema rows) records answers
   pub lines_are : lines ≡ fed_lines 0 counts ++ answers
 
--- What a load leaves: rows, and counts of each file. `texts` are the bytes of the files.
-pub record HasLoaded (schema : Declared) (limit : ℕ) (texts : List Bytes) (rows : List SourcedRow) (counts : List FedCounts)
+-- What a load of files of a format leaves: rows, and counts of each file. `texts` are the bytes of the files.
+pub record HasLoaded (format : Format) (limit : ℕ) (texts : List Bytes) (rows : List SourcedRow) (counts : List FedCounts)
     : Type 0 where
   -- The rows and the number of bad records of each file.
   pub files : List RowFile
-  -- Each text is a row file of the schema, with these rows and bad records.
-  pub files_are : AllZip (IsRowFile schema) texts files
+  -- Each text is a row file of the format, with these rows and bad records.
+  pub files_are : AllZip (IsRowFile format) texts files
   -- The rows are an interleaving of the good rows of all files.
   pub mix : IsInterleavingOf files rows
   -- The rows are no more than the limit.
@@ -51,7 +53,7 @@ pub record IsRun (declared : List ℕ) (texts : List Bytes) (records : List (Lis
   -- The schema file declares the schema and the limit.
   pub schema_is : IsSchemaText declared schema limit
   -- Each text is a row file of the schema, with these rows and bad records.
-  pub files_are : AllZip (IsRowFile schema) texts files
+  pub files_are : AllZip (IsRowFile (plain_format schema)) texts files
   -- The good rows are no more than the limit.
   pub within : length (file_by_file 0 (map file_rows files)) ≤ limit
   -- The lines are those over the rows of all files, one file after the other.

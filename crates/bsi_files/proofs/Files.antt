@@ -12,10 +12,10 @@ use Rattle.bsi_syntax.specs.Bytes.{KnownBytes}
 use Rattle.bsi_rows.specs.Fields.{Field}
 use Rattle.bsi_schema.specs.Columns.{Declared}
 use Rattle.bsi_rows.specs.Rows.{Entries, SourcedRow}
-use Rattle.bsi_input.specs.Formats.{bad_count, good_rows}
+use Rattle.bsi_input.specs.Formats.{Format}
 use Rattle.bsi_input.specs.SchemaTexts.{IsSchemaText}
 use Rattle.bsi_input.specs.RowFiles.{plain_format}
-use Rattle.bsi_input.specs.Sources.{plain_layout, Counts, HasReadRows, IsAfterHeader, IsOver, IsWholeFile, Layout, SourceOf}
+use Rattle.bsi_input.specs.Sources.{layout_by, Counts, HasReadRows, IsAfterHeader, IsOverBy, IsWholeFile, Layout, SourceOf}
 use Rattle.bsi_files.specs.Begun.{Begins}
 use Rattle.bsi_files.specs.Feeding.{IsReadOut}
 use Rattle.bsi_answers.specs.RowFiles.{fed_counts, file_at, file_counts, file_rows, FedCounts, IsRowFile, RowFile}
@@ -45,8 +45,8 @@ mixed_at rows n (fed ∷ feds) (suc k) none =
 abbrev fed_of : ℕ → ℕ → FedCounts
 fed_of accepted bad = record { accepted = accepted; bad = bad }
 
-module _ {R : Type 0} (rem : R → KnownBytes) where
-  counts_from : (stops : Bool) (rows : List SourcedRow) (n : ℕ) (sources : List (SourceOf R Declared)) (feds : List Fed) → AreFedFrom rem stops rows n sources feds
+module _ {R F : Type 0} (form : F → Format) (rem : R → KnownBytes) where
+  counts_from : (stops : Bool) (rows : List SourcedRow) (n : ℕ) (sources : List (SourceOf R F)) (feds : List Fed) → AreFedFrom form rem stops rows n sources feds
       → map file_counts (files_from rows n feds) ≡ map fed_counts feds
   unfolding files_from
   counts_from stops rows n [] [] fed = refl
@@ -55,7 +55,7 @@ module _ {R : Type 0} (rem : R → KnownBytes) where
   counts_from stops rows n (source ∷ sources) (x ∷ feds) fed =
       ap₂ (λ c cs. c ∷ cs) (ap (λ k. fed_of k x.bad) fed.0.many) (counts_from stops rows (suc n) sources feds fed.1)
 
-  pub as_many : (stops : Bool) (rows : List SourcedRow) (n : ℕ) (sources : List (SourceOf R Declared)) (feds : List Fed) → AreFedFrom rem stops rows n sources feds
+  pub as_many : (stops : Bool) (rows : List SourcedRow) (n : ℕ) (sources : List (SourceOf R F)) (feds : List Fed) → AreFedFrom form rem stops rows n sources feds
       → length sources ≡ length feds
   as_many stops rows n [] [] fed = refl
   as_many stops rows n [] (x ∷ feds) fed = absurd fed
@@ -65,61 +65,60 @@ module _ {R : Type 0} (rem : R → KnownBytes) where
   -- what is read from after the header to the end of a text is the whole of it
   abbrev pub IsWholeLaw : Type 0
   IsWholeLaw = (layout : Layout) → (a b : Reader R) → (text : List ℕ) → (start end : Counts) → (rows : List Entries)
-      → IsAfterHeader rem layout a text → HasReadRows rem layout a b start end rows → IsOver rem b → IsWholeFile layout text start end rows
+      → IsAfterHeader rem layout a text → HasReadRows rem layout a b start end rows → IsOverBy layout.format.config rem b → IsWholeFile layout text start end rows
 
   -- the file of a source that was read out
-  pub row_file : IsWholeLaw → (schema : Declared) (reader : R) (source : SourceOf R Declared) (text : List ℕ) (rows : List Entries) (bad : ℕ)
-      → Begins rem schema reader source → rem reader ≡ Some text → IsReadOut rem source rows bad → IsRowFile schema text (record { rows = rows; bad = bad })
-  row_file law schema reader source text rows bad begins is out =
-      let stands : IsAfterHeader rem (plain_layout source.layout) source.input (strip_bom text) =
-      subst (λ o. IfSome o (λ bytes. IsAfterHeader rem (plain_layout source.layout) source.input (strip_bom bytes))) is begins.behind in
-      let whole = law (plain_layout source.layout) source.input out.at (strip_bom text) source.counts out.end rows stands out.read_so_far out.over in
-      let schema_is : source.layout.format ≡ schema = begins.schema_is in
+  pub row_file : IsWholeLaw → (format : Format) (reader : R) (source : SourceOf R F) (text : List ℕ) (rows : List Entries) (bad : ℕ)
+      → Begins form rem format reader source → rem reader ≡ Some text → IsReadOut form rem source rows bad → IsRowFile format text (record { rows = rows; bad = bad })
+  row_file law format reader source text rows bad begins is out =
+      let stands : IsAfterHeader rem (layout_by form source.layout) source.input (strip_bom text) =
+      subst (λ o. IfSome o (λ bytes. IsAfterHeader rem (layout_by form source.layout) source.input (strip_bom bytes))) is begins.behind in
+      let whole = law (layout_by form source.layout) source.input out.at (strip_bom text) source.counts out.end rows stands out.read_so_far out.over in
       let none : source.counts.read_so_far ≡ 0 = ap (λ (t : Counts). t.read_so_far) begins.counts_are in
       let no_bad : source.counts.bad ≡ 0 = ap (λ (t : Counts). t.bad) begins.counts_are in
-      record {
+      subst (λ (f : Format). IsRowFile f text (record { rows = rows; bad = bad })) begins.format_is (record {
         header = source.layout.header;
         records = whole.records;
         all = whole.all;
         few = omega (arith, whole.read_so_far, none, out.few);
-        header_is = begins.header_is;
-        rows_are = whole.good ∙ ap (λ s. good_rows (plain_format s) source.layout.header whole.records) schema_is;
-        bad_is = omega (arith, out.bad_is, no_bad, whole.bad, ap (λ s. bad_count (plain_format s) source.layout.header whole.records) schema_is);
-      }
+        header_is = subst (λ (f : Format). f.is_header source.layout.header ≡ true) (sym begins.format_is) begins.header_is;
+        rows_are = whole.good;
+        bad_is = omega (arith, out.bad_is, no_bad, whole.bad);
+      })
 
-  one_file : IsWholeLaw → (schema : Declared) (reader : R) (source : SourceOf R Declared) (text : List ℕ) (rows : List SourcedRow) (n : ℕ) (fed : Fed)
-      → Begins rem schema reader source → rem reader ≡ Some text → IsFedFrom rem false rows n source fed
-      → IsRowFile schema text (record { rows = rows_from n rows; bad = fed.bad })
-  one_file law schema reader source text rows n fed begins is has =
-      row_file law schema reader source text (rows_from n rows) fed.bad begins is (has.out refl begins.end_is)
+  one_file : IsWholeLaw → (format : Format) (reader : R) (source : SourceOf R F) (text : List ℕ) (rows : List SourcedRow) (n : ℕ) (fed : Fed)
+      → Begins form rem format reader source → rem reader ≡ Some text → IsFedFrom form rem false rows n source fed
+      → IsRowFile format text (record { rows = rows_from n rows; bad = fed.bad })
+  one_file law format reader source text rows n fed begins is has =
+      row_file law format reader source text (rows_from n rows) fed.bad begins is (has.out refl begins.end_is)
 
-  all_files : IsWholeLaw → (schema : Declared) (readers : List R) (sources : List (SourceOf R Declared)) (texts : List (List ℕ)) (rows : List SourcedRow) (n : ℕ) (feds : List Fed)
-      → AllZip (Begins rem schema) readers sources → map rem readers ≡ map (λ text. Some text) texts → AreFedFrom rem false rows n sources feds
-      → AllZip (IsRowFile schema) texts (files_from rows n feds)
+  all_files : IsWholeLaw → (format : Format) (readers : List R) (sources : List (SourceOf R F)) (texts : List (List ℕ)) (rows : List SourcedRow) (n : ℕ) (feds : List Fed)
+      → AllZip (Begins form rem format) readers sources → map rem readers ≡ map (λ text. Some text) texts → AreFedFrom form rem false rows n sources feds
+      → AllZip (IsRowFile format) texts (files_from rows n feds)
   unfolding files_from
-  all_files law schema [] [] [] rows n [] begin is fed = tt
-  all_files law schema [] [] [] rows n (x ∷ feds) begin is fed = absurd fed
-  all_files law schema [] [] (text ∷ texts) rows n feds begin is fed = absurd (cc)
-  all_files law schema [] (source ∷ sources) texts rows n feds begin is fed = absurd begin
-  all_files law schema (reader ∷ readers) [] texts rows n feds begin is fed = absurd begin
-  all_files law schema (reader ∷ readers) (source ∷ sources) [] rows n feds begin is fed = absurd (cc)
-  all_files law schema (reader ∷ readers) (source ∷ sources) (text ∷ texts) rows n [] begin is fed = absurd fed
-  all_files law schema (reader ∷ readers) (source ∷ sources) (text ∷ texts) rows n (x ∷ feds) begin is fed =
+  all_files law format [] [] [] rows n [] begin is fed = tt
+  all_files law format [] [] [] rows n (x ∷ feds) begin is fed = absurd fed
+  all_files law format [] [] (text ∷ texts) rows n feds begin is fed = absurd (cc)
+  all_files law format [] (source ∷ sources) texts rows n feds begin is fed = absurd begin
+  all_files law format (reader ∷ readers) [] texts rows n feds begin is fed = absurd begin
+  all_files law format (reader ∷ readers) (source ∷ sources) [] rows n feds begin is fed = absurd (cc)
+  all_files law format (reader ∷ readers) (source ∷ sources) (text ∷ texts) rows n [] begin is fed = absurd fed
+  all_files law format (reader ∷ readers) (source ∷ sources) (text ∷ texts) rows n (x ∷ feds) begin is fed =
       let first : rem reader ≡ Some text = cc in
       let rest : map rem readers ≡ map (λ text. Some text) texts = cc in
-      (one_file law schema reader source text rows n x begin.0 first fed.0, all_files law schema readers sources texts rows (suc n) feds begin.1 rest fed.1)
+      (one_file law format reader source text rows n x begin.0 first fed.0, all_files law format readers sources texts rows (suc n) feds begin.1 rest fed.1)
 
   -- the rows of sources that were read out are those of the files
-  pub loaded_of : IsWholeLaw → (stops : Bool) → stops ≡ false → (schema : Declared) (limit : ℕ) (readers : List R) (sources : List (SourceOf R Declared))
-      (texts : List (List ℕ)) (rows : List SourcedRow) (feds : List Fed) → AllZip (Begins rem schema) readers sources
-      → map rem readers ≡ map (λ text. Some text) texts → IsAllFed rem stops limit rows sources feds
-      → HasLoaded schema limit texts rows (map fed_counts feds)
-  loaded_of law stops never schema limit readers sources texts rows feds begin is all =
-      let fed = subst (λ b. IsAllFed rem b limit rows sources feds) never all in
+  pub loaded_of : IsWholeLaw → (stops : Bool) → stops ≡ false → (format : Format) (limit : ℕ) (readers : List R) (sources : List (SourceOf R F))
+      (texts : List (List ℕ)) (rows : List SourcedRow) (feds : List Fed) → AllZip (Begins form rem format) readers sources
+      → map rem readers ≡ map (λ text. Some text) texts → IsAllFed form rem stops limit rows sources feds
+      → HasLoaded format limit texts rows (map fed_counts feds)
+  loaded_of law stops never format limit readers sources texts rows feds begin is all =
+      let fed = subst (λ b. IsAllFed form rem b limit rows sources feds) never all in
       let many = as_many false rows 0 sources feds fed.each in
       record {
         files = files_from rows 0 feds;
-        files_are = all_files law schema readers sources texts rows 0 feds begin is fed.each;
+        files_are = all_files law format readers sources texts rows 0 feds begin is fed.each;
         mix = λ f.
             (let at : 0 + f ≡ f = omega arith in
             sym (ap (λ m. rows_from m rows) at) ∙ mixed_at rows 0 feds f (λ g le. fed.none g (omega arith)));
@@ -127,13 +126,13 @@ module _ {R : Type 0} (rem : R → KnownBytes) where
         counts_are = sym (counts_from false rows 0 sources feds fed.each);
       }
 
-  pub few_fed : (stops : Bool) (limit : ℕ) (rows : List SourcedRow) (sources : List (SourceOf R Declared)) (feds : List Fed) → IsAllFed rem stops limit rows sources feds
+  pub few_fed : (stops : Bool) (limit : ℕ) (rows : List SourcedRow) (sources : List (SourceOf R F)) (feds : List Fed) → IsAllFed form rem stops limit rows sources feds
       → length sources ≤ max_feeders → length feds ≤ max_feeders
   few_fed stops limit rows sources feds fed few = (let many = as_many stops rows 0 sources feds fed.each in omega arith)
 
 -- the lines over the rows of files are those of a run over them
 pub run_of_loaded : (schema : Declared) (limit : ℕ) (declared : List ℕ) (texts : List (List ℕ)) (rows : List SourcedRow) (counts : List FedCounts)
-    → IsSchemaText declared schema limit → HasLoaded schema limit texts rows counts
+    → IsSchemaText declared schema limit → HasLoaded (plain_format schema) limit texts rows counts
     → (records : List (List Field)) (lines : List (List ℕ)) → AreLines schema rows counts records lines → IsRun declared texts records lines
 run_of_loaded schema limit declared texts rows counts schema_is loaded records lines are =
     let ordered = file_by_file 0 (map file_rows loaded.files) in

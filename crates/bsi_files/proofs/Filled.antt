@@ -4,9 +4,8 @@ use Rattle.std.specs.Prelude.{◌≢◌, Result, Ok, Err, MatchOption}
 use Rattle.std.proofs.lemmas.List.{append-nil, length-map, map-append}
 use Rattle.bsi_rows.specs.RowBlocks.{entries_of, sourced_from, RowBlock}
 use Rattle.bsi_rows.specs.Rows.{Entries, SourcedRow}
-use Rattle.bsi_input.specs.Formats.{max_records}
-use Rattle.bsi_schema.specs.Columns.{Declared}
-use Rattle.bsi_input.specs.Sources.{plain_layout, plain_source, Counts, Fills, GivesFirst, HasGivenRows, HasLeft, HasReadAll, HasReadRows, HasStopped, SourceEnd, SourceOf}
+use Rattle.bsi_input.specs.Formats.{Format}
+use Rattle.bsi_input.specs.Sources.{layout_by, source_by, Counts, Fills, GivesFirst, HasGivenRows, HasLeft, HasReadAll, HasReadRows, HasStopped, LayoutOf, SourceEnd, SourceOf}
 use Rattle.bsi_input.specs.declared.rows.SourceFault.{SourceFault}
 use Rattle.bsi_input.specs.declared.rows.SourceFault.TheVariants.{NoMemory}
 use Rattle.bsi_files.specs.Feeding.{FailsNow, GivesNext, GivesNone, ReadsOn}
@@ -18,16 +17,16 @@ entries_fed : (feeder : ℕ) (rows : List Entries) → entries_of (sourced_from 
 entries_fed feeder [] = refl
 entries_fed feeder (row ∷ rows) = ap (λ xs. row ∷ xs) (entries_fed feeder rows)
 
-module _ {R : Type 0} (rem : R → KnownBytes) (old new : SourceOf R Declared) where
+module _ {R F : Type 0} (form : F → Format) (rem : R → KnownBytes) (old new : SourceOf R F) where
   -- one row
   pub one_next : (row : Entries) → ((fault : SourceFault) → old.end ≡ Some (Err fault) → (◌≡◌ {A = Result (Option Entries) SourceFault} (Ok (Some row)) (Err fault)) × (new ≡ old))
       → (old.end ≡ Some (Ok tt) → (◌≡◌ {A = Result (Option Entries) SourceFault} (Ok (Some row)) (Ok None)) × (new ≡ old))
-      → (old.end ≡ None → HasReadRows rem (plain_layout old.layout) old.input new.input old.counts new.counts (row ∷ []))
-      → (old.end ≡ None → new.end ≡ None) → new.layout ≡ old.layout → GivesFirst rem (plain_source old) (plain_source new) (Some row) → new.counts.read_so_far ≤ max_records
-      → GivesNext rem old new (row ∷ [])
+      → (old.end ≡ None → HasReadRows rem (layout_by form old.layout) old.input new.input old.counts new.counts (row ∷ []))
+      → (old.end ≡ None → new.end ≡ None) → new.layout ≡ old.layout → GivesFirst rem (source_by form old) (source_by form new) (Some row) → new.counts.read_so_far ≤ (form new.layout.format).most
+      → GivesNext form rem old new (row ∷ [])
   one_next row failed ended given goes_on same first few = by old.end refl
     where
-      by : (end : SourceEnd) → old.end ≡ end → GivesNext rem old new (row ∷ [])
+      by : (end : SourceEnd) → old.end ≡ end → GivesNext form rem old new (row ∷ [])
       by None is = record {
         before = is;
         layout = same;
@@ -35,10 +34,10 @@ module _ {R : Type 0} (rem : R → KnownBytes) (old new : SourceOf R Declared) w
           at = new.input;
           middle = new.counts;
           read_so_far = given is;
-          ending = subst (Behind rem (plain_layout old.layout) new.input new.input new.counts new.counts) (sym (goes_on is)) (refl, refl);
+          ending = subst (Behind form rem (layout_by form old.layout) new.input new.input new.counts new.counts) (sym (goes_on is)) (refl, refl);
         };
         first = λ all others still. (let one = first all others still in (one.0, one.2, λ fine. record { left = one.1; still = one.3; count = one.4 }));
-        few = few;
+        few = subst (λ (l : LayoutOf F). new.counts.read_so_far ≤ (form l.format).most) same few;
       }
       by (Some (Ok done)) is = absurd (cc (ended is).0)
       by (Some (Err fault)) is = absurd (cc (failed fault is).0)
@@ -46,24 +45,24 @@ module _ {R : Type 0} (rem : R → KnownBytes) (old new : SourceOf R Declared) w
   -- or a fault in its place
   pub one_fails : (fault : SourceFault) → ((f : SourceFault) → old.end ≡ Some (Err f) → (◌≡◌ {A = Result (Option Entries) SourceFault} (Err fault) (Err f)) × (new ≡ old))
       → (old.end ≡ Some (Ok tt) → (◌≡◌ {A = Result (Option Entries) SourceFault} (Err fault) (Ok None)) × (new ≡ old))
-      → (old.end ≡ None → HasStopped rem (plain_layout old.layout) old.input old.counts new.counts fault × (new.end ≡ Some (Err fault))) → FailsNow rem old fault × ReadsOn rem old new
+      → (old.end ≡ None → HasStopped rem (layout_by form old.layout) old.input old.counts new.counts fault × (new.end ≡ Some (Err fault))) → FailsNow form rem old fault × ReadsOn form rem old new
   one_fails fault failed ended stopped = by old.end refl
     where
       fails : SourceEnd → Type 0
-      fails end = MatchOption end ((t : Counts) × HasStopped rem (plain_layout old.layout) old.input old.counts t fault) (λ e. e ≡ Err fault)
+      fails end = MatchOption end ((t : Counts) × HasStopped rem (layout_by form old.layout) old.input old.counts t fault) (λ e. e ≡ Err fault)
 
-      by : (end : SourceEnd) → old.end ≡ end → FailsNow rem old fault × ReadsOn rem old new
+      by : (end : SourceEnd) → old.end ≡ end → FailsNow form rem old fault × ReadsOn form rem old new
       by None is =
           let stops = (stopped is).0 in
-          (subst fails (sym is) (new.counts, stops), reads_open rem old new is [] stops.at stops.read_so_far)
+          (subst fails (sym is) (new.counts, stops), reads_open form rem old new is [] stops.at stops.read_so_far)
       by (Some (Ok done)) is = absurd (cc (ended is).0)
-      by (Some (Err e)) is = (subst fails (sym is) (cc ((failed e is).0)), reads_ended rem old new (Err e) is (ap (λ (s : SourceOf R Declared). s.counts) (failed e is).1))
+      by (Some (Err e)) is = (subst fails (sym is) (cc ((failed e is).0)), reads_ended form rem old new (Err e) is (ap (λ (s : SourceOf R F). s.counts) (failed e is).1))
 
   -- the rows of a block that had none
   module _ (feeder : ℕ) (start full : RowBlock) (empty : start.rows ≡ []) (r : Result (Unit {0}) SourceFault)
       (failed : (fault : SourceFault) → old.end ≡ Some (Err fault) → (r ≡ Err fault) × (new ≡ old))
       (ended : old.end ≡ Some (Ok tt) → (r ≡ Ok tt) × (new ≡ old) × (full ≡ start))
-      (filled : old.end ≡ None → Fills rem (plain_source old) (plain_source new) feeder start full) where
+      (filled : old.end ≡ None → Fills rem (source_by form old) (source_by form new) feeder start full) where
     all_fed : (going : old.end ≡ None) → full.rows ≡ sourced_from feeder (filled going).puts.rows
     all_fed going =
         let fills = filled going in
@@ -98,30 +97,30 @@ module _ {R : Type 0} (rem : R → KnownBytes) (old new : SourceOf R Declared) w
             stops.1 ∙ sym (ap with_rows_of stops.1)
 
     -- a source that goes on gives the next rows, however many
-    going_next : (going : old.end ≡ None) → new.layout ≡ old.layout → new.counts.read_so_far ≤ max_records → GivesNext rem old new (entries_of full.rows)
+    going_next : (going : old.end ≡ None) → new.layout ≡ old.layout → new.counts.read_so_far ≤ (form new.layout.format).most → GivesNext form rem old new (entries_of full.rows)
     going_next going same few =
         let fills = filled going in
-        subst (GivesNext rem old new) (sym (all_rows going)) (record {
+        subst (GivesNext form rem old new) (sym (all_rows going)) (record {
           before = going;
           layout = same;
           given = fills.puts.given;
           first = fills.first;
-          few = few;
+          few = subst (λ (l : LayoutOf F). new.counts.read_so_far ≤ (form l.format).most) same few;
         })
 
     -- so that it has passed these too
-    pub passed_fill : JoinsTaken rem → IfErr r (λ fault. (new.end ≡ Some (Err fault)) × (full ≡ start)) → new.layout ≡ old.layout → new.counts.read_so_far ≤ max_records
-        → (source : SourceOf R Declared) (rows : List Entries) → HasPassed rem source old rows → HasPassed rem source new (rows ++ entries_of full.rows)
+    pub passed_fill : JoinsTaken form rem → IfErr r (λ fault. (new.end ≡ Some (Err fault)) × (full ≡ start)) → new.layout ≡ old.layout → new.counts.read_so_far ≤ (form new.layout.format).most
+        → (source : SourceOf R F) (rows : List Entries) → HasPassed form rem source old rows → HasPassed form rem source new (rows ++ entries_of full.rows)
     passed_fill join stopped same few source rows has = by old.end refl
       where
-        still : full ≡ start → new ≡ old → HasPassed rem source new (rows ++ entries_of full.rows)
+        still : full ≡ start → new ≡ old → HasPassed form rem source new (rows ++ entries_of full.rows)
         still unchanged now =
             let none : entries_of full.rows ≡ [] = ap (λ (b : RowBlock). entries_of b.rows) unchanged ∙ ap entries_of empty in
-            subst (λ (s : SourceOf R Declared). HasPassed rem source s (rows ++ entries_of full.rows)) (sym now)
-            (subst (HasPassed rem source old) (sym (ap (λ xs. rows ++ xs) none ∙ append-nil rows)) has)
+            subst (λ (s : SourceOf R F). HasPassed form rem source s (rows ++ entries_of full.rows)) (sym now)
+            (subst (HasPassed form rem source old) (sym (ap (λ xs. rows ++ xs) none ∙ append-nil rows)) has)
 
-        by : (end : SourceEnd) → old.end ≡ end → HasPassed rem source new (rows ++ entries_of full.rows)
-        by None going = passed_more rem source join old new rows (entries_of full.rows) has (going_next going same few)
+        by : (end : SourceEnd) → old.end ≡ end → HasPassed form rem source new (rows ++ entries_of full.rows)
+        by None going = passed_more form rem source join old new rows (entries_of full.rows) has (going_next going same few)
         by (Some (Ok tt)) going = still (ended going).2 (ended going).1
         by (Some (Err fault)) going =
             let met = failed fault going in
@@ -129,26 +128,26 @@ module _ {R : Type 0} (rem : R → KnownBytes) (old new : SourceOf R Declared) w
             still stops.1 met.1
 
     -- a call that answers a fault met it before any row
-    pub fill_fails : JoinsTaken rem → IfErr r (λ fault. (new.end ≡ Some (Err fault)) × (full ≡ start)) → (fault : SourceFault) → r ≡ Err fault → FailsNow rem old fault
+    pub fill_fails : JoinsTaken form rem → IfErr r (λ fault. (new.end ≡ Some (Err fault)) × (full ≡ start)) → (fault : SourceFault) → r ≡ Err fault → FailsNow form rem old fault
     fill_fails join stopped fault is = by old.end refl
       where
-        by : (end : SourceEnd) → old.end ≡ end → FailsNow rem old fault
+        by : (end : SourceEnd) → old.end ≡ end → FailsNow form rem old fault
         by None going =
             let stops = subst (λ r. IfErr r (λ fault. (new.end ≡ Some (Err fault)) × (full ≡ start))) is stopped in
             let gave = (filled going).puts.given in
             let none = no_rows going (ap (λ (block : RowBlock). length block.rows) stops.1 ∙ ap length empty) in
-            let ending = subst (Behind rem (plain_layout old.layout) gave.at new.input gave.middle new.counts) stops.0 gave.ending in
-            let read_so_far = join (plain_layout old.layout) old.input gave.at ending.at old.counts gave.middle new.counts [] [] (subst (HasReadRows rem (plain_layout old.layout) old.input gave.at old.counts gave.middle) none gave.read_so_far) ending.read_so_far in
-            subst (λ end. MatchOption end ((t : Counts) × HasStopped rem (plain_layout old.layout) old.input old.counts t fault) (λ e. e ≡ Err fault)) (sym going)
+            let ending = subst (Behind form rem (layout_by form old.layout) gave.at new.input gave.middle new.counts) stops.0 gave.ending in
+            let read_so_far = join (layout_by form old.layout) old.input gave.at ending.at old.counts gave.middle new.counts [] [] (subst (HasReadRows rem (layout_by form old.layout) old.input gave.at old.counts gave.middle) none gave.read_so_far) ending.read_so_far in
+            subst (λ end. MatchOption end ((t : Counts) × HasStopped rem (layout_by form old.layout) old.input old.counts t fault) (λ e. e ≡ Err fault)) (sym going)
             (new.counts, record { at = ending.at; read_so_far = read_so_far; later = ending.later; too_long = ending.too_long })
         by (Some (Ok done)) going = absurd (cc (is, (ended going).0))
         by (Some (Err e)) going =
-            subst (λ end. MatchOption end ((t : Counts) × HasStopped rem (plain_layout old.layout) old.input old.counts t fault) (λ e. e ≡ Err fault)) (sym going) (cc (is, (failed e going).0))
+            subst (λ end. MatchOption end ((t : Counts) × HasStopped rem (layout_by form old.layout) old.input old.counts t fault) (λ e. e ≡ Err fault)) (sym going) (cc (is, (failed e going).0))
 
     module _ (later : OnOk r ((fault : SourceFault) → new.end ≡ Some (Err fault) → length start.rows < length full.rows)) (done : r ≡ Ok tt) where
       -- a call that puts no row there finds none
-      pub fill_over : JoinsTaken rem → new.counts.read_so_far ≤ max_records → length full.rows ≡ 0 → GivesFirst rem (plain_source old) (plain_source new) None × GivesNone rem old new
-      fill_over join few none = by old.end refl
+      pub fill_over : JoinsTaken form rem → new.layout ≡ old.layout → new.counts.read_so_far ≤ (form new.layout.format).most → length full.rows ≡ 0 → GivesFirst rem (source_by form old) (source_by form new) None × GivesNone form rem old new
+      fill_over join unchanged few none = by old.end refl
         where
           going_on : old.end ≡ None → (end : SourceEnd) → new.end ≡ end → end ≡ Some (Ok tt)
           going_on going None is = absurd (omega (arith, none, (filled going).puts.goes_on.0 is))
@@ -160,73 +159,73 @@ module _ {R : Type 0} (rem : R → KnownBytes) (old new : SourceOf R Declared) w
           over : old.end ≡ None → new.end ≡ Some (Ok tt)
           over going = going_on going new.end refl
 
-          by : (end : SourceEnd) → old.end ≡ end → GivesFirst rem (plain_source old) (plain_source new) None × GivesNone rem old new
+          by : (end : SourceEnd) → old.end ≡ end → GivesFirst rem (source_by form old) (source_by form new) None × GivesNone form rem old new
           by None going =
               let gave = (filled going).puts.given in
-              let ending = subst (Behind rem (plain_layout old.layout) gave.at new.input gave.middle new.counts) (over going) gave.ending in
-              let read_so_far = join (plain_layout old.layout) old.input gave.at ending.at old.counts gave.middle new.counts [] []
-              (subst (HasReadRows rem (plain_layout old.layout) old.input gave.at old.counts gave.middle) (no_rows going none) gave.read_so_far) ending.read_so_far in (
+              let ending = subst (Behind form rem (layout_by form old.layout) gave.at new.input gave.middle new.counts) (over going) gave.ending in
+              let read_so_far = join (layout_by form old.layout) old.input gave.at ending.at old.counts gave.middle new.counts [] []
+              (subst (HasReadRows rem (layout_by form old.layout) old.input gave.at old.counts gave.middle) (no_rows going none) gave.read_so_far) ending.read_so_far in (
                 λ all others still.
                     let first = (filled going).first all others still in
                     let rest = first.2 (λ fault is. absurd (cc (is, over going))) in
-                    let nothing = subst (λ end. MatchOption end (HasLeft rem (plain_layout new.layout) new.input first.0 rest.left) (λ e. (first.0 ≡ []) × (rest.left ≡ 0))) (over going) rest.still in
+                    let nothing = subst (λ end. MatchOption end (HasLeft rem (layout_by form new.layout) new.input first.0 rest.left) (λ e. (first.0 ≡ []) × (rest.left ≡ 0))) (over going) rest.still in
                     (first.1 ∙ ap₂ (λ xs ys. xs ++ ys) (no_rows going none) nothing.0, omega (arith, rest.count, nothing.1)),
                 record {
-                  ended = subst (λ end. MatchOption end (HasReadAll rem (plain_layout old.layout) old.input old.counts new.counts) (λ e. (e ≡ Ok tt) × (new ≡ old))) (sym going)
+                  ended = subst (λ end. MatchOption end (HasReadAll rem (layout_by form old.layout) old.input old.counts new.counts) (λ e. (e ≡ Ok tt) × (new ≡ old))) (sym going)
                       (record { at = ending.at; read_so_far = read_so_far; over = ending.over });
-                  few = few;
+                  few = subst (λ (l : LayoutOf F). new.counts.read_so_far ≤ (form l.format).most) unchanged few;
                 },
               )
           by (Some (Ok tt)) going =
               let same = (ended going).1 in (
                 λ all others still.
-                    let nothing = subst (λ end. MatchOption end (HasLeft rem (plain_layout old.layout) old.input all others) (λ e. (all ≡ []) × (others ≡ 0))) going still in
-                    (nothing.0, omega (arith, nothing.1, ap (λ (s : SourceOf R Declared). s.counts.bad) same)),
+                    let nothing = subst (λ end. MatchOption end (HasLeft rem (layout_by form old.layout) old.input all others) (λ e. (all ≡ []) × (others ≡ 0))) going still in
+                    (nothing.0, omega (arith, nothing.1, ap (λ (s : SourceOf R F). s.counts.bad) same)),
                 record {
-                  ended = subst (λ end. MatchOption end (HasReadAll rem (plain_layout old.layout) old.input old.counts new.counts) (λ e. (e ≡ Ok tt) × (new ≡ old))) (sym going) (refl, same);
-                  few = few;
+                  ended = subst (λ end. MatchOption end (HasReadAll rem (layout_by form old.layout) old.input old.counts new.counts) (λ e. (e ≡ Ok tt) × (new ≡ old))) (sym going) (refl, same);
+                  few = subst (λ (l : LayoutOf F). new.counts.read_so_far ≤ (form l.format).most) unchanged few;
                 },
               )
           by (Some (Err fault)) going = absurd (cc (done, (failed fault going).0))
 
       -- one that puts some there gives the next ones
-      pub fill_next : new.layout ≡ old.layout → new.counts.read_so_far ≤ max_records → length full.rows ≢ 0
-          → (length (entries_of full.rows) ≡ length full.rows) × GivesNext rem old new (entries_of full.rows)
+      pub fill_next : new.layout ≡ old.layout → new.counts.read_so_far ≤ (form new.layout.format).most → length full.rows ≢ 0
+          → (length (entries_of full.rows) ≡ length full.rows) × GivesNext form rem old new (entries_of full.rows)
       fill_next same few some = (length-map full.rows (λ row. row.1), by old.end refl)
         where
-          by : (end : SourceEnd) → old.end ≡ end → GivesNext rem old new (entries_of full.rows)
+          by : (end : SourceEnd) → old.end ≡ end → GivesNext form rem old new (entries_of full.rows)
           by None going = going_next going same few
           by (Some (Ok tt)) going = absurd (some (ap (λ (block : RowBlock). length block.rows) (ended going).2 ∙ ap length empty))
           by (Some (Err fault)) going = absurd (cc (done, (failed fault going).0))
 
 -- ---- a batch
 
-module _ {R : Type 0} (rem : R → KnownBytes) (old new : SourceOf R Declared) (rows : List Entries) (has : HasPassed rem old new rows) where
+module _ {R F : Type 0} (form : F → Format) (rem : R → KnownBytes) (old new : SourceOf R F) (rows : List Entries) (has : HasPassed form rem old new rows) where
   -- some rows that a source has given are the next ones
-  pub passed_next : new.counts.read_so_far ≤ max_records → 0 < length rows → GivesNext rem old new rows
+  pub passed_next : new.counts.read_so_far ≤ (form new.layout.format).most → 0 < length rows → GivesNext form rem old new rows
   passed_next few some = by old.end refl
     where
-      by : (end : SourceEnd) → old.end ≡ end → GivesNext rem old new rows
+      by : (end : SourceEnd) → old.end ≡ end → GivesNext form rem old new rows
       by None is = record {
         before = is;
         layout = has.gone.layout;
-        given = was_open rem old new rows has.gone is;
+        given = was_open form rem old new rows has.gone is;
         first = has.gives;
-        few = few;
+        few = subst (λ (l : LayoutOf F). new.counts.read_so_far ≤ (form l.format).most) has.gone.layout few;
       }
       by (Some e) is =
-          let none = subst (λ end. MatchOption end (HasGivenRows rem (plain_layout old.layout) old.input new.input old.counts new.counts rows new.end) (λ e. (rows ≡ []) × (new ≡ old))) is has.gone.given in
+          let none = subst (λ end. MatchOption end (HasGivenRows rem (layout_by form old.layout) old.input new.input old.counts new.counts rows new.end) (λ e. (rows ≡ []) × (new ≡ old))) is has.gone.given in
           absurd (omega (arith, some, ap length none.0))
 
   -- a source that goes on had not ended before
   pub passed_open : new.end ≡ None → old.end ≡ None
-  passed_open going = (is_open rem old new rows has.gone going).0
+  passed_open going = (is_open form rem old new rows has.gone going).0
 
 -- a source that had not ended may stop where memory is refused
-pub refused_now : {R : Type 0} (rem : R → KnownBytes) (source : SourceOf R Declared) → HasReadRows rem (plain_layout source.layout) source.input source.input source.counts source.counts []
-    → source.end ≡ None → FailsNow rem source NoMemory
-refused_now rem source none going =
-    subst (λ end. MatchOption end ((t : Counts) × HasStopped rem (plain_layout source.layout) source.input source.counts t NoMemory) (λ e. e ≡ Err NoMemory)) (sym going)
+pub refused_now : {R F : Type 0} (form : F → Format) (rem : R → KnownBytes) (source : SourceOf R F) → HasReadRows rem (layout_by form source.layout) source.input source.input source.counts source.counts []
+    → source.end ≡ None → FailsNow form rem source NoMemory
+refused_now form rem source none going =
+    subst (λ end. MatchOption end ((t : Counts) × HasStopped rem (layout_by form source.layout) source.input source.counts t NoMemory) (λ e. e ≡ Err NoMemory)) (sym going)
     (source.counts, record { at = source.input; read_so_far = none; later = λ is. absurd (cc is); too_long = λ is. absurd (cc is) })
 
 -- what holds anyway holds where there is an error

@@ -2,13 +2,13 @@
 use Rattle.std.proofs.Common.{◌≡◌, List, [], ◌∷◌, ◌++◌, map, refl, ap, sym, ◌∙◌, subst}
 use Rattle.std.proofs.lemmas.List.{append-nil}
 use Rattle.bsi_system.specs.Rings.{FeederState}
-use Rattle.bsi_schema.specs.Columns.{Declared}
 use Rattle.bsi_input.specs.Sources.{SourceOf}
 use Rattle.bsi_files.specs.Ends.{tasks, AreEndsOf, IsFeedEnd, Task}
 use Rattle.std.specs.List.{AllZip}
 use Rattle.bsi_files.specs.declared.feeding.FeedEnd.{FeedEnd}
 use Rattle.bsi_answers.proofs.Asking.{matched_push}
 use Rattle.bsi_syntax.specs.Bytes.{KnownBytes}
+use Rattle.bsi_input.specs.Formats.{Format}
 
 push_assoc : {X : Type 0} (xs : List X) (x : X) (ys : List X) → (xs ++ x ∷ []) ++ ys ≡ xs ++ x ∷ ys
 push_assoc [] x ys = refl
@@ -44,20 +44,20 @@ module _ {A B : Type 0} {Is : A → B → Type 0} {all left : List A} {ys : List
 -- ---- threads
 
 -- of threads and their ends, to the feeders, the sources and the ends
-pub ends_of : {R X : Type 0} (rem : R → KnownBytes) (threads : List X) (ends : List FeedEnd) (f : X → Task R)
-    → AllZip (λ thread end. IsFeedEnd rem (f thread).0 (f thread).1 end) threads ends → AreEndsOf rem (map f threads) ends
-ends_of rem [] [] f are = tt
-ends_of rem [] (end ∷ ends) f are = absurd are
-ends_of rem (thread ∷ threads) [] f are = absurd are
-ends_of rem (thread ∷ threads) (end ∷ ends) f are = (are.0, ends_of rem threads ends f are.1)
+pub ends_of : {R F X : Type 0} (form : F → Format) (rem : R → KnownBytes) (threads : List X) (ends : List FeedEnd) (f : X → Task R F)
+    → AllZip (λ thread end. IsFeedEnd form rem (f thread).0 (f thread).1 end) threads ends → AreEndsOf form rem (map f threads) ends
+ends_of form rem [] [] f are = tt
+ends_of form rem [] (end ∷ ends) f are = absurd are
+ends_of form rem (thread ∷ threads) [] f are = absurd are
+ends_of form rem (thread ∷ threads) (end ∷ ends) f are = (are.0, ends_of form rem threads ends f are.1)
 
-module _ {R X : Type 0} (f : X → Task R) where
-  pub started_none : (threads : List X) (feeders left : List FeederState) (sources given : List (SourceOf R Declared)) → threads ≡ [] → left ≡ feeders → given ≡ sources
+module _ {R F X : Type 0} (f : X → Task R F) where
+  pub started_none : (threads : List X) (feeders left : List FeederState) (sources given : List (SourceOf R F)) → threads ≡ [] → left ≡ feeders → given ≡ sources
       → map f threads ++ tasks left given ≡ tasks feeders sources
   started_none threads feeders left sources given none one two =
       ap (λ (ts : List X). map f ts ++ tasks left given) none ∙ (ap (λ fs. tasks fs given) one ∙ ap (λ ss. tasks feeders ss) two)
 
-  pub started_more : (threads more : List X) (thread : X) (left rest : List FeederState) (given others : List (SourceOf R Declared)) (feeder : FeederState) (source : SourceOf R Declared)
+  pub started_more : (threads more : List X) (thread : X) (left rest : List FeederState) (given others : List (SourceOf R F)) (feeder : FeederState) (source : SourceOf R F)
       (whole : List (Task R)) → map f threads ++ tasks left given ≡ whole → left ≡ feeder ∷ rest → given ≡ source ∷ others → more ≡ threads ++ thread ∷ []
       → (f thread).0 ≡ feeder → (f thread).1 ≡ source → map f more ++ tasks rest others ≡ whole
   started_more threads more thread left rest given others feeder source whole was l g pushed one two =
@@ -69,10 +69,10 @@ module _ {R X : Type 0} (f : X → Task R) where
       ∙ (ap (λ t. map f threads ++ t ∷ tasks rest others) task
       ∙ (ap (λ fs. map f threads ++ fs) (sym (ap (λ fs. tasks fs given) l ∙ ap (λ ss. tasks (feeder ∷ rest) ss) g)) ∙ was))))
     where
-      by : (a : FeederState) (b : SourceOf R Declared) → a ≡ feeder → b ≡ source → (let t : Task R = (a, b) in let u : Task R = (feeder, source) in t ≡ u)
+      by : (a : FeederState) (b : SourceOf R F) → a ≡ feeder → b ≡ source → (let t : Task R = (a, b) in let u : Task R = (feeder, source) in t ≡ u)
       by a b p q = cc
 
-  pub started_all : (threads : List X) (left : List FeederState) (given : List (SourceOf R Declared)) (whole : List (Task R)) → map f threads ++ tasks left given ≡ whole
+  pub started_all : (threads : List X) (left : List FeederState) (given : List (SourceOf R F)) (whole : List (Task R)) → map f threads ++ tasks left given ≡ whole
       → left ≡ [] → map f threads ≡ whole
   started_all threads left given whole was none =
       sym (append-nil (map f threads)) ∙ (ap (λ fs. map f threads ++ tasks fs given) (sym none) ∙ was)

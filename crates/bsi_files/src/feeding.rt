@@ -9,16 +9,16 @@ ghost use Rattle.bsi_rows.specs.RowBlocks.{entries_of, max_block_rows, no_block_
 ghost use Rattle.bsi_files.specs.Feeding.{HasFailed, HasFed, IsFeedOutcome, IsGathered, ReadsOn};
 
 use crate::{Gate, Pause};
-use bsi_input::{RowSource, SourceFault};
+use bsi_input::{RowFormat, RowSource, SourceFault};
 use bsi_system::{BatchRefused, Closing, Feeder, NoMemory, SubmitRefused};
-use bsi_table::{Block, Index, MAX_BLOCK_ROWS, Row, Schema};
+use bsi_table::{Block, Index, MAX_BLOCK_ROWS, Row};
 use std::io::Read;
 use std::sync::Wait;
 
 /// The most rows of a batch. A ring with slots for so many rows has them for each batch of a feeder.
 pub const MAX_BATCH_ROWS: u64 = 1_024;
 
-/// The most batches of a feeder, of which a row that goes alone is one. No text has so many records.
+/// The most batches of a feeder, of which a row that goes alone is one. No file has so many records.
 const MAX_BATCHES: u64 = u64::MAX / MAX_BATCH_ROWS;
 
 /// How often a feeder whose ring is full yields before it sleeps.
@@ -65,10 +65,10 @@ struct EmptyBatch {
 /// has slots for it, a batch of up to 1,024 rows goes at one try. It waits between two tries. It stops at a fault of
 /// the source, where memory for the rows of a batch is refused, at a row that does not fit the feeder's schema, and
 /// where the gate tells it to, after a try that found no free slot in the ring. It closes the feeder in each case.
-pub fn feed<R: Wait, I: Read + Drop, G: Gate>(
+pub fn feed<R: Wait, I: Read + Drop, F: RowFormat + Drop, G: Gate>(
     rt: &R,
     mut feeder: Feeder,
-    mut source: RowSource<I, Schema>,
+    mut source: RowSource<I, F>,
     gate: &G,
 ) -> FeedEnd
     ensures number { IfSome result.closing (λ closing. closing.number ≡ feeder.number) }
@@ -78,10 +78,10 @@ pub fn feed<R: Wait, I: Read + Drop, G: Gate>(
     // last of these rows, and those read beyond it together with rows that were not sent. Where nothing stopped the
     // feeder and there is no fault, the rows are all good ones, and the bad records all others. A closing carries what
     // was sent before, and then the rows.
-    ensures fed { HasFed I.remaining source feeder.sent result }
+    ensures fed { HasFed F.format I.remaining source feeder.sent result }
 
     // A fault is one at which the source stops once it has given so many rows. Refused memory may stop it anywhere.
-    ensures fault { IfSome result.fault (HasFailed I.remaining source result.accepted) }
+    ensures fault { IfSome result.fault (HasFailed F.format I.remaining source result.accepted) }
 {
     let mut accepted = 0;
     'batches: for _ in 0..MAX_BATCHES {
@@ -101,14 +101,14 @@ pub fn feed<R: Wait, I: Read + Drop, G: Gate>(
 }
 
 /// Reads the next rows of the source, and sends them: as many as a batch has, or one.
-fn feed_next<R: Wait, I: Read + Drop, G: Gate>(
+fn feed_next<R: Wait, I: Read + Drop, F: RowFormat + Drop, G: Gate>(
     rt: &R,
     feeder: &mut Feeder,
-    source: &mut RowSource<I, Schema>,
+    source: &mut RowSource<I, F>,
     gate: &G,
     point: u64,
 ) -> FeedOutcome
-    ensures { IsFeedOutcome I.remaining feeder.old source.old result feeder.new source.new }
+    ensures { IsFeedOutcome F.format I.remaining feeder.old source.old result feeder.new source.new }
 {
     match batch_for(feeder, source) {
         Some(EmptyBatch { block, batch }) => {
@@ -120,8 +120,9 @@ fn feed_next<R: Wait, I: Read + Drop, G: Gate>(
 
 /// Makes a batch for the next rows of the source, and its block. It returns none if the ring has fewer slots than a
 /// block, if the rows are of another schema than the feeder's, of which each is to be tested, or if memory is refused.
-fn batch_for<I: Read + Drop>(feeder: &Feeder, source: &RowSource<I, Schema>) -> Option<EmptyBatch>
-    ensures block { IfSome result (λ made. made.block ≡ no_block_rows source.now.layout.format 1) }
+fn batch_for<I: Read + Drop, F: RowFormat + Drop>(feeder: &Feeder, source: &RowSource<I, F>) -> Option<EmptyBatch>
+    ensures block { IfSome result (λ made. made.block
+        ≡ no_block_rows (F.format source.now.layout.format).schema 1) }
     ensures batch { IfSome result (λ made. (made.batch.rows ≡ []) × (made.batch.feeders ≡ 1)) }
     ensures alike { IfSome result (λ made. HaveSameLimits made.block.schema made.batch.schema) }
     ensures fits { IfSome result (λ made. max_block_rows ≤ feeder.now.capacity) }
@@ -140,20 +141,20 @@ fn batch_for<I: Read + Drop>(feeder: &Feeder, source: &RowSource<I, Schema>) -> 
 
 /// Gathers the next rows of the source in a batch, and sends it. Where memory for its rows is refused they are not
 /// sent, and the feeder fails; `batch_for` has reserved memory for them.
-fn feed_batch<R: Wait, I: Read + Drop, G: Gate>(
+fn feed_batch<R: Wait, I: Read + Drop, F: RowFormat + Drop, G: Gate>(
     rt: &R,
     feeder: &mut Feeder,
-    source: &mut RowSource<I, Schema>,
+    source: &mut RowSource<I, F>,
     mut block: Block,
     mut batch: Index,
     gate: &G,
     point: u64,
 ) -> FeedOutcome
-    requires block { block ≡ no_block_rows source.old.layout.format 1 }
+    requires block { block ≡ no_block_rows (F.format source.old.layout.format).schema 1 }
     requires batch { (batch.rows ≡ []) × (batch.feeders ≡ 1) }
     requires alike { HaveSameLimits block.schema batch.schema }
     requires fits { max_block_rows ≤ feeder.old.capacity }
-    ensures { IsFeedOutcome I.remaining feeder.old source.old result feeder.new source.new }
+    ensures { IsFeedOutcome F.format I.remaining feeder.old source.old result feeder.new source.new }
 {
     let most = u64::from(feeder.capacity()).min(MAX_BATCH_ROWS);
     let blocks = most / MAX_BLOCK_ROWS as u64;
@@ -172,21 +173,21 @@ fn feed_batch<R: Wait, I: Read + Drop, G: Gate>(
 
 /// Fills a block with the next rows of the source and appends it to the batch, so many times or until no row is left or
 /// the source answers a fault, which it returns.
-fn fill_batch<I: Read + Drop>(
-    source: &mut RowSource<I, Schema>,
+fn fill_batch<I: Read + Drop, F: RowFormat + Drop>(
+    source: &mut RowSource<I, F>,
     block: &mut Block,
     batch: &mut Index,
     blocks: u64,
 ) -> Result<Option<SourceFault>, NoMemory>
-    requires block { block.old ≡ no_block_rows source.old.layout.format 1 }
+    requires block { block.old ≡ no_block_rows (F.format source.old.layout.format).schema 1 }
     requires batch { (batch.old.rows ≡ []) × (batch.old.feeders ≡ 1) }
     requires alike { HaveSameLimits block.old.schema batch.old.schema }
     requires some { 0 < blocks }
     ensures few { length batch.new.rows ≤ max_block_rows * blocks }
     ensures given { IfOk result
-        (IsGathered I.remaining source.old source.new (entries_of batch.new.rows)) }
+        (IsGathered F.format I.remaining source.old source.new (entries_of batch.new.rows)) }
     ensures refused { OnErr result
-        ((source.old.end ≡ None) × ReadsOn I.remaining source.old source.new) }
+        ((source.old.end ≡ None) × ReadsOn F.format I.remaining source.old source.new) }
 {
     'fills: for _ in 0..blocks {
         block.clear();
@@ -203,14 +204,14 @@ fn fill_batch<I: Read + Drop>(
 }
 
 /// Reads the next row of the source, and sends it.
-fn feed_one<R: Wait, I: Read + Drop, G: Gate>(
+fn feed_one<R: Wait, I: Read + Drop, F: RowFormat + Drop, G: Gate>(
     rt: &R,
     feeder: &mut Feeder,
-    source: &mut RowSource<I, Schema>,
+    source: &mut RowSource<I, F>,
     gate: &G,
     point: u64,
 ) -> FeedOutcome
-    ensures { IsFeedOutcome I.remaining feeder.old source.old result feeder.new source.new }
+    ensures { IsFeedOutcome F.format I.remaining feeder.old source.old result feeder.new source.new }
 {
     match source.next_row() {
         Err(fault) => FeedOutcome::Failed(fault),
@@ -288,10 +289,10 @@ fn pass_all<R: Wait, G: Gate>(rt: &R, gate: &G, who: u32, point: u64, rows: u64)
 }
 
 /// Closes a feeder that had `accepted` rows accepted.
-fn finish<R: Wait, I: Read + Drop, G: Gate>(
+fn finish<R: Wait, I: Read + Drop, F: RowFormat + Drop, G: Gate>(
     rt: &R,
     feeder: Feeder,
-    source: RowSource<I, Schema>,
+    source: RowSource<I, F>,
     gate: &G,
     accepted: u64,
     stopped: bool,

@@ -10,27 +10,26 @@ ghost use Rattle.bsi_rows.specs.Table.{max_feeders};
 
 use crate::{FilesFault, MAX_BATCH_ROWS, NoMemory};
 use bsi_answers::file_number;
-use bsi_input::RowSource;
-use bsi_table::Schema;
+use bsi_input::{RowFormat, RowSource};
 use std::alloc::Global;
 use std::io::Read;
 
 /// Reads the header of each file, in their order, and makes the sources of their rows.
-pub(crate) fn begin_all<I: Read + Drop>(
+pub(crate) fn begin_all<I: Read + Drop, F: RowFormat + Drop>(
     alloc: Global,
-    schema: &Schema,
+    format: &F,
     readers: Vec<I>,
-) -> Result<Vec<RowSource<I, Schema>>, FilesFault>
+) -> Result<Vec<RowSource<I, F>>, FilesFault>
     requires few { length readers.items ≤ max_feeders }
     ensures first { IfErr result (λ fault. raised_at_headers fault ≡ true) }
-    ensures fault { IfErr result (IsHeadersFault schema.now (map I.remaining readers.items)) }
+    ensures fault { IfErr result (IsHeadersFault (F.format format.now) (map I.remaining readers.items)) }
     ensures begun { IfOk result (λ sources.
-        AllZip (Begins I.remaining schema.now) readers.items sources.items) }
+        AllZip (Begins F.format I.remaining (F.format format.now)) readers.items sources.items) }
 {
     let mut sources = Vec::with_capacity(alloc, readers.len())?;
     'files: for reader in readers {
         let number = sources.len();
-        let source = begin(alloc, schema, reader, file_number(number))?;
+        let source = begin(alloc, format, reader, file_number(number))?;
         if sources.push(source).is_err() {
             return Err(FilesFault::NoMemory);
         }
@@ -39,17 +38,17 @@ pub(crate) fn begin_all<I: Read + Drop>(
 }
 
 /// Reads the header of the file of this number, and makes the source of its rows.
-fn begin<I: Read + Drop>(
+fn begin<I: Read + Drop, F: RowFormat + Drop>(
     alloc: Global,
-    schema: &Schema,
+    format: &F,
     reader: I,
     number: u32,
-) -> Result<RowSource<I, Schema>, FilesFault>
+) -> Result<RowSource<I, F>, FilesFault>
     ensures first { IfErr result (λ fault. raised_at_headers fault ≡ true) }
-    ensures fault { IfErr result (IsHeaderFault schema.now (I.remaining reader) number) }
-    ensures begun { IfOk result (Begins I.remaining schema.now reader) }
+    ensures fault { IfErr result (IsHeaderFault (F.format format.now) (I.remaining reader) number) }
+    ensures begun { IfOk result (Begins F.format I.remaining (F.format format.now) reader) }
 {
-    RowSource::begin(alloc, schema, reader).map_err(|fault| FilesFault::Source(number, fault))
+    RowSource::begin(alloc, format, reader).map_err(|fault| FilesFault::Source(number, fault))
 }
 
 /// Returns the capacity of each file's ring: as many of its rows may wait for the loader as a batch has.

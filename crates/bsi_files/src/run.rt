@@ -24,7 +24,7 @@ use crate::loading::{check_all, load_rest, load_until_ended, settle_all};
 use crate::threads::{RunFlags, join_all, start_all};
 use crate::{FilesFault, Gate, NoMemory, Stopping};
 use bsi_answers::{Fed, answer_all, file_number};
-use bsi_input::{RowSource, read_schema};
+use bsi_input::{RowFormat, RowSource, read_schema};
 use bsi_syntax::DeclaredTable;
 use bsi_system::{Feeder, History, Loader, OpenRefused, System, SystemTag, open};
 use bsi_table::{Index, MAX_FEEDERS, Schema};
@@ -90,11 +90,11 @@ pub fn run_files<
         return Err(FilesFault::TooManyFiles);
     }
     let DeclaredTable { schema, limit } = read_schema(rt.alloc(), schema)?;
-    let loaded = load_files(rt, schema, limit, sources, gate)?;
+    let loaded = load_files(rt, &schema, limit, sources, gate)?;
     answer_all(rt, &loaded.table, &loaded.fed, asks, writer)
 }
 
-/// Loads the good rows of 1 to 64 files into one index of this schema and limit.
+/// Loads the good rows of 1 to 64 files of a format into one index of its schema, of this limit.
 ///
 /// A feeder on a thread of its own reads each file, and sends its rows through a ring of 1,024 rows; the calling
 /// thread pops the rows. How the rows of several files mix depends on how the threads ran.
@@ -106,36 +106,38 @@ pub fn run_files<
 pub fn load_files<
     R: Threads + Wait + AllocGlobal + Sync,
     I: Read + Drop + Send,
+    F: RowFormat + Drop + Send,
     G: Gate + Stopping + Sync,
->(rt: &R, schema: Schema, limit: u64, sources: Vec<I>, gate: &G) -> Result<Loaded, FilesFault>
+>(rt: &R, format: &F, limit: u64, sources: Vec<I>, gate: &G) -> Result<Loaded, FilesFault>
     requires some { 0 < length sources.items }
     requires few { length sources.items ≤ max_feeders }
-    ensures schema { IfOk result (λ loaded. loaded.table.schema ≡ schema) }
+    ensures schema { IfOk result (λ loaded. loaded.table.schema ≡ (F.format format.now).schema) }
     ensures limit { IfOk result (λ loaded. loaded.table.limit ≡ limit) }
     ensures feeders { IfOk result (λ loaded. loaded.table.feeders ≡ length sources.items) }
     ensures counts { IfOk result (λ loaded. length loaded.fed.items ≡ length sources.items) }
     ensures headers { OnOk result ((texts : List (List ℕ)) →
-        map I.remaining sources.items ≡ map Some texts → All (HasHeader schema) texts) }
+        map I.remaining sources.items ≡ map Some texts → All (HasHeader (F.format format.now)) texts) }
     ensures counted { IfErr result (λ fault. fault ≢ FilesFault.TooManyFiles) }
     ensures loading { IfErr result (λ fault. is_of_loading fault ≡ true) }
-    ensures fault { IfErr result (IsFaultOver G.STOPS schema limit (map I.remaining sources.items)) }
+    ensures fault { IfErr result (IsFaultOver G.STOPS (F.format format.now) limit (map I.remaining sources.items)) }
     ensures follows_output { IfErr result (λ fault. may_follow_output fault ≡ true → fault ≡ FilesFault.NoMemory) }
 
     // By the bytes of the files, where no gate stops a feeder.
     ensures rows { IfOk result (λ loaded. G.STOPS ≡ false → (texts : List (List ℕ)) →
         map I.remaining sources.items ≡ map Some texts →
-        HasLoaded schema limit texts loaded.table.rows (map fed_counts loaded.fed.items)) }
+        HasLoaded (F.format format.now) limit texts loaded.table.rows (map fed_counts loaded.fed.items)) }
 
     // Whatever a gate stops.
     ensures prefixes { IfOk result (λ loaded. (texts : List (List ℕ)) →
         map I.remaining sources.items ≡ map Some texts →
-        HasLoadedPrefixes schema limit texts loaded.table.rows (map fed_counts loaded.fed.items)) }
+        HasLoadedPrefixes (F.format format.now) limit texts loaded.table.rows (map fed_counts loaded.fed.items)) }
 {
     let alloc = rt.alloc();
-    let sources = begin_all(alloc, &schema, sources)?;
+    let sources = begin_all(alloc, format, sources)?;
     let capacities = capacities(alloc, sources.len())?;
+    let schema = format.row_schema().copy()?;
     let history = History::new();
-    let loaded = load_with_system::<Brand, R, I, G>(
+    let loaded = load_with_system::<Brand, R, I, F, G>(
         rt, history, schema, capacities, limit, sources, gate,
     );
     gate.done();
@@ -147,6 +149,7 @@ fn load_with_system<
     B: SystemTag,
     R: Threads + Wait + AllocGlobal + Sync,
     I: Read + Drop + Send,
+    F: RowFormat + Drop + Send,
     G: Gate + Stopping + Sync,
 >(
     rt: &R,
@@ -154,15 +157,15 @@ fn load_with_system<
     schema: Schema,
     capacities: Vec<u32>,
     limit: u64,
-    sources: Vec<RowSource<I, Schema>>,
+    sources: Vec<RowSource<I, F>>,
     gate: &G,
 ) -> Result<Loaded, FilesFault>
     requires history { history ≡ record { book = B.book; list = [] } }
     requires about { B.about ≡ no_rows schema (length capacities.items) limit }
     requires many { length sources.items ≡ length capacities.items }
     requires few { length sources.items ≤ max_feeders }
-    ensures fault { IfErr result (IsLoadFault I.remaining G.STOPS limit sources.items) }
-    ensures fed { IfOk result (λ loaded. IsAllFed I.remaining G.STOPS limit
+    ensures fault { IfErr result (IsLoadFault F.format I.remaining G.STOPS limit sources.items) }
+    ensures fed { IfOk result (λ loaded. IsAllFed F.format I.remaining G.STOPS limit
         loaded.table.rows sources.items loaded.fed.items) }
     ensures schema { IfOk result (λ loaded. loaded.table.schema ≡ schema) }
     ensures limit { IfOk result (λ loaded. loaded.table.limit ≡ limit) }
@@ -224,17 +227,18 @@ fn feed_files<
     B: SystemTag,
     R: Threads + Wait + AllocGlobal + Sync,
     I: Read + Drop + Send,
+    F: RowFormat + Drop + Send,
     G: Gate + Stopping + Sync,
 >(
     rt: &R,
     loader: Loader<B>,
     feeders: Vec<Feeder>,
-    sources: Vec<RowSource<I, Schema>>,
+    sources: Vec<RowSource<I, F>>,
     gate: &G,
 ) -> Result<Loaded, FilesFault>
     requires ready { AreReady loader.system B.about.limit feeders.items sources.items }
-    ensures fault { IfErr result (IsLoadFault I.remaining G.STOPS B.about.limit sources.items) }
-    ensures fed { IfOk result (λ loaded. IsAllFed I.remaining G.STOPS B.about.limit
+    ensures fault { IfErr result (IsLoadFault F.format I.remaining G.STOPS B.about.limit sources.items) }
+    ensures fed { IfOk result (λ loaded. IsAllFed F.format I.remaining G.STOPS B.about.limit
         loaded.table.rows sources.items loaded.fed.items) }
     ensures schema { IfOk result (λ loaded. loaded.table.schema ≡ loader.system.schema) }
     ensures limit { IfOk result (λ loaded. loaded.table.limit ≡ loader.system.limit) }
@@ -250,8 +254,8 @@ fn feed_files<
         move |scope| -> Result<Loaded, FilesFault>
             requires { AreReady owned.loader.system B.about.limit feeders.items sources.items }
             ensures fault { IfErr result
-                (IsLoadFault I.remaining G.STOPS B.about.limit sources.items) }
-            ensures fed { IfOk result (λ loaded. IsAllFed I.remaining G.STOPS B.about.limit
+                (IsLoadFault F.format I.remaining G.STOPS B.about.limit sources.items) }
+            ensures fed { IfOk result (λ loaded. IsAllFed F.format I.remaining G.STOPS B.about.limit
                 loaded.table.rows sources.items loaded.fed.items) }
             ensures schema { IfOk result (λ loaded.
                 loaded.table.schema ≡ owned.entry.loader.system.schema) }
@@ -270,6 +274,7 @@ fn load_with_threads<
     B: SystemTag,
     R: Threads + Wait + AllocGlobal + Sync + 's,
     I: Read + Drop + Send + 's,
+    F: RowFormat + Drop + Send + 's,
     G: Gate + Stopping + Sync + 's,
 >(
     scope: &Scope<'s, E>,
@@ -277,11 +282,11 @@ fn load_with_threads<
     flags: &'s RunFlags<'s, G>,
     mut owned: OwnedLoader<'s, B, R>,
     feeders: Vec<Feeder>,
-    sources: Vec<RowSource<I, Schema>>,
+    sources: Vec<RowSource<I, F>>,
 ) -> Result<Loaded, FilesFault>
     requires { AreReady owned.loader.system B.about.limit feeders.items sources.items }
-    ensures fault { IfErr result (IsLoadFault I.remaining G.STOPS B.about.limit sources.items) }
-    ensures fed { IfOk result (λ loaded. IsAllFed I.remaining G.STOPS B.about.limit
+    ensures fault { IfErr result (IsLoadFault F.format I.remaining G.STOPS B.about.limit sources.items) }
+    ensures fed { IfOk result (λ loaded. IsAllFed F.format I.remaining G.STOPS B.about.limit
         loaded.table.rows sources.items loaded.fed.items) }
     ensures schema { IfOk result (λ loaded.
         loaded.table.schema ≡ owned.entry.loader.system.schema) }
@@ -302,6 +307,7 @@ fn load_all<
     B: SystemTag,
     R: Threads + Wait + AllocGlobal + Sync + 's,
     I: Read + Drop + Send + 's,
+    F: RowFormat + Drop + Send + 's,
     G: Gate + Stopping + Sync + 's,
 >(
     scope: &Scope<'s, E>,
@@ -309,13 +315,13 @@ fn load_all<
     flags: &'s RunFlags<'s, G>,
     loader: &mut Loader<B>,
     feeders: Vec<Feeder>,
-    sources: Vec<RowSource<I, Schema>>,
+    sources: Vec<RowSource<I, F>>,
 ) -> Result<Vec<Fed>, FilesFault>
     requires { AreReady loader.old.system B.about.limit feeders.items sources.items }
-    ensures fault { IfErr result (IsLoadFault I.remaining G.STOPS B.about.limit sources.items) }
+    ensures fault { IfErr result (IsLoadFault F.format I.remaining G.STOPS B.about.limit sources.items) }
     ensures fed { IfOk result (λ fed. AlwaysHolds loader.new →
         length (loader.new.published ++ loader.new.staged) ≤ loader.new.system.limit →
-        IsAllFed I.remaining G.STOPS B.about.limit (loader.new.published ++ loader.new.staged)
+        IsAllFed F.format I.remaining G.STOPS B.about.limit (loader.new.published ++ loader.new.staged)
         sources.items fed.items) }
     ensures system { loader.new.system ≡ loader.old.system }
 {

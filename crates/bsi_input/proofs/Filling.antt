@@ -12,8 +12,8 @@ use Rattle.bsi_rows.specs.Rows.{Entries}
 use Rattle.bsi_syntax.specs.Bytes.{KnownBytes}
 use Rattle.bsi_rows.specs.Fields.{Field}
 use Rattle.bsi_input.specs.Formats.{good_row}
-use Rattle.bsi_input.specs.RecordSources.{ReadsRecord, Stops}
-use Rattle.bsi_input.specs.Sources.{counts_of, end_after, end_after_call, with_fed_rows, AreCounts, Counts, Fills, HasReadRows, HasStopped, IsOver, IsPlainReader, Layout, PutsRows, Source, SourceEnd}
+use Rattle.bsi_input.specs.RecordSources.{ReadsRecordBy, StopsBy}
+use Rattle.bsi_input.specs.Sources.{counts_of, end_after, end_after_call, with_fed_rows, AreCounts, Counts, Fills, HasReadRows, HasStopped, IsOverBy, IsReaderBy, Layout, PutsRows, Source, SourceEnd}
 use Rattle.bsi_input.specs.declared.rows.SourceFault.{SourceFault}
 use Rattle.bsi_input.specs.declared.rows.SourceFault.TheVariants.{NoMemory}
 use Rattle.bsi_input.proofs.Joining.{taken_both}
@@ -27,7 +27,7 @@ pub record ArePut {R : Type 0} (rem : R → KnownBytes) (layout : Layout) (old n
   pub added : now ≡ with_fed_rows start feeder rows
   pub fitting : All (λ row. IsTrue (fits layout.format.schema.columns row)) rows
   pub read_so_far : HasReadRows rem layout old new before after rows
-  pub plain : IsPlainReader new
+  pub plain : IsReaderBy layout.format.config new
   pub counts : AreCounts layout.format.most after
 
 -- one row more stands last
@@ -40,7 +40,7 @@ put_row start now next feeder rows row is more =
 
 module _ {R : Type 0} (rem : R → KnownBytes) (layout : Layout) where
   -- one record was read and counted, which is good
-  one_good : (a b : Reader R) (counts : Counts) (count : ℕ) (fields : List Field) (row : Entries) → ReadsRecord rem a b counts.read_so_far count fields true
+  one_good : (a b : Reader R) (counts : Counts) (count : ℕ) (fields : List Field) (row : Entries) → ReadsRecordBy layout.format.config rem a b counts.read_so_far count fields true
       → Some row ≡ good_row layout.format layout.header fields → HasReadRows rem layout a b counts (counts_of count counts.bad) (row ∷ [])
   one_good a b counts count fields row takes good =
       let none : bad_one layout fields ≡ 0 = ap (λ o. cond (is_none o) 1 0) (sym good) in
@@ -53,7 +53,7 @@ module _ {R : Type 0} (rem : R → KnownBytes) (layout : Layout) where
       }
 
   -- which is bad
-  one_bad : (a b : Reader R) (counts : Counts) (count : ℕ) (fields : List Field) → ReadsRecord rem a b counts.read_so_far count fields true
+  one_bad : (a b : Reader R) (counts : Counts) (count : ℕ) (fields : List Field) → ReadsRecordBy layout.format.config rem a b counts.read_so_far count fields true
       → None ≡ good_row layout.format layout.header fields → HasReadRows rem layout a b counts (counts_of count (counts.bad + 1)) []
   one_bad a b counts count fields takes bad =
       let one : bad_one layout fields ≡ 1 = ap (λ (o : Option Entries). cond (is_none o) 1 0) (sym bad) in
@@ -66,7 +66,7 @@ module _ {R : Type 0} (rem : R → KnownBytes) (layout : Layout) where
       }
 
   -- nothing was put there yet
-  pub put_none : (input : Reader R) (counts : Counts) (feeder : ℕ) (block : RowBlock) → IsPlainReader input → AreCounts layout.format.most counts
+  pub put_none : (input : Reader R) (counts : Counts) (feeder : ℕ) (block : RowBlock) → IsReaderBy layout.format.config input → AreCounts layout.format.most counts
       → ArePut rem layout input input counts counts feeder block block
   put_none input counts feeder block plain are = record {
     rows = [];
@@ -81,7 +81,7 @@ module _ {R : Type 0} (rem : R → KnownBytes) (layout : Layout) (old b : Reader
     (start now : RowBlock) (are : ArePut rem layout old b before after feeder start now) where
   -- one more good record
   pub put_good : (c : Reader R) (count : ℕ) (fields : List Field) (row : Entries) (next : RowBlock)
-      → ReadsRecord rem b c after.read_so_far count fields true → IsPlainReader c → count ≤ layout.format.most
+      → ReadsRecordBy layout.format.config rem b c after.read_so_far count fields true → IsReaderBy layout.format.config c → count ≤ layout.format.most
       → Some row ≡ good_row layout.format layout.header fields → fits layout.format.schema.columns row ≡ true → next ≡ with_block_row now feeder row
       → ArePut rem layout old c before (counts_of count after.bad) feeder start next
   put_good c count fields row next takes plain few good fit more = record {
@@ -95,8 +95,8 @@ module _ {R : Type 0} (rem : R → KnownBytes) (layout : Layout) (old b : Reader
   }
 
   -- one more bad record
-  pub put_bad : (c : Reader R) (count : ℕ) (fields : List Field) (next : RowBlock) → ReadsRecord rem b c after.read_so_far count fields true
-      → IsPlainReader c → count ≤ layout.format.most → None ≡ good_row layout.format layout.header fields → next ≡ now
+  pub put_bad : (c : Reader R) (count : ℕ) (fields : List Field) (next : RowBlock) → ReadsRecordBy layout.format.config rem b c after.read_so_far count fields true
+      → IsReaderBy layout.format.config c → count ≤ layout.format.most → None ≡ good_row layout.format layout.header fields → next ≡ now
       → ArePut rem layout old c before (counts_of count (after.bad + 1)) feeder start next
   put_bad c count fields next takes plain few bad same = record {
     rows = are.rows;
@@ -120,7 +120,7 @@ module _ {R : Type 0} (rem : R → KnownBytes) (layout : Layout) (old b : Reader
   }
 
   -- no record is left
-  pub puts_all : (c : Reader R) → IsOver rem b → length now.rows < 64 → PutsRows rem layout old c before after feeder start now (end_after_call (Ok false))
+  pub puts_all : (c : Reader R) → IsOverBy layout.format.config rem b → length now.rows < 64 → PutsRows rem layout old c before after feeder start now (end_after_call (Ok false))
   puts_all c over room = record {
     rows = are.rows;
     added = are.added;
@@ -143,7 +143,7 @@ module _ {R : Type 0} (rem : R → KnownBytes) (layout : Layout) (old b : Reader
 
   -- a record can't be read, or there are too many
   pub puts_before : (c : Reader R) (r : Result Bool SourceFault) (fault : SourceFault) (count : ℕ) → IsErrAnd r (λ e. e ≡ fault)
-      → Stops layout.format.most rem b after.read_so_far count fault → length now.rows < 64 → PutsRows rem layout old c before after feeder start now (end_after_call r)
+      → StopsBy layout.format.config layout.format.most rem b after.read_so_far count fault → length now.rows < 64 → PutsRows rem layout old c before after feeder start now (end_after_call r)
   puts_before c r fault count is stops room =
       puts_some c r fault is (record { at = b; read_so_far = taken_none rem layout b after; later = stops.0; too_long = stops.1 }) room
 

@@ -10,7 +10,8 @@ use Rattle.std.proofs.lemmas.List.Sums.{sum_by_push}
 use Rattle.csv.proofs.ReadFacts.{rows-end, rows-more}
 use Rattle.csv.specs.Machine.{next_record}
 use Rattle.csv.specs.Machine as machine
-use Rattle.csv.specs.Reading.{ReadRecord, Reached, default_config, reader_config, reader_state, source_of, strip_bom}
+use Rattle.csv.specs.Reading.{ReadRecord, Reached, reader_config, reader_state, source_of, strip_bom}
+use Rattle.csv.specs.declared.parser.Config.{Config}
 use Rattle.csv.specs.declared.parser.State.{State}
 use Rattle.csv.specs.declared.parser.State.TheVariants as st
 use Rattle.csv.specs.declared.reader.Reader.{Reader}
@@ -18,63 +19,63 @@ use Rattle.bsi_rows.specs.Rows.{Entries}
 use Rattle.bsi_syntax.specs.Bytes.{KnownBytes}
 use Rattle.bsi_rows.specs.Fields.{Field}
 use Rattle.bsi_input.specs.Formats.{bad_count, good_row, Format}
-use Rattle.bsi_input.specs.Sources.{layout_by, AreCounts, Counts, HasNext, HasNoHeader, HasReadAll, HasReadRecords, HasReadRows, HasStopped, IsAfterHeader, IsOver, IsPlainReader, Layout, LayoutOf}
+use Rattle.bsi_input.specs.Sources.{layout_by, AreCounts, Counts, HasNextBy, HasNoHeader, HasReadAll, HasReadBy, HasReadRows, HasStopped, IsAfterHeader, IsOverBy, IsReaderBy, Layout, LayoutOf}
 use Rattle.bsi_input.specs.declared.rows.SourceFault.{SourceFault}
 use Rattle.bsi_input.specs.declared.rows.SourceFault.TheVariants.{NoMemory, Read, TooLong}
 
 -- no record was read
-nothing_read : (o : KnownBytes) (s : State) → IfSome o (λ xs. MatchOption o ⊥ (λ rest. Reached default_config s xs [] s rest))
+nothing_read : (config : Config) (o : KnownBytes) (s : State) → IfSome o (λ xs. MatchOption o ⊥ (λ rest. Reached config s xs [] s rest))
 unfolding Reached
-nothing_read None s = tt
-nothing_read (Some xs) s = (refl, refl)
+nothing_read config None s = tt
+nothing_read config (Some xs) s = (refl, refl)
 
 module _ {R : Type 0} (rem : R → KnownBytes) (layout : Layout) where
   pub taken_none : (input : Reader R) (counts : Counts) → HasReadRows rem layout input input counts counts []
   taken_none input counts = record {
     records = [];
-    read = nothing_read (source_of rem input) (reader_state input);
+    read = nothing_read layout.format.config (source_of rem input) (reader_state input);
     good = refl;
     read_so_far = omega arith;
     bad = omega arith;
   }
 
-module _ {R : Type 0} (rem : R → KnownBytes) (a b c : Reader R) (fields : List Field) (plain : reader_config b ≡ default_config) where
+module _ {R : Type 0} (rem : R → KnownBytes) (a b c : Reader R) (fields : List Field) {config : Config} (plain : reader_config b ≡ config) where
   -- one more record was read
-  read_more : (records : List (List Field)) → HasReadRecords rem a b records → ReadRecord rem b c true fields → HasReadRecords rem a c (records ++ fields ∷ [])
+  read_more : (records : List (List Field)) → HasReadBy config rem a b records → ReadRecord rem b c true fields → HasReadBy config rem a c (records ++ fields ∷ [])
   read_more records before next = by (source_of rem a) (source_of rem b) refl before
     where
       by : (o p : KnownBytes) → source_of rem b ≡ p
-          → IfSome o (λ xs. MatchOption p ⊥ (λ ys. Reached default_config (reader_state a) xs records (reader_state b) ys))
-          → IfSome o (λ xs. MatchOption (source_of rem c) ⊥ (λ zs. Reached default_config (reader_state a) xs (records ++ fields ∷ []) (reader_state c) zs))
+          → IfSome o (λ xs. MatchOption p ⊥ (λ ys. Reached config (reader_state a) xs records (reader_state b) ys))
+          → IfSome o (λ xs. MatchOption (source_of rem c) ⊥ (λ zs. Reached config (reader_state a) xs (records ++ fields ∷ []) (reader_state c) zs))
       by None p e h = tt
       by (Some xs) None e h = absurd h
       by (Some xs) (Some ys) e h =
-          let more = rows-more rem b c fields default_config (reader_state a) xs ys records plain e h next in
-          subst (λ p. MatchOption p ⊥ (λ zs. Reached default_config (reader_state a) xs (records ++ fields ∷ []) (reader_state c) zs)) (sym more.1) more.2
+          let more = rows-more rem b c fields config (reader_state a) xs ys records plain e h next in
+          subst (λ p. MatchOption p ⊥ (λ zs. Reached config (reader_state a) xs (records ++ fields ∷ []) (reader_state c) zs)) (sym more.1) more.2
 
   -- none was left
-  pub is_over : ReadRecord rem b c false fields → IsOver rem b
+  pub is_over : ReadRecord rem b c false fields → IsOverBy config rem b
   is_over next = by (source_of rem b) refl
     where
-      by : (o : KnownBytes) → source_of rem b ≡ o → IfSome o (λ ys. next_record default_config (reader_state b) [] [] ys ≡ None)
+      by : (o : KnownBytes) → source_of rem b ≡ o → IfSome o (λ ys. next_record config (reader_state b) [] [] ys ≡ None)
       by None e = tt
-      by (Some ys) e = rows-end rem b c fields default_config ys plain e next
+      by (Some ys) e = rows-end rem b c fields config ys plain e next
 
   -- there is one more
-  pub has_more : ReadRecord rem b c true fields → HasNext rem b
+  pub has_more : ReadRecord rem b c true fields → HasNextBy config rem b
   unfolding Reached
   has_more next = by (source_of rem b) refl
     where
-      by : (o : KnownBytes) → source_of rem b ≡ o → IfSome o (λ ys. IsSome (next_record default_config (reader_state b) [] [] ys))
+      by : (o : KnownBytes) → source_of rem b ≡ o → IfSome o (λ ys. IsSome (next_record config (reader_state b) [] [] ys))
       by None e = tt
       by (Some ys) e =
-          let more = rows-more rem b c fields default_config (reader_state b) ys ys [] plain e (refl, refl) next in
+          let more = rows-more rem b c fields config (reader_state b) ys ys [] plain e (refl, refl) next in
           subst IsSome (sym more.2.1) refl
 
 -- one record was read
-pub one_read : {R : Type 0} (rem : R → KnownBytes) (a b : Reader R) (fields : List Field) → reader_config a ≡ default_config → ReadRecord rem a b true fields
-    → HasReadRecords rem a b (fields ∷ [])
-one_read rem a b fields plain next = read_more rem a a b fields plain [] (nothing_read (source_of rem a) (reader_state a)) next
+pub one_read : {R : Type 0} (rem : R → KnownBytes) (a b : Reader R) (fields : List Field) {config : Config} → reader_config a ≡ config → ReadRecord rem a b true fields
+    → HasReadBy config rem a b (fields ∷ [])
+one_read rem a b fields {config} plain next = read_more rem a a b fields plain [] (nothing_read config (source_of rem a) (reader_state a)) next
 
 -- the bad ones among records
 abbrev pub bad_one : Layout → List Field → ℕ
@@ -97,7 +98,7 @@ count_bad layout records fields bad =
 -- where a source stands between two records
 pub record AreTaken {R : Type 0} (rem : R → KnownBytes) (layout : Layout) (old new : Reader R) (before after : Counts) : Type 0 where
   pub read_so_far : HasReadRows rem layout old new before after []
-  pub plain : IsPlainReader new
+  pub plain : IsReaderBy layout.format.config new
   pub counts : AreCounts layout.format.most after
 
 module _ {R : Type 0} (rem : R → KnownBytes) (layout : Layout) (old b : Reader R) (before after : Counts)
@@ -115,7 +116,7 @@ module _ {R : Type 0} (rem : R → KnownBytes) (layout : Layout) (old b : Reader
   }
 
   -- one more bad record
-  pub taken_bad : (c : Reader R) (fields : List Field) → ReadRecord rem b c true fields → IsPlainReader c → after.read_so_far < layout.format.most
+  pub taken_bad : (c : Reader R) (fields : List Field) → ReadRecord rem b c true fields → IsReaderBy layout.format.config c → after.read_so_far < layout.format.most
       → None ≡ good_row layout.format layout.header fields
       → AreTaken rem layout old c before (record { read_so_far = after.read_so_far + 1; bad = after.bad + 1 })
   taken_bad c fields next plain few bad = record {
@@ -162,42 +163,46 @@ pub of_text : (P : List ℕ → Type 0) (known : KnownBytes) (source : KnownByte
 of_text P None source is holds = tt
 of_text P (Some bytes) source is holds = subst (λ o. IfSome o P) is holds
 
-module _ {R : Type 0} (rem : R → KnownBytes) (a b : Reader R) (fields : List Field) (plain : reader_config a ≡ default_config) (start : reader_state a ≡ st.StartRecord) where
+module _ {R : Type 0} (rem : R → KnownBytes) (a b : Reader R) (fields : List Field) (format : Format) (plain : reader_config a ≡ format.config) (start : reader_state a ≡ st.StartRecord) where
   first_read : (text : List ℕ) → source_of rem a ≡ Some text → ReadRecord rem a b true fields
-      → (p : machine.Read) × (next_record default_config st.StartRecord [] [] text ≡ Some p) × (fields ≡ p.0) × (reader_state b ≡ p.1) × (source_of rem b ≡ Some p.2)
+      → (p : machine.Read) × (next_record format.config st.StartRecord [] [] text ≡ Some p) × (fields ≡ p.0) × (reader_state b ≡ p.1) × (source_of rem b ≡ Some p.2)
   unfolding Reached
   first_read text known next =
-      let more = rows-more rem a b fields default_config (reader_state a) text text [] plain known (refl, refl) next in
-      let at = subst (λ s. next_record default_config s [] [] text ≡ Some more.2.0) start more.2.1 in
+      let more = rows-more rem a b fields format.config (reader_state a) text text [] plain known (refl, refl) next in
+      let at = subst (λ s. next_record format.config s [] [] text ≡ Some more.2.0) start more.2.1 in
       (more.2.0, at, more.2.2, sym more.2.3.0, more.1 ∙ ap Some (sym more.2.3.1))
 
   -- the first record was read
-  pub stands_after : (layout : Layout) → layout.header ≡ fields → ReadRecord rem a b true fields → IfSome (source_of rem a) (IsAfterHeader rem layout b)
-  stands_after layout is next = by (source_of rem a) refl
+  pub stands_after : (header : List Field) → header ≡ fields → ReadRecord rem a b true fields
+      → IfSome (source_of rem a) (IsAfterHeader rem (record { format = format; header = header }) b)
+  stands_after header is next = by (source_of rem a) refl
     where
-      by : (o : KnownBytes) → source_of rem a ≡ o → IfSome o (IsAfterHeader rem layout b)
+      by : (o : KnownBytes) → source_of rem a ≡ o → IfSome o (IsAfterHeader rem (record { format = format; header = header }) b)
       by None e = tt
       by (Some text) e =
           let read = first_read text e next in
-          subst (λ o. MatchOption o ⊥ (λ r. (layout.header ≡ r.0) × (reader_state b ≡ r.1) × (source_of rem b ≡ Some r.2))) (sym read.1)
+          subst (λ o. MatchOption o ⊥ (λ r. (header ≡ r.0) × (reader_state b ≡ r.1) × (source_of rem b ≡ Some r.2))) (sym read.1)
           (is ∙ read.2, read.3, read.4)
 
   -- it is a header, of which a layout was made
-  pub layout_behind : {F : Type 0} (form : F → Format) (format : F) (made : Option (LayoutOf F)) (r : Result (LayoutOf F) SourceFault)
-      → made ≡ (if (form format).is_header fields then Some (record { format = format; header = fields }) else None) → made ≡ result_ok r → ReadRecord rem a b true fields
+  pub layout_behind : {F : Type 0} (form : F → Format) (f : F) (made : Option (LayoutOf F)) (r : Result (LayoutOf F) SourceFault)
+      → form f ≡ format
+      → made ≡ (if (form f).is_header fields then Some (record { format = f; header = fields }) else None) → made ≡ result_ok r → ReadRecord rem a b true fields
       → IfOk r (λ layout. IfSome (source_of rem a) (IsAfterHeader rem (layout_by form layout) b))
-  layout_behind form format made (Err fault) is ok next = tt
-  layout_behind {F} form format made (Ok layout) is ok next = stands_after (layout_by form layout) (by ((form format).is_header fields) is) next
+  layout_behind form f made (Err fault) of is ok next = tt
+  layout_behind {F} form f made (Ok layout) of is ok next =
+      subst (λ (l : Layout). IfSome (source_of rem a) (IsAfterHeader rem l b)) (sym (by ((form f).is_header fields) is)) (stands_after fields refl next)
     where
-      by : (good : Bool) → made ≡ (if good then Some (record { format = format; header = fields }) else None) → layout.header ≡ fields
+      by : (good : Bool) → made ≡ (if good then Some (record { format = f; header = fields }) else None)
+          → layout_by form layout ≡ record { format = format; header = fields }
       by true e =
-          let same : layout ≡ record { format = format; header = fields } = cc (ok, e) in
-          ap (λ (l : LayoutOf F). l.header) same
+          let same : layout ≡ record { format = f; header = fields } = cc (ok, e) in
+          ap (layout_by form) same ∙ ap (λ (l : Format). record { format = l; header = fields }) of
       by false e = absurd (cc (ok, e))
 
   -- it is no header
-  pub no_header : (format : Format) → format.is_header fields ≡ false → ReadRecord rem a b true fields → IfSome (source_of rem a) (HasNoHeader format)
-  no_header format is next = by (source_of rem a) refl
+  pub no_header : format.is_header fields ≡ false → ReadRecord rem a b true fields → IfSome (source_of rem a) (HasNoHeader format)
+  no_header is next = by (source_of rem a) refl
     where
       by : (o : KnownBytes) → source_of rem a ≡ o → IfSome o (HasNoHeader format)
       by None e = tt
@@ -206,11 +211,11 @@ module _ {R : Type 0} (rem : R → KnownBytes) (a b : Reader R) (fields : List F
           subst (λ o. IfSome o (λ r. format.is_header r.0 ≡ false)) (sym read.1) (ap format.is_header (sym read.2) ∙ is)
 
   -- there is none
-  pub no_record : (format : Format) → ReadRecord rem a b false fields → IfSome (source_of rem a) (HasNoHeader format)
-  no_record format next = by (source_of rem a) refl
+  pub no_record : ReadRecord rem a b false fields → IfSome (source_of rem a) (HasNoHeader format)
+  no_record next = by (source_of rem a) refl
     where
       by : (o : KnownBytes) → source_of rem a ≡ o → IfSome o (HasNoHeader format)
       by None e = tt
       by (Some text) e =
-          let none = subst (λ s. next_record default_config s [] [] text ≡ None) start (rows-end rem a b fields default_config text plain e next) in
+          let none = subst (λ s. next_record format.config s [] [] text ≡ None) start (rows-end rem a b fields format.config text plain e next) in
           subst (λ o. IfSome o (λ r. format.is_header r.0 ≡ false)) (sym none) tt

@@ -2,6 +2,8 @@
 -- fits.
 use Rattle.std.specs.Prelude.{ℕ, Bool, nat_eq, if◌then◌else◌, List, [], length, map, get_or, count_by, filter_map, Option, Some, None, option_and_then}
 use Rattle.std.specs.Option.{is_none}
+use Rattle.csv.specs.Reading.{default_config}
+use Rattle.csv.specs.declared.parser.Config.{Config}
 use Rattle.bsi_schema.specs.Columns.{Declared, fits}
 use Rattle.bsi_rows.specs.Rows.{Entries}
 use Rattle.bsi_rows.specs.Fields.{Field}
@@ -10,8 +12,14 @@ use Rattle.bsi_rows.specs.Fields.{Field}
 abbrev pub max_records : ℕ
 max_records = 1000000
 
+-- How records are written whose fields have this byte between them. Double quotes enclose fields.
+abbrev pub config_of : ℕ → Config
+config_of delimiter = record default_config { delimiter = delimiter }
+
 -- How the records of a row file are read.
 pub record Format : Type 0 where
+  -- What separates the fields of a record, and what encloses them.
+  pub config : Config
   -- The columns, and what each accepts.
   pub schema : Declared
   -- The record is a header.

@@ -2,6 +2,7 @@
 use Rattle.std.specs.Prelude.{ℕ, Bool, ◌&&◌, not, nat_eq, List, map, count_by, is_some}
 use Rattle.std.specs.List.{list_all, prefix_len}
 use Rattle.std.specs.Str.{bytes_eq}
+use Rattle.csv.specs.Reading.{default_config}
 use Rattle.bsi_schema.specs.Columns.{Declared, NamedColumn, position_of}
 use Rattle.bsi_rows.specs.Fields.{Field}
 use Rattle.bsi_syntax.specs.Numbers.{values_in}
@@ -26,6 +27,7 @@ field_index header name = prefix_len (λ field. not (bytes_eq field name)) heade
 -- The format of a schema of whole numbers: a field is named as its column, and spells a number or a null.
 abbrev pub plain_format : Declared → Format
 plain_format schema = record {
+  config = default_config;
   schema = schema;
   is_header = is_header schema;
   indexes = λ header. map (λ column. field_index header column.name) schema.columns;

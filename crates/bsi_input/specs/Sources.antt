@@ -4,6 +4,7 @@ use Rattle.csv.specs.Machine.{next_record}
 use Rattle.csv.specs.Reading.{AreRecords, Ready, Reached, default_config, is_flexible, is_io, reader_config, reader_state, reader_trim, source_of}
 use Rattle.csv.specs.declared.error.ErrorKind.{ErrorKind}
 use Rattle.csv.specs.declared.error.ErrorKind.TheVariants as error
+use Rattle.csv.specs.declared.parser.Config.{Config}
 use Rattle.csv.specs.declared.parser.State.TheVariants as st
 use Rattle.csv.specs.declared.reader.Reader.{Reader}
 use Rattle.csv.specs.declared.reader.Trim.TheVariants as trim
@@ -82,40 +83,56 @@ source_by form source = record
 abbrev pub plain_source : {R : Type 0} → SourceOf R Declared → Source R
 plain_source = source_by plain_format
 
--- A reader with the plain settings: it trims nothing, and records may have any number of fields.
-pub record IsPlainReader {R : Type 0} (input : Reader R) : Type 0 where
+-- A reader of records that are written so: it trims nothing, and records may have any number of fields.
+pub record IsReaderBy {R : Type 0} (config : Config) (input : Reader R) : Type 0 where
   -- No field is trimmed.
   pub trims : reader_trim input ≡ trim.None
   -- Nothing was read yet, or the headers were read, if the reader has any.
   pub ready : Ready input
-  -- Commas separate fields, and double quotes enclose them.
-  pub config : reader_config input ≡ default_config
+  -- What separates fields, and what encloses them.
+  pub config : reader_config input ≡ config
   -- Records may have any number of fields.
   pub flexible : IsTrue (is_flexible input)
+
+-- A reader with the plain settings: commas separate fields, and double quotes enclose them.
+abbrev pub IsPlainReader : {R : Type 0} → Reader R → Type 0
+IsPlainReader input = IsReaderBy default_config input
 
 -- Why a plain reader gives no record: its own reader failed, or memory was refused.
 abbrev pub IsReadFault : ErrorKind → Type 0
 IsReadFault kind = IsTrue (is_io kind) ⊎ (kind ≡ error.OutOfMemory)
 
--- A reader with the given bytes left has read records of them.
-abbrev pub HasReadRecordsOf : {R : Type 0} → (R → KnownBytes) → Reader R → Reader R → List (List Field) → List ℕ → Type 0
-HasReadRecordsOf rem old new records bytes =
+-- A reader with the given bytes left has read records of them, which are written so.
+abbrev pub HasReadRecordsOf : {R : Type 0} → Config → (R → KnownBytes) → Reader R → Reader R → List (List Field) → List ℕ → Type 0
+HasReadRecordsOf config rem old new records bytes =
     MatchOption (source_of rem new) ⊥
-    (λ rest. Reached default_config (reader_state old) bytes records (reader_state new) rest)
+    (λ rest. Reached config (reader_state old) bytes records (reader_state new) rest)
 
--- A reader has read records, as far as its bytes are known.
+-- A reader has read records that are written so, as far as its bytes are known.
+abbrev pub HasReadBy : {R : Type 0} → Config → (R → KnownBytes) → Reader R → Reader R → List (List Field) → Type 0
+HasReadBy config rem old new records = IfSome (source_of rem old) (HasReadRecordsOf config rem old new records)
+
+-- A reader has read plain records, as far as its bytes are known.
 abbrev pub HasReadRecords : {R : Type 0} → (R → KnownBytes) → Reader R → Reader R → List (List Field) → Type 0
-HasReadRecords rem old new records = IfSome (source_of rem old) (HasReadRecordsOf rem old new records)
+HasReadRecords rem old new records = HasReadBy default_config rem old new records
 
--- A reader has no record left, as far as its bytes are known.
+-- A reader has no record left that is written so, as far as its bytes are known.
+abbrev pub IsOverBy : {R : Type 0} → Config → (R → KnownBytes) → Reader R → Type 0
+IsOverBy config rem input =
+    IfSome (source_of rem input) (λ rest. next_record config (reader_state input) [] [] rest ≡ None)
+
+-- A reader has no plain record left, as far as its bytes are known.
 abbrev pub IsOver : {R : Type 0} → (R → KnownBytes) → Reader R → Type 0
-IsOver rem input =
-    IfSome (source_of rem input) (λ rest. next_record default_config (reader_state input) [] [] rest ≡ None)
+IsOver rem input = IsOverBy default_config rem input
 
--- A reader has one more record, as far as its bytes are known.
+-- A reader has one more record that is written so, as far as its bytes are known.
+abbrev pub HasNextBy : {R : Type 0} → Config → (R → KnownBytes) → Reader R → Type 0
+HasNextBy config rem input =
+    IfSome (source_of rem input) (λ rest. IsSome (next_record config (reader_state input) [] [] rest))
+
+-- A reader has one more plain record, as far as its bytes are known.
 abbrev pub HasNext : {R : Type 0} → (R → KnownBytes) → Reader R → Type 0
-HasNext rem input =
-    IfSome (source_of rem input) (λ rest. IsSome (next_record default_config (reader_state input) [] [] rest))
+HasNext rem input = HasNextBy default_config rem input
 
 -- A reader has read records, of which the good ones have the given rows.
 pub record HasReadRows {R : Type 0} (rem : R → KnownBytes) (layout : Layout) (old new : Reader R)
@@ -123,7 +140,7 @@ pub record HasReadRows {R : Type 0} (rem : R → KnownBytes) (layout : Layout) (
   -- The records that were read.
   pub records : List (List Field)
   -- The reader has read these records, and goes on after them.
-  pub read : HasReadRecords rem old new records
+  pub read : HasReadBy layout.format.config rem old new records
   -- The good records have exactly the given rows.
   pub good : good_rows layout.format layout.header records ≡ rows
   -- All records were counted.
@@ -136,7 +153,7 @@ pub record HasReadAll {R : Type 0} (rem : R → KnownBytes) (layout : Layout) (o
     : Type 0 where
   pub at : Reader R
   pub read_so_far : HasReadRows rem layout old at before after []
-  pub over : IsOver rem at
+  pub over : IsOverBy layout.format.config rem at
 
 -- A reader stopped by a fault after bad records.
 pub record HasStopped {R : Type 0} (rem : R → KnownBytes) (layout : Layout) (old : Reader R)
@@ -148,7 +165,7 @@ pub record HasStopped {R : Type 0} (rem : R → KnownBytes) (layout : Layout) (o
   -- The fault is not of the header.
   pub later : fault ≢ BadHeader
   -- `TooLong` means that the most records of the format were read, and one more follows.
-  pub too_long : fault ≡ TooLong → (after.read_so_far ≡ layout.format.most) × HasNext rem at
+  pub too_long : fault ≡ TooLong → (after.read_so_far ≡ layout.format.most) × HasNextBy layout.format.config rem at
 
 -- After a call for the next row: it read up to the next good record, or all records that were left.
 abbrev pub HasGivenNext : {R : Type 0} → (R → KnownBytes) → Layout → Reader R → Reader R → Counts → Counts
@@ -164,10 +181,10 @@ pub record AreCounts (most : ℕ) (counts : Counts) : Type 0 where
 
 -- ---- what is left of a text
 
--- All records that a reader has left. Its bytes are known.
-abbrev pub AreLeft : {R : Type 0} → (R → KnownBytes) → Reader R → List (List Field) → Type 0
-AreLeft rem input records =
-    MatchOption (source_of rem input) ⊥ (λ rest. AreRecords default_config (reader_state input) rest records)
+-- All records that a reader has left, which are written so. Its bytes are known.
+abbrev pub AreLeft : {R : Type 0} → Config → (R → KnownBytes) → Reader R → List (List Field) → Type 0
+AreLeft config rem input records =
+    MatchOption (source_of rem input) ⊥ (λ rest. AreRecords config (reader_state input) rest records)
 
 -- The rows of the good records that a reader has left, and the number of the bad ones.
 pub record HasLeft {R : Type 0} (rem : R → KnownBytes) (layout : Layout) (input : Reader R)
@@ -175,7 +192,7 @@ pub record HasLeft {R : Type 0} (rem : R → KnownBytes) (layout : Layout) (inpu
   -- The records that are left.
   pub records : List (List Field)
   -- The reader has these records left, and no others.
-  pub left : AreLeft rem input records
+  pub left : AreLeft layout.format.config rem input records
   -- The good records have exactly the given rows.
   pub good : good_rows layout.format layout.header records ≡ rows
   -- So many of the records are bad.
@@ -266,21 +283,21 @@ pub record Fills {R : Type 0} (rem : R → KnownBytes) (old new : Source R) (fee
 -- A reader has read the first record of a text, which is the header.
 abbrev pub IsAfterHeader : {R : Type 0} → (R → KnownBytes) → Layout → Reader R → List ℕ → Type 0
 IsAfterHeader rem layout input text =
-    MatchOption (next_record default_config st.StartRecord [] [] text) ⊥
+    MatchOption (next_record layout.format.config st.StartRecord [] [] text) ⊥
     (λ (header, state, rest). (layout.header ≡ header) × (reader_state input ≡ state)
     × (source_of rem input ≡ Some rest))
 
 -- The first record of a text is no header of the format, or the text has no record.
 abbrev pub HasNoHeader : Format → List ℕ → Type 0
 HasNoHeader format text =
-    IfSome (next_record default_config st.StartRecord [] [] text) (λ (header, _, _). format.is_header header ≡ false)
+    IfSome (next_record format.config st.StartRecord [] [] text) (λ (header, _, _). format.is_header header ≡ false)
 
 -- A whole row file was read: the header, and records whose good rows are `rows`.
 pub record IsWholeFile (layout : Layout) (text : Bytes) (before after : Counts) (rows : List Entries) : Type 0 where
   -- The records after the header.
   pub records : List (List Field)
   -- The text has the header and these records, and no others.
-  pub all : AreRecords default_config st.StartRecord text (layout.header ∷ records)
+  pub all : AreRecords layout.format.config st.StartRecord text (layout.header ∷ records)
   -- The rows are those of the good records.
   pub good : rows ≡ good_rows layout.format layout.header records
   -- All records after the header were counted.

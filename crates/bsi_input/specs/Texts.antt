@@ -4,6 +4,7 @@ use Rattle.std.specs.Io.KnownBytes.{Appends}
 use Rattle.std.specs.List.{concat}
 use Rattle.csv.specs.Machine.{next_record}
 use Rattle.csv.specs.Reading.{AreRecords, Reached, default_config, strip_bom}
+use Rattle.csv.specs.declared.parser.Config.{Config}
 use Rattle.csv.specs.declared.parser.State.{State}
 use Rattle.csv.specs.declared.parser.State.TheVariants as st
 use Rattle.bsi_syntax.specs.Bytes.{Bytes, KnownBytes}
@@ -12,13 +13,21 @@ use Rattle.bsi_input.specs.Scripts.{IsScriptRun}
 use Rattle.bsi_input.specs.Formats.{max_records}
 use Rattle.bsi_input.specs.BufferedOutput.{HoldsAfterFlush}
 
--- All records of a text, after any byte order mark.
-abbrev pub AreAllRecords : List ℕ → List (List Field) → Type 0
-AreAllRecords bytes records = AreRecords default_config st.StartRecord (strip_bom bytes) records
+-- All records of a text that are written so, after any byte order mark.
+abbrev pub AreRecordsBy : Config → List ℕ → List (List Field) → Type 0
+AreRecordsBy config bytes records = AreRecords config st.StartRecord (strip_bom bytes) records
 
--- The first records of a text, the state of the parser after them, and the bytes that are left.
+-- All records of a plain text.
+abbrev pub AreAllRecords : List ℕ → List (List Field) → Type 0
+AreAllRecords bytes records = AreRecordsBy default_config bytes records
+
+-- The first records of a text that are written so, the state of the parser after them, and the bytes that are left.
+abbrev pub AreFirstRecordsBy : Config → List ℕ → List (List Field) → State → List ℕ → Type 0
+AreFirstRecordsBy config bytes records state rest = Reached config st.StartRecord (strip_bom bytes) records state rest
+
+-- The same of a plain text.
 abbrev pub AreFirstRecords : List ℕ → List (List Field) → State → List ℕ → Type 0
-AreFirstRecords bytes records state rest = Reached default_config st.StartRecord (strip_bom bytes) records state rest
+AreFirstRecords bytes records state rest = AreFirstRecordsBy default_config bytes records state rest
 
 -- There are 1,000,000 records, and the text has one more.
 abbrev pub AreTooMany : List (List Field) → State → List ℕ → Type 0

@@ -3,7 +3,7 @@
 ghost use Rattle.std.specs.Prelude.{◌≡◌, ◌≤◌, length, true, vec_capacity, IfOk, IsTrue};
 ghost use Rattle.csv.specs.Records.{fields_of};
 ghost use Rattle.bsi_schema.specs.Columns.{fits};
-ghost use Rattle.bsi_input.specs.Formats.{fields_at, fitting, given, Format};
+ghost use Rattle.bsi_input.specs.Formats.{config_of, fields_at, fitting, given, Format};
 ghost use Rattle.bsi_input.specs.RowFiles.{plain_format};
 
 use crate::NoMemory;
@@ -26,6 +26,10 @@ pub trait RowFormat {
     /// Lends the schema that each row fits.
     fn row_schema(&self) -> &Schema
         ensures { result.now ≡ (format self.now).schema };
+
+    /// Returns the byte between two fields.
+    fn delimiter(&self) -> u8
+        ensures { (format self.now).config ≡ config_of result };
 
     /// Returns whether a record is a header. It allocates no memory.
     fn accepts_header(&self, header: &ByteRecord) -> bool
@@ -61,7 +65,7 @@ pub trait RowFormat {
         ensures { result ≡ (format self.now).most };
 }
 
-// The format of whole numbers: a header names each column once, and nothing else. At most 1,000,000 records are read.
+// The format of whole numbers: fields have commas between them, and a header names each column once, and nothing else. At most 1,000,000 records are read.
 impl RowFormat for Schema {
     ghost format = { plain_format };
 
@@ -71,6 +75,10 @@ impl RowFormat for Schema {
 
     fn row_schema(&self) -> &Schema {
         self
+    }
+
+    fn delimiter(&self) -> u8 {
+        b','
     }
 
     fn accepts_header(&self, header: &ByteRecord) -> bool {

@@ -12,7 +12,7 @@ ghost use Rattle.bsi_rows.specs.Fields.{Field};
 ghost use Rattle.bsi_input.specs.Pasts.{FindMemory, HasLawfulPast};
 ghost use Rattle.bsi_input.specs.Scripts.{AreTurns, Declaring, IsScriptRun, Running};
 ghost use Rattle.bsi_syntax.specs.Setups.{nothing_declared};
-ghost use Rattle.bsi_input.specs.Sources.{counts_of, Counts, HasLeft, HasReadRecords, HasReadRows, IsAfterHeader, IsOver, IsWholeFile, Layout};
+ghost use Rattle.bsi_input.specs.Sources.{counts_of, Counts, HasLeft, HasReadRecords, HasReadRows, IsAfterHeader, IsOver, IsOverBy, IsWholeFile, Layout};
 ghost use Rattle.bsi_input.specs.Texts.{AreAllRecords, IsAnswered, WrotePrefix};
 
 use std::io::Read;
@@ -53,7 +53,7 @@ pub fn rows_of_a_file<R: Read + Drop>()
     ensures { (layout : Layout) → (a b : Reader R) → (text : List ℕ) → (start end : Counts) →
         (rows : List Entries)
         → IsAfterHeader R.remaining layout a text → HasReadRows R.remaining layout a b start end rows →
-        IsOver R.remaining b → IsWholeFile layout text start end rows }
+        IsOverBy layout.format.config R.remaining b → IsWholeFile layout text start end rows }
 {}
 
 /// States that nothing is read before the first call of a row source.
@@ -95,7 +95,8 @@ pub fn first_of_left<R: Read + Drop>()
         HasLeft R.remaining layout a rows n → IsPrefix xs rows }
     ensures all { (layout : Layout) → (a b : Reader R) → (start end : Counts) →
         (xs rows : List Entries) → (n : ℕ)
-        → HasReadRows R.remaining layout a b start end xs → IsOver R.remaining b →
+        → HasReadRows R.remaining layout a b start end xs →
+        IsOverBy layout.format.config R.remaining b →
         HasLeft R.remaining layout a rows n → (xs ≡ rows) × (end.bad ≡ start.bad + n) }
     ensures rest { (layout : Layout) → (a b : Reader R) → (start end : Counts) →
         (xs ys : List Entries) → (n : ℕ) → IsSome (source_of R.remaining a)

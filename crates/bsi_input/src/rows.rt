@@ -11,12 +11,12 @@ ghost use Rattle.bsi_schema.specs.Columns.{fits};
 ghost use Rattle.bsi_rows.specs.RowBlocks.{max_block_rows, no_block_rows, HaveSameLimits};
 ghost use Rattle.bsi_input.specs.FaultTexts.{source_fault_text};
 ghost use Rattle.bsi_input.specs.Formats.{given};
-ghost use Rattle.bsi_input.specs.Sources.{counts_of, end_after, end_after_call, layout_by, source_by, AreCounts, Fills, GivesFirst, HasGivenNext, HasNoHeader, HasStopped, IsAfterHeader, IsPlainReader, PutsRows};
+ghost use Rattle.bsi_input.specs.Sources.{counts_of, end_after, end_after_call, layout_by, source_by, AreCounts, Fills, GivesFirst, HasGivenNext, HasNoHeader, HasStopped, IsAfterHeader, IsReaderBy, PutsRows};
 
 use crate::NoMemory;
 use crate::format::RowFormat;
 use crate::layout::Layout;
-use crate::reading::{end_after_call, plain_reader, read_next, read_record};
+use crate::reading::{end_after_call, read_next_by, read_record_by, row_file_reader};
 use bsi_rows::{Block, MAX_BLOCK_ROWS, Row};
 use csv::{ByteRecord, Reader};
 use std::alloc::Global;
@@ -99,7 +99,7 @@ pub struct RowSource<R: Read + Drop, F: RowFormat + Drop> {
 // Clauses see the layout, the reader, the counts, and how the source ended.
 impl<R: Read + Drop, F: RowFormat + Drop> Model for RowSource<R, F> {
     ghost use Rattle.std.specs.Prelude.{◌≡◌, None};
-    ghost use Rattle.bsi_input.specs.Sources.{counts_of, AreCounts, IsPlainReader, SourceOf};
+    ghost use Rattle.bsi_input.specs.Sources.{counts_of, AreCounts, IsReaderBy, SourceOf};
 
     ghost Value = { SourceOf R F };
 
@@ -107,7 +107,7 @@ impl<R: Read + Drop, F: RowFormat + Drop> Model for RowSource<R, F> {
         { layout = s.layout; input = s.input; counts = counts_of s.read_so_far s.bad; end = s.end } };
 
     ghost invariant = { λ s. AreCounts (F.format s.layout.format).most (counts_of s.read_so_far s.bad)
-        × (s.end ≡ None → IsPlainReader s.input) };
+        × (s.end ≡ None → IsReaderBy (F.format s.layout.format).config s.input) };
 }
 
 impl<R: Read + Drop, F: RowFormat + Drop> RowSource<R, F> {
@@ -128,7 +128,7 @@ impl<R: Read + Drop, F: RowFormat + Drop> RowSource<R, F> {
             (λ bytes. HasNoHeader (F.format format.now) (strip_bom bytes)) }
         ensures short { result ≢ Err SourceFault.TooLong }
     {
-        let mut input = plain_reader(alloc, reader);
+        let mut input = row_file_reader(alloc, format.delimiter(), reader);
         let layout = read_layout(alloc, format, &mut input)?;
         Ok(RowSource {
             alloc,
@@ -280,7 +280,7 @@ fn read_layout<R: Read + Drop, F: RowFormat + Drop>(
     format: &F,
     input: &mut Reader<R>,
 ) -> Result<Layout<F>, SourceFault>
-    requires plain { IsPlainReader input.old }
+    requires by { IsReaderBy (F.format format.now).config input.old }
     requires start { reader_state input.old ≡ st.StartRecord }
     ensures format { IfOk result (λ layout. layout.format ≡ format.now) }
     ensures header { IfOk result (λ layout. (F.format format.now).is_header layout.header ≡ true) }
@@ -289,10 +289,10 @@ fn read_layout<R: Read + Drop, F: RowFormat + Drop>(
     ensures bad_header { result ≡ Err SourceFault.BadHeader →
         IfSome (source_of R.remaining input.old) (HasNoHeader (F.format format.now)) }
     ensures short { result ≢ Err SourceFault.TooLong }
-    ensures plain { OnOk result (IsPlainReader input.new) }
+    ensures by { OnOk result (IsReaderBy (F.format format.now).config input.new) }
 {
     let mut header = ByteRecord::new(alloc);
-    if !read_next(input, &mut header)? {
+    if !read_next_by(format, input, &mut header)? {
         return Err(SourceFault::BadHeader);
     }
     Layout::new(alloc, format, header)?.ok_or(SourceFault::BadHeader)
@@ -309,7 +309,7 @@ fn read_good_row<R: Read + Drop, F: RowFormat + Drop>(
     read_so_far: &mut u64,
     bad: &mut u64,
 ) -> Result<bool, SourceFault>
-    requires plain { IsPlainReader input.old }
+    requires by { IsReaderBy (F.format layout.now.format).config input.old }
     requires counts { AreCounts (F.format layout.now.format).most
         (counts_of read_so_far.old bad.old) }
     ensures given { IfOk result
@@ -321,13 +321,13 @@ fn read_good_row<R: Read + Drop, F: RowFormat + Drop>(
         (counts_of read_so_far.old bad.old) (counts_of read_so_far.new bad.new)) }
     ensures fits { IfOk result (λ more. more ≡ true →
         IsTrue (fits (F.format layout.now.format).schema.columns row.new)) }
-    ensures plain { OnOk result (IsPlainReader input.new) }
+    ensures by { OnOk result (IsReaderBy (F.format layout.now.format).config input.new) }
     ensures counts { AreCounts (F.format layout.now.format).most
         (counts_of read_so_far.new bad.new) }
 {
     let most = layout.most_records();
     'records: while *read_so_far < most {
-        if !read_next(input, fields)? {
+        if !read_next_by(layout.format(), input, fields)? {
             return Ok(false);
         }
         let good = layout.read(alloc, fields, entries, row)?;
@@ -337,7 +337,7 @@ fn read_good_row<R: Read + Drop, F: RowFormat + Drop>(
         }
         *bad += 1;
     }
-    if read_next(input, fields)? {
+    if read_next_by(layout.format(), input, fields)? {
         return Err(SourceFault::TooLong);
     }
     Ok(false)
@@ -355,7 +355,7 @@ fn put_rows<R: Read + Drop, F: RowFormat + Drop>(
     read_so_far: &mut u64,
     bad: &mut u64,
 ) -> Result<bool, SourceFault>
-    requires plain { IsPlainReader input.old }
+    requires by { IsReaderBy (F.format layout.now.format).config input.old }
     requires counts { AreCounts (F.format layout.now.format).most
         (counts_of read_so_far.old bad.old) }
     requires alike { HaveSameLimits block.old.schema (F.format layout.now.format).schema }
@@ -364,16 +364,15 @@ fn put_rows<R: Read + Drop, F: RowFormat + Drop>(
     ensures puts { PutsRows R.remaining (layout_by F.format layout.now) input.old input.new
         (counts_of read_so_far.old bad.old) (counts_of read_so_far.new bad.new) feeder block.old
         block.new (end_after_call result) }
-    ensures plain { OnOk result (IsPlainReader input.new) }
+    ensures by { OnOk result (IsReaderBy (F.format layout.now.format).config input.new) }
     ensures counts { AreCounts (F.format layout.now.format).most
         (counts_of read_so_far.new bad.new) }
 {
-    let most = layout.most_records();
     layout.make_room(entries)?;
     'records: while block.len() < MAX_BLOCK_ROWS {
         // A record counts once its fields have been read.
         let mut count = *read_so_far;
-        if !read_record(input, fields, most, &mut count)? {
+        if !read_record_by(layout.format(), input, fields, &mut count)? {
             return Ok(false);
         }
         let good = layout.add(fields, entries, feeder, block);

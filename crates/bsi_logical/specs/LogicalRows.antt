@@ -6,7 +6,7 @@ use Rattle.bsi_schema.specs.Columns.{is_accepted_by, NamedColumn}
 use Rattle.bsi_rows.specs.Rows.{Entries}
 use Rattle.bsi_rows.specs.Fields.{Field}
 use Rattle.bsi_kinds.specs.FieldNumbers.{field_number}
-use Rattle.bsi_input.specs.Formats.{Format}
+use Rattle.bsi_input.specs.Formats.{config_of, Format}
 use Rattle.bsi_input.specs.RowFiles.{field_index}
 use Rattle.bsi_logical.specs.Entries.{is_null}
 use Rattle.bsi_logical.specs.Logical.{kind_of, Logical}
@@ -41,6 +41,7 @@ max_logical_records = 2 ^ 63
 -- The format of a logical schema: a column's field is under its title, and spells a value of its kind, or a null.
 abbrev pub logical_format : Logical → Format
 logical_format l = record {
+  config = config_of l.dialect.delimiter;
   schema = l.schema;
   is_header = has_titles l;
   indexes = λ header. map (λ title. field_index header title) l.titles;

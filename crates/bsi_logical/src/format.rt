@@ -70,6 +70,10 @@ impl RowFormat for LogicalFormat {
         self.logical.schema()
     }
 
+    fn delimiter(&self) -> u8 {
+        self.logical.dialect().delimiter
+    }
+
     fn accepts_header(&self, header: &ByteRecord) -> bool {
         has_each_title_once(&self.logical, header)
     }

@@ -2,7 +2,7 @@ use Rattle.std.proofs.Common.{◌≡◌, ◌<◌, ◌≤◌, None, length, refl,
 use Rattle.std.proofs.lemmas.List.{length-map}
 use Rattle.bsi_rows.specs.RowBlocks.{entries_of}
 use Rattle.bsi_rows.specs.Rows.{SourcedRow}
-use Rattle.bsi_input.specs.Sources.{plain_layout}
+use Rattle.bsi_input.specs.Sources.{layout_by}
 use Rattle.bsi_input.proofs.Taking.{taken_none}
 use Rattle.bsi_files.specs.Feeding.{max_batch_rows, ReadsOn}
 use Rattle.bsi_files.proofs.Filled.{refused_now}
@@ -12,9 +12,10 @@ use Rattle.bsi_files.proofs.feeding.feed_batch.Goals as goal
 pub returns-in_default : goal.returns-in_default
 returns-in_default g c =
     let rem = g.I.Read.remaining in
+    let form = g.F.RowFormat.format in
     let source = c.args.source.now in
-    let refused : (source.end ≡ None) × ReadsOn rem source c.fill_batch.new.source = search rules in
-    (refl {a = c.args.feeder.now}, refused_now rem source (taken_none rem (plain_layout source.layout) source.input source.counts) refused.0, refused.1)
+    let refused : (source.end ≡ None) × ReadsOn form rem source c.fill_batch.new.source = search rules in
+    (refl {a = c.args.feeder.now}, refused_now form rem source (taken_none rem (layout_by form source.layout) source.input source.counts) refused.0, refused.1)
 
 -- the ring has places for the batch
 pub send_batch-requires : goal.send_batch-requires

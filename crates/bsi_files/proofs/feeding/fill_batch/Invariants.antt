@@ -1,6 +1,5 @@
 use Rattle.std.proofs.Common.{◌≡◌, ◌*◌, ◌<◌, ◌≤◌, length}
 use Rattle.bsi_rows.specs.RowBlocks.{entries_of, max_block_rows}
-use Rattle.bsi_input.specs.Formats.{max_records}
 use Rattle.bsi_files.proofs.Feeds.{HasPassed}
 use Rattle.bsi_files.proofs.feeding.fill_batch.Given as goal
 
@@ -11,7 +10,7 @@ invariant-fills g l = record {
   batch : (l.batch.schema ≡ l.initial.batch.schema) × (l.batch.feeders ≡ 1);
   few : length l.batch.rows ≤ max_block_rows * l.counter;
   some : l.counter ≤ length l.batch.rows;
-  passed : HasPassed g.I.Read.remaining l.initial.source l.source (entries_of l.batch.rows);
+  passed : HasPassed g.F.RowFormat.format g.I.Read.remaining l.initial.source l.source (entries_of l.batch.rows);
   start : length l.batch.rows ≡ 0 → l.source ≡ l.initial.source;
-  read_so_far : 0 < length l.batch.rows → l.source.counts.read_so_far ≤ max_records;
+  read_so_far : 0 < length l.batch.rows → l.source.counts.read_so_far ≤ (g.F.RowFormat.format l.source.layout.format).most;
 }

@@ -30,9 +30,9 @@ feed_files-requires-clause-ready g c =
 
 pub returns-in-Ok-clause-fed : goal.returns-in-Ok-clause-fed
 returns-in-Ok-clause-fed g c =
-    subst (λ (t : Table). IfOk c.feed_files.result (λ (loaded : Loaded). IsAllFed g.I.Read.remaining g.G.Stopping.STOPS t.limit loaded.table.rows c.args.sources.items loaded.fed.items))
+    subst (λ (t : Table). IfOk c.feed_files.result (λ (loaded : Loaded). IsAllFed g.F.RowFormat.format g.I.Read.remaining g.G.Stopping.STOPS t.limit loaded.table.rows c.args.sources.items loaded.fed.items))
     c.requires.about c.feed_files.ensures.fed
 
 pub returns-in-Ok-clause-fault : goal.returns-in-Ok-clause-fault
 returns-in-Ok-clause-fault g c =
-    subst (λ (t : Table). IfErr c.feed_files.result (IsLoadFault g.I.Read.remaining g.G.Stopping.STOPS t.limit c.args.sources.items)) c.requires.about c.feed_files.ensures.fault
+    subst (λ (t : Table). IfErr c.feed_files.result (IsLoadFault g.F.RowFormat.format g.I.Read.remaining g.G.Stopping.STOPS t.limit c.args.sources.items)) c.requires.about c.feed_files.ensures.fault

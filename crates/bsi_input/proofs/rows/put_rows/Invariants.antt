@@ -12,4 +12,4 @@ invariant-records g l = record {
 }
 
 abbrev pub decreases-records : goal.decreases-records
-decreases-records g l = l.most - l.read_so_far
+decreases-records g l = (g.F.RowFormat.format l.fn.layout.format).most - l.read_so_far
