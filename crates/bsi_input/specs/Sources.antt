@@ -84,13 +84,13 @@ abbrev pub plain_source : {R : Type 0} → SourceOf R Declared → Source R
 plain_source = source_by plain_format
 
 -- A reader of records that are written so: it trims nothing, and records may have any number of fields.
-pub record IsReaderBy {R : Type 0} (config : Config) (input : Reader R) : Type 0 where
+pub record IsReaderBy {R : Type 0} (by : Config) (input : Reader R) : Type 0 where
   -- No field is trimmed.
   pub trims : reader_trim input ≡ trim.None
   -- Nothing was read yet, or the headers were read, if the reader has any.
   pub ready : Ready input
   -- What separates fields, and what encloses them.
-  pub config : reader_config input ≡ config
+  pub config : reader_config input ≡ by
   -- Records may have any number of fields.
   pub flexible : IsTrue (is_flexible input)
 

@@ -1,16 +1,22 @@
 //! The header of a row file (`Layout`), and the rows that its records give.
 
-ghost use Rattle.std.specs.Prelude.{◌≡◌, ◌<◌, ◌≤◌, if◌then◌else◌, length, vec_capacity, Some, None, true, false, IfOk, IsOk, IsTrue, OnOk};
+ghost use Rattle.std.specs.Prelude.{◌≡◌, ◌<◌, ◌≤◌, if◌then◌else◌, length, vec_capacity, Some, None, true, false, IfErr, IfOk, IsOk, IsTrue, OnOk};
+ghost use Rattle.csv.specs.Reading.{ReadRecord, error_kind};
 ghost use Rattle.csv.specs.Records.{fields_of};
 ghost use Rattle.bsi_schema.specs.Columns.{fits};
 ghost use Rattle.bsi_rows.specs.RowBlocks.{max_block_rows, no_block_rows, with_block_row, HaveSameLimits};
 ghost use Rattle.bsi_input.specs.Formats.{fitting, given, good_row, in_order};
+ghost use Rattle.bsi_input.specs.RecordSources.{ReadsRecordBy, StopsBy};
+ghost use Rattle.bsi_input.specs.Sources.{IsReadFault, IsReaderBy};
 
 use crate::NoMemory;
 use crate::format::RowFormat;
+use crate::reading::read_next_by;
+use crate::rows::SourceFault;
 use bsi_rows::{Block, Row, Schema};
-use csv::ByteRecord;
+use csv::{ByteRecord, Reader};
 use std::alloc::Global;
+use std::io::Read;
 use std::marker::Model;
 use std::mem;
 use std::sync::Arc;
@@ -92,6 +98,51 @@ impl<F: RowFormat + Drop> Layout<F> {
         ensures { fields_of result.now ≡ self.now.header }
     {
         &self.header
+    }
+
+    /// Reads the next record of a row file, and returns whether there was one.
+    pub fn read_next<R: Read + Drop>(
+        &self,
+        input: &mut Reader<R>,
+        fields: &mut ByteRecord,
+    ) -> Result<bool, csv::Error>
+        requires by { IsReaderBy (F.format self.now.format).config input.old }
+        ensures reads { IfOk result
+            (λ more. ReadRecord R.remaining input.old input.new more (fields_of fields.new)) }
+        ensures by { OnOk result (IsReaderBy (F.format self.now.format).config input.new) }
+        ensures fault { IfErr result (λ e. IsReadFault (error_kind e)) }
+    {
+        read_next_by(&self.format, input, fields)
+    }
+
+    /// Reads the next record of a row file, if it is one of the first `most`, which are as many as the format has at most.
+    pub(crate) fn read_record<R: Read + Drop>(
+        &self,
+        input: &mut Reader<R>,
+        fields: &mut ByteRecord,
+        most: u64,
+        read_so_far: &mut u64,
+    ) -> Result<bool, SourceFault>
+        requires most { most ≡ (F.format self.now.format).most }
+        requires by { IsReaderBy (F.format self.now.format).config input.old }
+        requires few { read_so_far.old ≤ (F.format self.now.format).most }
+        ensures reads { IfOk result
+            (ReadsRecordBy (F.format self.now.format).config R.remaining input.old input.new
+            read_so_far.old read_so_far.new (fields_of fields.new)) }
+        ensures stopped { IfErr result
+            (StopsBy (F.format self.now.format).config (F.format self.now.format).most R.remaining
+            input.old read_so_far.old read_so_far.new) }
+        ensures few { read_so_far.new ≤ (F.format self.now.format).most }
+        ensures by { OnOk result (IsReaderBy (F.format self.now.format).config input.new) }
+    {
+        if !self.read_next(input, fields)? {
+            return Ok(false);
+        }
+        if *read_so_far >= most {
+            return Err(SourceFault::TooLong);
+        }
+        *read_so_far += 1;
+        Ok(true)
     }
 
     /// Returns the most records that are read after the header.

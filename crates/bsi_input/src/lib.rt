@@ -18,7 +18,7 @@ pub use describing::describe_schema;
 pub use format::RowFormat;
 pub use header::{count_fields_named, field_index, is_good_header};
 pub use layout::Layout;
-pub use reading::{MAX_RECORDS, plain_reader, read_next, read_next_by, row_file_reader};
+pub use reading::{MAX_RECORDS, plain_reader, read_next, row_file_reader};
 pub use record_aware::{RecordAwareReader, has_buffered_record};
 pub use record_source::RecordSource;
 pub use rows::{RowSource, SourceFault};

@@ -6,7 +6,7 @@ ghost use Rattle.csv.specs.Reading.{ReadRecord, error_kind, reader_state, source
 ghost use Rattle.csv.specs.Records.{fields_of};
 ghost use Rattle.csv.specs.declared.parser.State.TheVariants as st;
 ghost use Rattle.bsi_input.specs.Formats.{config_of};
-ghost use Rattle.bsi_input.specs.RecordSources.{ReadsRecord, ReadsRecordBy, Stops, StopsBy};
+ghost use Rattle.bsi_input.specs.RecordSources.{ReadsRecord, Stops};
 ghost use Rattle.bsi_input.specs.Sources.{end_after, IsPlainReader, IsReadFault, IsReaderBy};
 
 use crate::format::RowFormat;
@@ -46,7 +46,7 @@ pub fn row_file_reader<R: Read + Drop>(alloc: Global, delimiter: u8, reader: R) 
 
 /// Reads the next record of a row file of a format, and returns whether there was one.
 // Its clauses say what csv's call does with a reader of this format.
-pub fn read_next_by<R: Read + Drop, F: RowFormat + Drop>(
+pub(crate) fn read_next_by<R: Read + Drop, F: RowFormat + Drop>(
     _format: &F,
     input: &mut Reader<R>,
     fields: &mut ByteRecord,
@@ -94,34 +94,6 @@ pub(crate) fn read_record<R: Read + Drop>(
         return Ok(false);
     }
     if *read_so_far == most {
-        return Err(SourceFault::TooLong);
-    }
-    *read_so_far += 1;
-    Ok(true)
-}
-
-/// Reads the next record of a row file of a format, if it is one of the first that the format has at most.
-pub(crate) fn read_record_by<R: Read + Drop, F: RowFormat + Drop>(
-    format: &F,
-    input: &mut Reader<R>,
-    fields: &mut ByteRecord,
-    read_so_far: &mut u64,
-) -> Result<bool, SourceFault>
-    requires by { IsReaderBy (F.format format.now).config input.old }
-    requires few { read_so_far.old ≤ (F.format format.now).most }
-    ensures reads { IfOk result
-        (ReadsRecordBy (F.format format.now).config R.remaining input.old input.new
-        read_so_far.old read_so_far.new (fields_of fields.new)) }
-    ensures stopped { IfErr result
-        (StopsBy (F.format format.now).config (F.format format.now).most R.remaining
-        input.old read_so_far.old read_so_far.new) }
-    ensures few { read_so_far.new ≤ (F.format format.now).most }
-    ensures by { OnOk result (IsReaderBy (F.format format.now).config input.new) }
-{
-    if !read_next_by(format, input, fields)? {
-        return Ok(false);
-    }
-    if *read_so_far >= format.most_records() {
         return Err(SourceFault::TooLong);
     }
     *read_so_far += 1;

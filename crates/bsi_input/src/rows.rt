@@ -16,7 +16,7 @@ ghost use Rattle.bsi_input.specs.Sources.{counts_of, end_after, end_after_call, 
 use crate::NoMemory;
 use crate::format::RowFormat;
 use crate::layout::Layout;
-use crate::reading::{end_after_call, read_next_by, read_record_by, row_file_reader};
+use crate::reading::{end_after_call, read_next_by, row_file_reader};
 use bsi_rows::{Block, MAX_BLOCK_ROWS, Row};
 use csv::{ByteRecord, Reader};
 use std::alloc::Global;
@@ -327,7 +327,7 @@ fn read_good_row<R: Read + Drop, F: RowFormat + Drop>(
 {
     let most = layout.most_records();
     'records: while *read_so_far < most {
-        if !read_next_by(layout.format(), input, fields)? {
+        if !layout.read_next(input, fields)? {
             return Ok(false);
         }
         let good = layout.read(alloc, fields, entries, row)?;
@@ -337,7 +337,7 @@ fn read_good_row<R: Read + Drop, F: RowFormat + Drop>(
         }
         *bad += 1;
     }
-    if read_next_by(layout.format(), input, fields)? {
+    if layout.read_next(input, fields)? {
         return Err(SourceFault::TooLong);
     }
     Ok(false)
@@ -368,11 +368,12 @@ fn put_rows<R: Read + Drop, F: RowFormat + Drop>(
     ensures counts { AreCounts (F.format layout.now.format).most
         (counts_of read_so_far.new bad.new) }
 {
+    let most = layout.most_records();
     layout.make_room(entries)?;
     'records: while block.len() < MAX_BLOCK_ROWS {
         // A record counts once its fields have been read.
         let mut count = *read_so_far;
-        if !read_record_by(layout.format(), input, fields, &mut count)? {
+        if !layout.read_record(input, fields, most, &mut count)? {
             return Ok(false);
         }
         let good = layout.add(fields, entries, feeder, block);

@@ -6,3 +6,4 @@ pub mod LogicalRows
 pub mod LogicalTexts
 pub mod Meanings
 pub mod Records
+pub mod TableSchemas

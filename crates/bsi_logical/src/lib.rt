@@ -10,6 +10,7 @@ mod logical;
 mod logical_text;
 mod notation;
 mod refusal;
+mod table_schema;
 mod vocabulary;
 
 pub use bsi_kinds::{Comparison, Kind, NoMemory, Op};
@@ -19,3 +20,4 @@ pub use format::LogicalFormat;
 pub use logical::LogicalSchema;
 pub use logical_text::{LogicalFault, read_logical};
 pub use refusal::{DeclareError, Refusal};
+pub use table_schema::TableSchema;

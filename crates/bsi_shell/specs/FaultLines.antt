@@ -20,10 +20,14 @@ abbrev pub IsLineWritten : Result (Unit {0}) WriteFault → KnownBytes → Known
 IsLineWritten (Ok done) before after line = Appends before after line
 IsLineWritten (Err fault) before after line = AppendsPrefix before after line
 
+-- Some text was written whole or, if the writer failed, a prefix of it.
+abbrev pub IsSomeTextWritten : Result (Unit {0}) WriteFault → KnownBytes → KnownBytes → Type 0
+IsSomeTextWritten reported before after = (text : List ℕ) × IsLineWritten reported before after text
+
 -- The usage line of a command. Those of `script` and `files` are one.
 abbrev pub usage_of : Subcommand → List ℕ
 usage_of Check = codes "usage: bsi check --schema FILE [--asks FILE] CSV..\n"
-usage_of Save = codes "usage: bsi save [--force] --schema FILE --to FILE CSV..\n"
+usage_of Save = codes "usage: bsi save [--force] [--schema FILE] --to FILE CSV..\n"
 usage_of Add = codes "usage: bsi add [--so-far] FILE CSV..\n"
 usage_of Ask = codes "usage: bsi ask [--so-far] FILE [--asks FILE]\n"
 usage_of Show = codes "usage: bsi show FILE\n"

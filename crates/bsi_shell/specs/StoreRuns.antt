@@ -2,13 +2,16 @@
 use Rattle.std.specs.Io.KnownBytes.{Keeps}
 use Rattle.std.specs.Borrow.{Bor}
 use Rattle.std.specs.List.{Contains}
-use Rattle.std.specs.Prelude.{◌≡◌, ◌⊎◌, ℕ, Bool, List, IfSome, IsOk, Result, Err, length}
-use Rattle.bsi_store.specs.Saving.{HasAdded, HasSaved, IsAddFault, IsSaveFault, LeavesReported}
+use Rattle.std.specs.Prelude.{◌≡◌, ◌⊎◌, ℕ, Bool, List, IfSome, IsOk, MatchOption, Result, Err, length}
+use Rattle.bsi_logical.specs.Logical.{Logical}
+use Rattle.bsi_store.specs.Saving.{HasAdded, HasSaved, HasSavedKinds, IsAddFault, IsSaveFault, IsSaveKindsFault, LeavesReported}
+use Rattle.bsi_store.specs.Surveyed.{HasSurveyed}
+use Rattle.bsi_shell.specs.declared.request.SaveRequest.{SaveRequest}
 use Rattle.bsi_store.specs.declared.add.AddPaths.{AddPaths}
 use Rattle.bsi_store.specs.declared.save.SavePaths.{SavePaths}
 use Rattle.bsi_answers.specs.declared.faults.FilesFault.TheVariants.{NoMemory, Write}
 use Rattle.bsi_input.specs.declared.writing.WriteFault.{WriteFault}
-use Rattle.bsi_shell.specs.FaultLines.{IsLineWritten}
+use Rattle.bsi_shell.specs.FaultLines.{IsLineWritten, IsSomeTextWritten}
 use Rattle.bsi_store.specs.Asked.{HasAsked, HasShown, LeavesAnswers, LeavesShown}
 use Rattle.bsi_store.specs.Faults.{store_fault_line, IsOfFile, NamesPath}
 use Rattle.bsi_store.specs.declared.ask.AskPaths.{AskPaths}
@@ -22,9 +25,28 @@ pub record IsFlushed (Is : KnownBytes → KnownBytes → Type 0) (before after :
   pub is : Is before middle
   pub flushed : Keeps middle after
 
--- The rows of the row files were saved.
-abbrev pub HasSavedRows : {S : Type 0} → (S → KnownBytes) → (S → KnownBytes) → SavePaths → KnownBytes → KnownBytes → Type 0
-HasSavedRows rem put paths before after = HasSaved rem put (length paths.rows.items) before after
+-- The rows of the row files were saved by a schema file.
+abbrev pub HasSavedDeclared : {S : Type 0} → (S → KnownBytes) → (S → KnownBytes) → SavePaths → KnownBytes → KnownBytes → Type 0
+HasSavedDeclared rem put paths before after = HasSaved rem put (length paths.rows.items) before after
+
+-- The rows of the row files were saved by a schema of kinds.
+abbrev pub HasSavedBy : {S : Type 0} → (S → KnownBytes) → (S → KnownBytes) → Logical → SavePaths → KnownBytes → KnownBytes → Type 0
+HasSavedBy rem put logical paths before after = HasSavedKinds rem put logical (length paths.rows.items) before after
+
+-- The rows of the row files were saved by a schema of kinds that was found in row files.
+pub record HasSavedFound {S : Type 0} (rem put : S → KnownBytes) (paths : SavePaths) (before after : KnownBytes) : Type 0 where
+  -- The schema.
+  pub logical : Logical
+  -- Row files that were opened fit the schema.
+  pub found : HasSurveyed rem (length paths.rows.items) logical
+  -- The rows of row files were saved by it.
+  pub saved : HasSavedBy rem put logical paths before after
+
+-- The rows of the row files were saved: by a schema file, or by a schema that was found.
+abbrev pub HasSavedRows : {S : Type 0} → (S → KnownBytes) → (S → KnownBytes) → SaveRequest → KnownBytes → KnownBytes → Type 0
+HasSavedRows rem put request before after =
+    MatchOption request.schema (HasSavedFound rem put request.paths before after)
+    (λ schema. HasSavedDeclared rem put request.paths before after)
 
 -- The rows of the row files were added to a saved index.
 abbrev pub HasAddedRows : {S : Type 0} → (S → KnownBytes) → (S → KnownBytes) → AddPaths → KnownBytes → KnownBytes → Type 0
@@ -64,9 +86,14 @@ abbrev pub OrNoMemory : Type 0 → KnownBytes → KnownBytes → Result (Unit {0
 OrNoMemory HasFailed before after reported stderr_before stderr_after = HasFailed ⊎ ((after ≡ before) × IsLineWritten reported stderr_before stderr_after (store_fault_line (Run NoMemory)))
 
 -- What a fault of `bsi save` says about its paths and its files, and what it leaves in the output.
-pub record LeavesSave {S : Type 0} (rem put : S → KnownBytes) (paths : SavePaths) (fault : StoreFault) (before after : KnownBytes) : Type 0 where
-  pub named : NamesPath (λ named. (named ≡ paths.schema) ⊎ ((named ≡ paths.to) ⊎ Contains paths.rows.items named)) fault
-  pub partial : LeavesReported (HasSavedRows rem put paths) (IsSaveFault rem (length paths.rows.items)) fault before after
+pub record LeavesSave {S : Type 0} (rem put : S → KnownBytes) (schema : Bor (List ℕ)) (paths : SavePaths) (fault : StoreFault) (before after : KnownBytes) : Type 0 where
+  pub named : NamesPath (λ named. (named ≡ schema) ⊎ ((named ≡ paths.to) ⊎ Contains paths.rows.items named)) fault
+  pub partial : LeavesReported (HasSavedDeclared rem put paths) (IsSaveFault rem (length paths.rows.items)) fault before after
+
+-- The same of a save by a schema of kinds.
+pub record LeavesSaveBy {S : Type 0} (rem put : S → KnownBytes) (logical : Logical) (paths : SavePaths) (fault : StoreFault) (before after : KnownBytes) : Type 0 where
+  pub named : NamesPath (λ named. (named ≡ paths.to) ⊎ Contains paths.rows.items named) fault
+  pub partial : LeavesReported (HasSavedBy rem put logical paths) (IsSaveKindsFault rem logical (length paths.rows.items)) fault before after
 
 -- What a fault of `bsi add` says and leaves.
 pub record LeavesAdd {S : Type 0} (rem put : S → KnownBytes) (paths : AddPaths) (fault : StoreFault) (before after : KnownBytes) : Type 0 where
@@ -86,10 +113,25 @@ pub record LeavesShow {S : Type 0} (rem : S → KnownBytes) (path : Bor (List �
   pub met : IsOfFile rem fault
   pub partial : LeavesShown rem fault before after
 
+-- A save by a schema that is to be found failed: no schema was found, and nothing was written to the output; or a schema
+-- was found, and rows could not be saved by it.
+abbrev pub HasFailedFound : {S : Type 0} → (S → KnownBytes) → (S → KnownBytes) → SavePaths → KnownBytes → KnownBytes
+    → Result (Unit {0}) WriteFault → KnownBytes → KnownBytes → Type 0
+HasFailedFound rem put paths before after reported stderr_before stderr_after =
+    ((after ≡ before) × IsSomeTextWritten reported stderr_before stderr_after)
+    ⊎ ((logical : Logical) × HasFailedStore (LeavesSaveBy rem put logical paths) (HasSavedBy rem put logical paths) before after reported stderr_before stderr_after)
+
+-- A save failed, by a schema file or by a schema that is to be found.
+abbrev pub HasFailedSaveOf : {S : Type 0} → (S → KnownBytes) → (S → KnownBytes) → SaveRequest → KnownBytes → KnownBytes
+    → Result (Unit {0}) WriteFault → KnownBytes → KnownBytes → Type 0
+HasFailedSaveOf rem put request before after reported stderr_before stderr_after =
+    MatchOption request.schema (HasFailedFound rem put request.paths before after reported stderr_before stderr_after)
+    (λ schema. HasFailedStore (LeavesSave rem put schema request.paths) (HasSavedDeclared rem put request.paths) before after reported stderr_before stderr_after)
+
 -- The command failed for some paths.
 abbrev pub HasFailedSave : {S : Type 0} → (S → KnownBytes) → (S → KnownBytes) → KnownBytes → KnownBytes → Result (Unit {0}) WriteFault → KnownBytes → KnownBytes → Type 0
 HasFailedSave rem put before after reported stderr_before stderr_after =
-    OrNoMemory ((paths : SavePaths) × HasFailedStore (LeavesSave rem put paths) (HasSavedRows rem put paths) before after reported stderr_before stderr_after) before after reported stderr_before stderr_after
+    OrNoMemory ((request : SaveRequest) × HasFailedSaveOf rem put request before after reported stderr_before stderr_after) before after reported stderr_before stderr_after
 
 abbrev pub HasFailedAdd : {S : Type 0} → (S → KnownBytes) → (S → KnownBytes) → KnownBytes → KnownBytes → Result (Unit {0}) WriteFault → KnownBytes → KnownBytes → Type 0
 HasFailedAdd rem put before after reported stderr_before stderr_after =

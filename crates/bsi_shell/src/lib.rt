@@ -8,6 +8,7 @@ mod files;
 mod paths;
 mod request;
 mod store_commands;
+mod survey_lines;
 mod words;
 
 pub use bsi_files::{FaultText, FeedEnd, FilesFault, Gate, Go, Stopping, Which, feed, run_files};

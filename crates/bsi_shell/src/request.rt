@@ -36,6 +36,8 @@ pub(crate) enum Subcommand {
 enum Argument {
     /// The file of the schema.
     Schema,
+    /// That file, which may be left out.
+    SchemaIfGiven,
     /// The file of the questions.
     Asks,
     /// That file, which may be left out.
@@ -64,7 +66,7 @@ const COMMANDS: [(&str, &[Argument]); 7] = [
         "save",
         &[
             Argument::Force,
-            Argument::Schema,
+            Argument::SchemaIfGiven,
             Argument::To,
             Argument::Rows,
         ],
@@ -82,6 +84,7 @@ impl Argument {
     fn made<'a>(self, alloc: Global) -> Arg<'a> {
         match self {
             Argument::Schema => option(alloc, "schema").required(true),
+            Argument::SchemaIfGiven => option(alloc, "schema"),
             Argument::Asks => option(alloc, "asks").required(true),
             Argument::AsksIfGiven => option(alloc, "asks"),
             Argument::To => option(alloc, "to").required(true),
@@ -101,6 +104,15 @@ fn option<'a>(alloc: Global, name: &'static str) -> Arg<'a> {
     Arg::new(alloc, name).long(name)
 }
 
+/// What `bsi save` is to do.
+#[derive(Drop)]
+pub(crate) struct SaveRequest<'a> {
+    /// The schema file, or none if a schema is to be found.
+    pub(crate) schema: Option<&'a str>,
+    /// The file of the index, and the row files.
+    pub(crate) paths: SavePaths<'a>,
+}
+
 /// What the words ask for.
 #[derive(Drop)]
 pub(crate) enum Request<'a> {
@@ -111,7 +123,7 @@ pub(crate) enum Request<'a> {
     /// Say what a run over files would not accept.
     Check(CheckPaths<'a>),
     /// Save the rows of files in a file.
-    Save(SavePaths<'a>),
+    Save(SaveRequest<'a>),
     /// Add rows to a saved index.
     Add(AddPaths<'a>),
     /// Answer questions over a saved index.
@@ -239,24 +251,17 @@ fn read_check_paths<'a>(alloc: Global, files: &ArgMatches<'a>) -> Result<Request
 fn read_save_paths<'a>(alloc: Global, given: &ArgMatches<'a>) -> Result<Request<'a>, AllocError>
     ensures { IfOk result (IsRequestOf Subcommand.Save) }
 {
-    let (Some(schema), Some(to), Some(rows)) = (
-        given.get_str("schema"),
-        given.get_str("to"),
-        given.get_strs("rows"),
-    ) else {
+    let (Some(to), Some(rows)) = (given.get_str("to"), given.get_strs("rows")) else {
         return Ok(Request::Wrong);
     };
     if rows.is_empty() {
         return Ok(Request::Wrong);
     }
+    let schema = given.get_str("schema");
     let rows = rows.to_vec(alloc)?;
     let force = given.get_flag("force");
-    Ok(Request::Save(SavePaths {
-        schema,
-        to,
-        rows,
-        force,
-    }))
+    let paths = SavePaths { to, rows, force };
+    Ok(Request::Save(SaveRequest { schema, paths }))
 }
 
 /// Reads the paths from the matches of the command `add`.

@@ -1,18 +1,23 @@
 //! Carries out the commands over a saved index: `bsi save`, `bsi add`, `bsi ask` and `bsi show`.
-ghost use Rattle.std.specs.Prelude.{◌≡◌, ◌≤◌, IfErr, IsOk, OnOk, false};
+ghost use Rattle.std.specs.Prelude.{◌≡◌, ◌<◌, ◌≤◌, IfErr, IfOk, IsOk, OnOk, false, length};
 ghost use Rattle.std.specs.Io.KnownBytes.{Keeps};
-ghost use Rattle.bsi_shell.specs.StoreRuns.{EndedByFault, HasAddedRows, HasAskedEither, HasFailedStore, HasSavedRows, IsFlushed, LeavesAdd, LeavesAsk, LeavesSave, LeavesShow};
+ghost use Rattle.bsi_shell.specs.StoreRuns.{EndedByFault, HasAddedRows, HasAskedEither, HasFailedFound, HasFailedSaveOf, HasFailedStore, HasSavedBy, HasSavedDeclared, HasSavedFound, HasSavedRows, IsFlushed, LeavesAdd, LeavesAsk, LeavesSave, LeavesSaveBy, LeavesShow};
 ghost use Rattle.bsi_shell.specs.FaultLines.{IsLineWritten};
 ghost use Rattle.bsi_store.specs.Asked.{HasShown};
 ghost use Rattle.bsi_store.specs.Faults.{store_fault_line};
+ghost use Rattle.bsi_store.specs.Surveyed.{HasSurveyed};
 
 use crate::fault_lines::write_store_fault;
+use crate::request::SaveRequest;
+use crate::survey_lines::write_survey_fault;
 use crate::words::CommandEnd;
 use bsi_files::{Gate, Stopping};
+use bsi_logical::LogicalFormat;
 use bsi_store::{
-    AddPaths, AskPaths, LockFile, SavePaths, StoreFault, add_rows, ask_input, ask_over, save_rows,
-    show_index,
+    AddPaths, AskPaths, LockFile, SavePaths, StoreFault, SurveyFault, add_rows, ask_input, ask_over,
+    find_dialect, save_kinds, save_rows, show_index, survey_rows,
 };
+use bsi_survey::SurveyOptions;
 use bsi_text::WriteFault;
 use std::fs::OpenFile;
 use std::io::{Read, Write};
@@ -29,19 +34,137 @@ pub(crate) fn answer_save<
     O: Write,
     F: Write,
     G: Gate + Stopping + Sync,
->(rt: &R, paths: &SavePaths<'a>, output: &mut O, stderr: &mut F, gate: &G) -> CommandEnd
+>(
+    rt: &R,
+    request: &SaveRequest<'a>,
+    output: &mut O,
+    stderr: &mut F,
+    gate: &G,
+) -> CommandEnd
     requires { G.STOPS ≡ false }
     ensures status { result.status ≤ 1 }
     ensures saved { result.status ≡ 0 →
-        IsFlushed (HasSavedRows S.remaining S.contents paths.now)
+        IsFlushed (HasSavedRows S.remaining S.contents request.now)
         (O.contents output.old) (O.contents output.new) }
     ensures reported { result.status ≡ 1 →
-        HasFailedStore (LeavesSave S.remaining S.contents paths.now) (HasSavedRows S.remaining S.contents paths.now)
+        HasFailedSaveOf S.remaining S.contents request.now
         (O.contents output.old) (O.contents output.new) result.reported (F.contents stderr.old) (F.contents stderr.new) }
     ensures stderr_unchanged { result.status ≡ 0 → F.contents stderr.new ≡ F.contents stderr.old }
 {
-    let run = save_rows(rt, paths, output, gate);
+    match request.schema {
+        Some(schema) => save_declared(rt, schema, &request.paths, output, stderr, gate),
+        None => save_found(rt, &request.paths, output, stderr, gate),
+    }
+}
+
+/// Saves rows by a schema file.
+fn save_declared<
+    'a,
+    R: AllocGlobal + Files<File = S> + Threads + Wait + Sync,
+    S: Read + Write + OpenFile + LockFile + Drop + Send,
+    O: Write,
+    F: Write,
+    G: Gate + Stopping + Sync,
+>(
+    rt: &R,
+    schema: &'a str,
+    paths: &SavePaths<'a>,
+    output: &mut O,
+    stderr: &mut F,
+    gate: &G,
+) -> CommandEnd
+    requires { G.STOPS ≡ false }
+    ensures status { result.status ≤ 1 }
+    ensures saved { result.status ≡ 0 →
+        IsFlushed (HasSavedDeclared S.remaining S.contents paths.now)
+        (O.contents output.old) (O.contents output.new) }
+    ensures reported { result.status ≡ 1 →
+        HasFailedStore (LeavesSave S.remaining S.contents schema.entry paths.now)
+        (HasSavedDeclared S.remaining S.contents paths.now)
+        (O.contents output.old) (O.contents output.new) result.reported (F.contents stderr.old) (F.contents stderr.new) }
+    ensures stderr_unchanged { result.status ≡ 0 → F.contents stderr.new ≡ F.contents stderr.old }
+{
+    let run = save_rows(rt, schema, paths, output, gate);
     finish_command(run, output, stderr)
+}
+
+/// Saves rows by a schema of kinds that is found in them.
+fn save_found<
+    'a,
+    R: AllocGlobal + Files<File = S> + Threads + Wait + Sync,
+    S: Read + Write + OpenFile + LockFile + Drop + Send,
+    O: Write,
+    F: Write,
+    G: Gate + Stopping + Sync,
+>(
+    rt: &R,
+    paths: &SavePaths<'a>,
+    output: &mut O,
+    stderr: &mut F,
+    gate: &G,
+) -> CommandEnd
+    requires { G.STOPS ≡ false }
+    ensures status { result.status ≤ 1 }
+    ensures saved { result.status ≡ 0 →
+        IsFlushed (HasSavedFound S.remaining S.contents paths.now)
+        (O.contents output.old) (O.contents output.new) }
+    ensures reported { result.status ≡ 1 →
+        HasFailedFound S.remaining S.contents paths.now
+        (O.contents output.old) (O.contents output.new) result.reported (F.contents stderr.old) (F.contents stderr.new) }
+    ensures stderr_unchanged { result.status ≡ 0 → F.contents stderr.new ≡ F.contents stderr.old }
+{
+    match find_format(rt, &paths.rows) {
+        Ok(format) => save_by_kinds(rt, &format, paths, output, stderr, gate),
+        Err(fault) => CommandEnd::by(1, write_survey_fault(rt.alloc(), fault, stderr)),
+    }
+}
+
+/// Saves rows by a schema of kinds.
+fn save_by_kinds<
+    'a,
+    R: AllocGlobal + Files<File = S> + Threads + Wait + Sync,
+    S: Read + Write + OpenFile + LockFile + Drop + Send,
+    O: Write,
+    F: Write,
+    G: Gate + Stopping + Sync,
+>(
+    rt: &R,
+    format: &LogicalFormat,
+    paths: &SavePaths<'a>,
+    output: &mut O,
+    stderr: &mut F,
+    gate: &G,
+) -> CommandEnd
+    requires { G.STOPS ≡ false }
+    ensures status { result.status ≤ 1 }
+    ensures saved { result.status ≡ 0 →
+        IsFlushed (HasSavedBy S.remaining S.contents format.now paths.now)
+        (O.contents output.old) (O.contents output.new) }
+    ensures reported { result.status ≡ 1 →
+        HasFailedStore (LeavesSaveBy S.remaining S.contents format.now paths.now)
+        (HasSavedBy S.remaining S.contents format.now paths.now)
+        (O.contents output.old) (O.contents output.new) result.reported (F.contents stderr.old) (F.contents stderr.new) }
+    ensures stderr_unchanged { result.status ≡ 0 → F.contents stderr.new ≡ F.contents stderr.old }
+{
+    let run = save_kinds(rt, format, paths, output, gate);
+    finish_command(run, output, stderr)
+}
+
+/// Finds the schema of kinds of row files, as the format of these.
+fn find_format<'a, R: AllocGlobal + Files<File = S>, S: Read + OpenFile + Drop>(
+    rt: &R,
+    rows: &[&'a str],
+) -> Result<LogicalFormat, SurveyFault<'a>>
+    requires { 0 < length rows.now }
+    ensures { IfOk result (HasSurveyed S.remaining (length rows.now)) }
+{
+    let options = SurveyOptions {
+        dialect: find_dialect(rt, rows[0])?,
+        order: None,
+        texts: Vec::new(rt.alloc()),
+    };
+    let logical = survey_rows(rt, rows, &options)?;
+    Ok(LogicalFormat::new(rt.alloc(), logical)?)
 }
 
 /// Carries out `bsi add`.

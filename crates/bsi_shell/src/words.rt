@@ -122,7 +122,7 @@ pub fn run_words<
         Request::Script => answer_script(rt.alloc(), input, output, stderr),
         Request::Files(paths) => answer_files(rt, &paths, output, stderr, gate),
         Request::Check(paths) => answer_check(rt, &paths, output, stderr),
-        Request::Save(paths) => answer_save(rt, &paths, output, stderr, gate),
+        Request::Save(request) => answer_save(rt, &request, output, stderr, gate),
         Request::Add(paths) => answer_add(rt, &paths, output, stderr, gate),
         Request::Ask(paths) => answer_ask(rt, &paths, input, output, stderr),
         Request::Show(path) => answer_show(rt, path, output, stderr),

@@ -1,3 +1,5 @@
 mod Failing
+mod Kinds
 mod Named
 mod Notes
+mod Seen

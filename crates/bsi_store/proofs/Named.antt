@@ -29,7 +29,8 @@ un_named path opening.NoMemory = tt
 
 pub file_named : (path : Bor (List ℕ)) (bytes : KnownBytes) (reported : StoreFault) → IsFileFault path bytes reported → Named path reported
 file_named path bytes reported (inl (fault, after, is, reported_is)) = subst (Named path) (sym reported_is) (un_named path fault)
-file_named path bytes reported (inr (fault, after, t, notes, kinds, size, is, reported_is)) = subst (Named path) (sym reported_is) (cut_named path fault _)
+file_named path bytes reported (inr (inl (fault, after, t, notes, kinds, size, is, reported_is))) = subst (Named path) (sym reported_is) (cut_named path fault _)
+file_named path bytes reported (inr (inr bad)) = subst (Named path) (sym bad.reported_is) (refl {a = path})
 
 -- and is that of the file
 pub file_is : {S : Type 0} (rem : S → KnownBytes) (path : Bor (List ℕ)) (file : S) (reported : StoreFault) → IsFileFault path (rem file) reported → IsOfFile rem reported

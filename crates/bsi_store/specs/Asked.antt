@@ -2,11 +2,11 @@
 use Rattle.std.specs.Prelude.{◌≡◌, ◌≢◌, ◌⊎◌, Bool, false, ℕ, Option, None, IfSome}
 use Rattle.std.specs.Io.KnownBytes.{Appends}
 use Rattle.bsi_input.specs.BufferedOutput.{AppendsPrefix}
+use Rattle.bsi_logical.specs.declared.table_schema.TableSchema.{TableSchema}
+use Rattle.bsi_store.specs.Kinds.{IsAnswer, SaysSchema}
 use Rattle.bsi_store.specs.Lines.{IsShownText}
 use Rattle.bsi_rows.specs.Table.{Table}
-use Rattle.bsi_answers.specs.AskLines.{IsAskLine}
 use Rattle.bsi_syntax.specs.Bytes.{Bytes, KnownBytes}
-use Rattle.bsi_syntax.specs.declared.grammar.Grammar.TheVariants.{Index}
 use Rattle.std.specs.List.{AllZip}
 use Rattle.bsi_answers.specs.Writing.{WritesAll, WritesFirst}
 use Rattle.bsi_store.specs.declared.fault.StoreFault.{StoreFault}
@@ -41,30 +41,38 @@ pub record IsSavedIn {S : Type 0} (rem : S → KnownBytes) (so_far : Bool) (t : 
   -- Without `so_far`, the file was read to its end.
   pub whole : so_far ≡ false → fault ≡ None
 
--- A saved table was opened, and the answers to the questions of a text over its rows were written to the output.
+-- A saved index was opened: its table, and the schema of its columns.
+pub record IsOpenedAs {S : Type 0} (rem : S → KnownBytes) (so_far : Bool) (table : Table) (schema : TableSchema) : Type 0 where
+  pub saved : IsSavedIn rem so_far table
+  pub says : SaysSchema saved.kinds table schema
+
+-- A saved index was opened, and the answers to the questions of a text over its rows were written to the output.
 pub record HasAsked {S : Type 0} (rem : S → KnownBytes) (so_far : Bool) (asks before after : KnownBytes)
     : Type 0 where
   pub table : Table
-  pub saved : IsSavedIn rem so_far table
-  pub answered : IfSome asks (λ asked. WritesAll (AllZip (IsAskLine Index table.schema table.rows)) asked before after)
+  pub schema : TableSchema
+  pub opened : IsOpenedAs rem so_far table schema
+  pub answered : IfSome asks (λ asked. WritesAll (AllZip (IsAnswer schema table)) asked before after)
 
 -- What a fault leaves of the answers: nothing, or the first lines of the answers over a saved table.
 abbrev pub LeavesAnswers : {S : Type 0} → (S → KnownBytes) → Bool → KnownBytes → KnownBytes → KnownBytes → StoreFault → Type 0
 LeavesAnswers rem so_far asks before after (Run fault) =
-    (after ≡ before) ⊎ ((table : Table) × IsSavedIn rem so_far table
-    × IfSome asks (λ asked. WritesFirst (AllZip (IsAskLine Index table.schema table.rows)) asked fault before after))
+    (after ≡ before) ⊎ ((table : Table) × (schema : TableSchema) × IsOpenedAs rem so_far table schema
+    × IfSome asks (λ asked. WritesFirst (AllZip (IsAnswer schema table)) asked fault before after))
 LeavesAnswers rem so_far asks before after fault = after ≡ before
 
 -- The description of a saved table was written to the output.
 pub record HasShown {S : Type 0} (rem : S → KnownBytes) (before after : KnownBytes) : Type 0 where
   -- The saved table.
   pub table : Table
-  -- The table was opened from a file, which was read to its end.
-  pub saved : IsSavedIn rem false table
+  -- The schema of its columns.
+  pub schema : TableSchema
+  -- They were opened from a file, which was read to its end.
+  pub opened : IsOpenedAs rem false table schema
   -- The description of the table.
   pub text : Bytes
   -- The text describes the table: its schema, limit, feeders, rows, and the bytes of each column.
-  pub shown : IsShownText table text
+  pub shown : IsShownText schema table text
   -- The text was appended to the output.
   pub written : Appends before after text
 
@@ -72,12 +80,14 @@ pub record HasShown {S : Type 0} (rem : S → KnownBytes) (before after : KnownB
 pub record HasShownPrefix {S : Type 0} (rem : S → KnownBytes) (before after : KnownBytes) : Type 0 where
   -- The saved table.
   pub table : Table
-  -- The table was opened from a file, which was read to its end.
-  pub saved : IsSavedIn rem false table
+  -- The schema of its columns.
+  pub schema : TableSchema
+  -- They were opened from a file, which was read to its end.
+  pub opened : IsOpenedAs rem false table schema
   -- The description of the table.
   pub text : Bytes
   -- The text describes the table: its schema, limit, feeders, rows, and the bytes of each column.
-  pub shown : IsShownText table text
+  pub shown : IsShownText schema table text
   -- A prefix of the text was appended to the output.
   pub cut : AppendsPrefix before after text
 

@@ -1,5 +1,5 @@
 -- Why a command over a saved index ends early, and the line of each such fault (`store_fault_line`).
-use Rattle.std.specs.Prelude.{◌≡◌, ◌⊎◌, ℕ, List, ◌++◌, Some, codes, decimal, length}
+use Rattle.std.specs.Prelude.{◌≡◌, ◌⊎◌, ℕ, List, ◌++◌, Option, Some, codes, decimal, length}
 use Rattle.std.specs.Borrow.{Bor}
 use Rattle.bsi_answers.specs.FaultTexts.{fault_text}
 use Rattle.bsi_answers.specs.declared.faults.FilesFault.TheVariants.{NoMemory}
@@ -9,8 +9,9 @@ use Rattle.bsi_storage.specs.declared.fault.SaveFault.{SaveFault}
 use Rattle.bsi_storage.specs.declared.fault.SaveFault.TheVariants as saving
 use Rattle.bsi_storage.specs.Faults.{IsFirstSegmentFault, IsOpened}
 use Rattle.bsi_rows.specs.Table.{Table}
+use Rattle.bsi_store.specs.Kinds.{SaysNoSchema}
 use Rattle.bsi_store.specs.declared.fault.FileFault.{FileFault}
-use Rattle.bsi_store.specs.declared.fault.FileFault.TheVariants.{CutShort, Damaged, InUse, NotAnIndex, OtherVersion, Read, TooManyFiles}
+use Rattle.bsi_store.specs.declared.fault.FileFault.TheVariants.{BadKinds, CutShort, Damaged, InUse, LongKinds, NotAnIndex, OtherVersion, Read, TooManyFiles}
 use Rattle.bsi_store.specs.declared.fault.StoreFault.{StoreFault}
 use Rattle.bsi_store.specs.declared.fault.StoreFault.TheVariants.{CannotOpen, CannotWrite, Unusable, Run}
 use Rattle.bsi_syntax.specs.Bytes.{Bytes, KnownBytes}
@@ -24,6 +25,8 @@ file_fault_text (Damaged rows) = codes "damaged after " ++ decimal rows ++ codes
 file_fault_text Read = codes "read failed"
 file_fault_text InUse = codes "in use"
 file_fault_text (TooManyFiles feeders) = codes "more than " ++ decimal feeders ++ codes " files"
+file_fault_text BadKinds = codes "of kinds that are not known"
+file_fault_text LongKinds = codes "texts past 64 MiB"
 
 -- The line of a fault.
 abbrev pub store_fault_line : StoreFault → List ℕ
@@ -63,12 +66,28 @@ abbrev pub IsFirstFileFault : Bor (List ℕ) → KnownBytes → StoreFault → T
 IsFirstFileFault path bytes reported =
     (fault : OpenFault) × (after : KnownBytes) × IsFirstSegmentFault bytes after fault × (reported ≡ unopened path fault)
 
--- The fault of a file: of its first segment, or after the rows that were opened.
+-- The fault of a file whose text of kinds says no schema of its table.
+pub record HasBadKinds (path : Bor (List ℕ)) (bytes : KnownBytes) (reported : StoreFault) : Type 0 where
+  -- What is left of the file after it was read.
+  pub after : KnownBytes
+  -- What was read of the file.
+  pub table : Table
+  pub notes : Bytes
+  pub kinds : Bytes
+  pub size : ℕ
+  pub fault : Option OpenFault
+  pub opened : IsOpened bytes after table notes kinds size fault
+  -- The text of kinds says no schema of the table.
+  pub bad : SaysNoSchema kinds table
+  pub reported_is : reported ≡ Unusable path BadKinds
+
+-- The fault of a file: of its first segment, after the rows that were opened, or of its text of kinds.
 abbrev pub IsFileFault : Bor (List ℕ) → KnownBytes → StoreFault → Type 0
 IsFileFault path bytes reported =
     IsFirstFileFault path bytes reported
-    ⊎ ((fault : OpenFault) × (after : KnownBytes) × (t : Table) × (notes kinds : Bytes) × (size : ℕ)
+    ⊎ (((fault : OpenFault) × (after : KnownBytes) × (t : Table) × (notes kinds : Bytes) × (size : ℕ)
     × IsOpened bytes after t notes kinds size (Some fault) × (reported ≡ cut_off path fault (length t.rows)))
+    ⊎ HasBadKinds path bytes reported)
 
 -- The fault of a file from which no row can be had: of its first segment, or the file can't be read further.
 abbrev pub IsUnrecoverable : Bor (List ℕ) → KnownBytes → StoreFault → Type 0

@@ -1,4 +1,6 @@
 pub mod Asked
 pub mod Faults
+pub mod Kinds
 pub mod Lines
 pub mod Saving
+pub mod Surveyed

@@ -5,7 +5,13 @@ use Rattle.std.specs.Io.KnownBytes.{Appends}
 use Rattle.std.specs.List.{concat}
 use Rattle.bsi_rows.specs.Rows.{SourcedRow}
 use Rattle.bsi_rows.specs.Table.{max_feeders, Table}
-use Rattle.bsi_schema.specs.Columns.{Declared}
+use Rattle.bsi_input.specs.Formats.{Format}
+use Rattle.bsi_input.specs.RowFiles.{plain_format}
+use Rattle.bsi_logical.specs.Logical.{Logical}
+use Rattle.bsi_logical.specs.LogicalRows.{logical_format}
+use Rattle.bsi_logical.specs.LogicalTexts.{IsLogicalText}
+use Rattle.bsi_logical.specs.TableSchemas.{format_of}
+use Rattle.bsi_logical.specs.declared.table_schema.TableSchema.{TableSchema}
 use Rattle.bsi_answers.specs.RowFiles.{FedCounts}
 use Rattle.bsi_answers.specs.Runs.{fed_lines, HasLoaded}
 use Rattle.bsi_answers.specs.Writing.{WhereFilesKnown}
@@ -20,9 +26,10 @@ use Rattle.bsi_storage.specs.declared.fault.OpenFault.TheVariants.{OtherVersion}
 use Rattle.bsi_store.specs.Asked.{IsSavedIn}
 use Rattle.bsi_store.specs.Faults.{IsFileFault}
 use Rattle.bsi_store.specs.declared.fault.FileFault.TheVariants as file
-use Rattle.bsi_store.specs.declared.fault.FileFault.TheVariants.{InUse}
+use Rattle.bsi_store.specs.declared.fault.FileFault.TheVariants.{InUse, LongKinds}
 use Rattle.bsi_store.specs.declared.fault.StoreFault.{StoreFault}
 use Rattle.bsi_store.specs.declared.fault.StoreFault.TheVariants.{Run, Unusable}
+use Rattle.bsi_store.specs.Kinds.{SaysSchema}
 use Rattle.bsi_store.specs.Lines.{number_line}
 use Rattle.bsi_syntax.specs.Bytes.{Bytes, KnownBytes}
 
@@ -31,7 +38,7 @@ abbrev pub loaded_lines : List ℕ → List FedCounts → ℕ → List ℕ
 loaded_lines word counts number = concat (fed_lines 0 counts) ++ number_line word number
 
 -- The rows of some files were written to an index file, as one segment of version 2.
-pub record WroteSegment {S : Type 0} (rem put : S → KnownBytes) (count : ℕ) (word : List ℕ) (schema : Declared) (limit : ℕ)
+pub record WroteSegment {S : Type 0} (rem put : S → KnownBytes) (count : ℕ) (word : List ℕ) (format : Format) (limit : ℕ)
     (notes kinds : Bytes) (table : Table) (before after : KnownBytes) : Type 0 where
   -- The row files that were opened.
   pub files : List S
@@ -39,12 +46,12 @@ pub record WroteSegment {S : Type 0} (rem put : S → KnownBytes) (count : ℕ) 
   pub many : length files ≡ count
   -- The numbers of accepted rows and of bad records of each file.
   pub counts : List FedCounts
-  -- The table has the schema.
-  pub schema_is : table.schema ≡ schema
+  -- The table has the schema of the format.
+  pub schema_is : table.schema ≡ format.schema
   -- The table has the limit.
   pub limit_is : table.limit ≡ limit
   -- If the bytes of the row files are known, the table has exactly their good rows, which are counted.
-  pub loaded : (texts : List Bytes) → map rem files ≡ map Some texts → HasLoaded schema limit texts table.rows counts
+  pub loaded : (texts : List Bytes) → map rem files ≡ map Some texts → HasLoaded format limit texts table.rows counts
   -- The index file before the write.
   pub old : S
   -- The index file after the write.
@@ -56,7 +63,7 @@ pub record WroteSegment {S : Type 0} (rem put : S → KnownBytes) (count : ℕ) 
   -- The summary was written to the output.
   pub lines : Appends before after (loaded_lines word counts (length table.rows))
 
--- A new index was saved.
+-- A new index of whole numbers was saved.
 pub record HasSaved {S : Type 0} (rem put : S → KnownBytes) (count : ℕ) (before after : KnownBytes) : Type 0 where
   -- The schema file that was read.
   pub schema_file : S
@@ -67,7 +74,21 @@ pub record HasSaved {S : Type 0} (rem put : S → KnownBytes) (count : ℕ) (bef
   -- The table has a feeder for each row file.
   pub feeders_are : table.feeders ≡ count
   -- The table was written as one segment, without notes and kinds, and is reported under the word `saved`.
-  pub saved : WroteSegment rem put count (codes "saved") table.schema table.limit [] [] table before after
+  pub saved : WroteSegment rem put count (codes "saved") (plain_format table.schema) table.limit [] [] table before after
+
+-- A new index of kinds was saved.
+pub record HasSavedKinds {S : Type 0} (rem put : S → KnownBytes) (logical : Logical) (count : ℕ) (before after : KnownBytes)
+    : Type 0 where
+  -- The table that was saved.
+  pub table : Table
+  -- The text of kinds.
+  pub kinds : Bytes
+  -- The text says the schema.
+  pub says : IsLogicalText kinds logical
+  -- The table has a feeder for each row file.
+  pub feeders_are : table.feeders ≡ count
+  -- The table was written as one segment, without notes, and is reported under the word `saved`.
+  pub saved : WroteSegment rem put count (codes "saved") (logical_format logical) logical.limit [] kinds table before after
 
 -- A saved index was read.
 pub record IsReadOf {S : Type 0} (rem : S → KnownBytes) (so_far : Bool) (t : Table) (notes kinds : Bytes) (left : KnownBytes)
@@ -92,6 +113,10 @@ pub record HasAdded {S : Type 0} (rem put : S → KnownBytes) (so_far : Bool) (c
   pub opened : IsSavedIn rem so_far saved
   -- No segment of another version follows.
   pub ours : opened.fault ≢ Some OtherVersion
+  -- The schema of the saved table.
+  pub schema : TableSchema
+  -- The file says this schema.
+  pub says : SaysSchema opened.kinds saved schema
   -- The table of the rows to add.
   pub more : Table
   -- Both tables have the same number of feeders.
@@ -99,13 +124,14 @@ pub record HasAdded {S : Type 0} (rem put : S → KnownBytes) (so_far : Bool) (c
   -- The rows of both tables together are within the limit of the saved table.
   pub within : length saved.rows + length more.rows ≤ saved.limit
   -- The rows were written as one segment, with the notes and the kinds of the file, and reported under the word `added`.
-  pub added : WroteSegment rem put count (codes "added") saved.schema saved.limit opened.notes opened.kinds more before after
+  pub added : WroteSegment rem put count (codes "added") (format_of schema) saved.limit opened.notes opened.kinds more before after
   -- The file that was written to had left what the read left of the index file.
   pub same : rem added.old ≡ opened.after
 
 -- A fault that says nothing about the bytes of a file.
 abbrev pub IsNotAboutBytes : StoreFault → Type 0
 IsNotAboutBytes (Unusable path InUse) = Unit {0}
+IsNotAboutBytes (Unusable path LongKinds) = Unit {0}
 IsNotAboutBytes (Unusable path why) = ⊥
 IsNotAboutBytes (Run NoMemory) = Unit {0}
 IsNotAboutBytes (Run fault) = ⊥
@@ -132,7 +158,25 @@ pub record HasFailedRun {S : Type 0} (rem : S → KnownBytes) (count : ℕ) (fau
   -- The fault is not one of writing to the output.
   pub unwritten : fault ≢ Write
 
--- The fault of a command that saves no rows.
+-- Row files could not be loaded by a schema of kinds.
+pub record HasFailedLogical {S : Type 0} (rem : S → KnownBytes) (logical : Logical) (count : ℕ) (fault : FilesFault) : Type 0 where
+  -- The row files.
+  pub files : List S
+  -- There are `count` row files.
+  pub many : length files ≡ count
+  -- `TooManyFiles` is answered for more than 64 files.
+  pub past : fault ≡ TooManyFiles → max_feeders < count
+  -- Another fault is one of the files, as far as their bytes are known.
+  pub met : fault ≢ TooManyFiles → IsFaultOver false (logical_format logical) logical.limit (map rem files) fault
+  -- The fault is not one of writing to the output.
+  pub unwritten : fault ≢ Write
+
+-- The fault of a command that saves no rows by a schema of kinds.
+abbrev pub IsSaveKindsFault : {S : Type 0} → (S → KnownBytes) → Logical → ℕ → StoreFault → Type 0
+IsSaveKindsFault rem logical count fault =
+    IsMet rem fault ⊎ ((run : FilesFault) × (fault ≡ Run run) × HasFailedLogical rem logical count run)
+
+-- The fault of a command that saves no rows by a schema file.
 abbrev pub IsSaveFault : {S : Type 0} → (S → KnownBytes) → ℕ → StoreFault → Type 0
 IsSaveFault rem count fault = IsMet rem fault ⊎ ((run : FilesFault) × (fault ≡ Run run) × HasFailedRun rem count run)
 
@@ -144,15 +188,15 @@ IsTooMany rem so_far count fault =
     (path : Bor (List ℕ)) × (saved : Table) × IsSavedIn rem so_far saved × (saved.feeders < count)
     × (fault ≡ Unusable path (file.TooManyFiles saved.feeders))
 
--- Row files have this fault, as far as their bytes are known, when they are loaded by this schema and limit.
-pub record IsRowFilesFault (schema : Declared) (limit : ℕ) (files : List KnownBytes) (fault : FilesFault) : Type 0 where
+-- Row files have this fault, as far as their bytes are known, when they are loaded by this format and limit.
+pub record IsRowFilesFault (format : Format) (limit : ℕ) (files : List KnownBytes) (fault : FilesFault) : Type 0 where
   pub few : fault ≢ TooManyFiles
-  pub met : IsFaultOver false schema limit files fault
+  pub met : IsFaultOver false format limit files fault
   pub unwritten : fault ≢ Write
 
 -- The fault of the command is that of the row files.
-abbrev pub IsRunFaultOver : Declared → ℕ → List KnownBytes → StoreFault → Type 0
-IsRunFaultOver schema limit files fault = (run : FilesFault) × (fault ≡ Run run) × IsRowFilesFault schema limit files run
+abbrev pub IsRunFaultOver : Format → ℕ → List KnownBytes → StoreFault → Type 0
+IsRunFaultOver format limit files fault = (run : FilesFault) × (fault ≡ Run run) × IsRowFilesFault format limit files run
 
 -- Row files could not be loaded by the schema of a saved table.
 pub record HasFailedLoad {S : Type 0} (rem : S → KnownBytes) (so_far : Bool) (count : ℕ) (fault : StoreFault) : Type 0 where
@@ -160,12 +204,16 @@ pub record HasFailedLoad {S : Type 0} (rem : S → KnownBytes) (so_far : Bool) (
   pub saved : Table
   -- The table was opened from an index file.
   pub opened : IsSavedIn rem so_far saved
+  -- The schema of the saved table.
+  pub schema : TableSchema
+  -- The file says this schema.
+  pub says : SaysSchema opened.kinds saved schema
   -- The row files.
   pub files : List S
   -- There are `count` row files.
   pub many : length files ≡ count
   -- The fault is that of the row files, loaded by the schema and limit of the saved table.
-  pub reported : IsRunFaultOver saved.schema saved.limit (map rem files) fault
+  pub reported : IsRunFaultOver (format_of schema) saved.limit (map rem files) fault
 
 -- Row files were loaded by the schema of a saved table, and their rows exceed the limit of a saved table.
 pub record ExceedLimit {S : Type 0} (rem : S → KnownBytes) (so_far : Bool) (count : ℕ) : Type 0 where
@@ -173,6 +221,10 @@ pub record ExceedLimit {S : Type 0} (rem : S → KnownBytes) (so_far : Bool) (co
   pub first : Table
   -- The table whose schema was used was opened from an index file.
   pub opened : IsSavedIn rem so_far first
+  -- The schema that was used.
+  pub schema : TableSchema
+  -- The file says this schema.
+  pub says : SaysSchema opened.kinds first schema
   -- The row files.
   pub files : List S
   -- There are `count` row files.
@@ -182,7 +234,7 @@ pub record ExceedLimit {S : Type 0} (rem : S → KnownBytes) (so_far : Bool) (co
   -- The numbers of accepted rows and of bad records of each file.
   pub counts : List FedCounts
   -- If the bytes of the files are known, the rows are exactly their good rows.
-  pub loaded : (texts : List Bytes) → map rem files ≡ map Some texts → HasLoaded first.schema first.limit texts rows counts
+  pub loaded : (texts : List Bytes) → map rem files ≡ map Some texts → HasLoaded (format_of schema) first.limit texts rows counts
   -- The table that the rows were to be added to.
   pub saved : Table
   -- The table to add to was opened from an index file.

@@ -4,19 +4,23 @@ ghost use Rattle.std.specs.Prelude.{◌≡◌, ◌+◌, ◌<◌, ◌≤◌, ◌�
 ghost use Rattle.std.specs.Io.KnownBytes.{Appends};
 ghost use Rattle.bsi_answers.specs.RowFiles.{fed_counts};
 ghost use Rattle.bsi_answers.specs.Runs.{HasLoaded};
+ghost use Rattle.bsi_logical.specs.TableSchemas.{format_of};
 ghost use Rattle.bsi_rows.specs.Table.{max_feeders, no_rows, with_rows};
 ghost use Rattle.bsi_storage.specs.Faults.{AcceptsRowsOf};
 ghost use Rattle.bsi_storage.specs.Saved.{head_segment, max_kinds, max_notes, MayBeSaved};
 ghost use Rattle.bsi_store.specs.Saving.{HasAdded, IsAddFault, IsMet, IsNotAboutBytes, IsReadOf, IsRunFaultOver, LeavesReported, ReportsOn};
 ghost use Rattle.std.specs.List.{Contains};
 ghost use Rattle.bsi_store.specs.Faults.{IsFileFault, NamesPath};
+ghost use Rattle.bsi_store.specs.Kinds.{SaysNoSchema, SaysSchema};
 ghost use Rattle.bsi_table.specs.Index.{table_of};
 
 use crate::add_file::{lock_to_add, open_each, open_to_add};
+use crate::opening::read_table_schema;
 use crate::summary::summary_lines;
 use crate::{FileFault, LockFile, StoreFault, read_saved};
 use bsi_files::{FilesFault, Gate, Loaded, Stopping, load_files};
 use bsi_input::write_bytes;
+use bsi_logical::TableSchema;
 use bsi_storage::{LoadedIndex, OpenFault, Version, accepts_rows_of, write_index};
 use bsi_table::{Index, NoMemory};
 use std::alloc::Global;
@@ -83,11 +87,13 @@ fn add_and_summarize<
     let saved = read_to_add(rt.alloc(), paths.index, &mut file, paths.so_far)?;
     // Without a lock, so that slow row files stop no other command.
     let _ = file.unlock();
+    let schema = read_table_schema(rt.alloc(), paths.index, &saved)?;
     let rows = open_each(rt, &paths.rows)?;
-    let more = load_more(rt, paths.index, &saved.index, rows, gate)?;
+    let more = load_more(rt, paths.index, &saved.index, &schema, rows, gate)?;
     let text = summary_lines(rt.alloc(), "added", &more)?;
     lock_to_add(rt, paths.index, &file)?;
     let saved = reread_if_changed(rt.alloc(), paths.index, saved, &mut file, paths.so_far)?;
+    check_same_schema(rt.alloc(), paths.index, &saved, &schema)?;
     check_rows_fit(paths.index, &saved, &more.table)?;
     append_segment(rt.alloc(), paths.index, &saved, &more.table, &mut file)?;
     Ok(text)
@@ -151,6 +157,25 @@ fn reread_if_changed<'a, S: Read + OpenFile + LockFile>(
     read_to_add(alloc, path, file, so_far)
 }
 
+/// Refuses a saved index that has another schema than the one by which rows were loaded.
+fn check_same_schema<'a>(
+    alloc: Global,
+    path: &'a str,
+    saved: &LoadedIndex,
+    schema: &TableSchema,
+) -> Result<(), StoreFault<'a>>
+    ensures says { OnOk result (SaysSchema saved.now.kinds.items (table_of saved.now.index) schema.now) }
+    ensures fault { IfErr result (λ fault. IsNotAboutBytes fault
+        ⊎ ((fault ≡ StoreFault.Unusable path.entry FileFault.BadKinds)
+        × SaysNoSchema saved.now.kinds.items (table_of saved.now.index))) }
+    ensures named { IfErr result (NamesPath (λ named. named ≡ path.entry)) }
+{
+    if read_table_schema(alloc, path, saved)?.is_same(schema) {
+        return Ok(());
+    }
+    Err(StoreFault::Unusable(path, FileFault::InUse))
+}
+
 /// Refuses rows for which a saved index has no space, or which are not encoded as its own are.
 fn check_rows_fit<'a>(
     path: &'a str,
@@ -173,14 +198,21 @@ fn check_rows_fit<'a>(
     Ok(())
 }
 
-/// Loads row files into an index that encodes its columns as another does, and has as many feeders. It refuses more
-/// files than it has feeders.
+/// Loads row files by a schema into an index that encodes its columns as another does, and has as many feeders. It
+/// refuses more files than it has feeders.
 fn load_more<
     'a,
     R: AllocGlobal + Threads + Wait + Sync,
     S: Read + Drop + Send,
     G: Gate + Stopping + Sync,
->(rt: &R, path: &'a str, saved: &Index, rows: Vec<S>, gate: &G) -> Result<Loaded, StoreFault<'a>>
+>(
+    rt: &R,
+    path: &'a str,
+    saved: &Index,
+    schema: &TableSchema,
+    rows: Vec<S>,
+    gate: &G,
+) -> Result<Loaded, StoreFault<'a>>
     requires some { 0 < length rows.items }
     requires never { G.STOPS ≡ false }
     ensures schema { IfOk result (λ loaded. loaded.table.schema ≡ saved.now.schema) }
@@ -188,18 +220,17 @@ fn load_more<
     ensures limit { IfOk result (λ loaded. loaded.table.limit ≡ saved.now.limit) }
     ensures rows { IfOk result (λ loaded. (texts : List (List ℕ)) →
         map S.remaining rows.items ≡ map Some texts →
-        HasLoaded saved.now.schema saved.now.limit texts loaded.table.rows
+        HasLoaded (format_of schema.now) saved.now.limit texts loaded.table.rows
         (map fed_counts loaded.fed.items)) }
     ensures few { IfOk result (λ loaded. length loaded.fed.items ≤ max_feeders) }
     ensures fault { IfErr result (λ fault. IsNotAboutBytes fault ⊎ (((saved.now.feeders < length rows.items)
         × (fault ≡ StoreFault.Unusable path.entry (FileFault.TooManyFiles saved.now.feeders)))
-        ⊎ IsRunFaultOver saved.now.schema saved.now.limit (map S.remaining rows.items) fault)) }
+        ⊎ IsRunFaultOver (format_of schema.now) saved.now.limit (map S.remaining rows.items) fault)) }
     ensures named { IfErr result (NamesPath (λ named. named ≡ path.entry)) }
 {
     if rows.len() > saved.feeders() as usize {
         return Err(StoreFault::Unusable(path, FileFault::TooManyFiles(saved.feeders())));
     }
-    let schema = saved.schema().copy()?;
     let Loaded { table, fed } = load_files(rt, schema, saved.limit(), rows, gate)?;
     let table = with_feeders_of(saved, &table)?;
     Ok(Loaded { table, fed })

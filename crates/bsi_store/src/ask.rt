@@ -7,7 +7,7 @@ ghost use Rattle.bsi_store.specs.Faults.{IsOfFile, NamesPath};
 use crate::StoreFault;
 use crate::lock::LockFile;
 use crate::opening::{open_file, open_index};
-use bsi_answers::{Grammar, answer_plain_asks};
+use bsi_answers::{Grammar, answer_asks};
 use std::io::{Read, Write};
 use std::rt::Files;
 use std::thread::Threads;
@@ -59,6 +59,13 @@ pub fn ask_input<
     ensures fault { IfErr result (IsOfFile S.remaining) }
 {
     let opened = open_index(rt, paths.index, paths.so_far)?;
-    answer_plain_asks(rt, &opened.index, Grammar::Index, asks, output)?;
+    answer_asks(
+        rt,
+        &opened.saved.index,
+        &opened.schema,
+        Grammar::Index,
+        asks,
+        output,
+    )?;
     Ok(())
 }

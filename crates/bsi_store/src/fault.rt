@@ -33,6 +33,10 @@ pub enum FileFault {
     InUse,
     /// Its rows come from so many feeders, and there are more row files.
     TooManyFiles(u32),
+    /// Its text of kinds says no schema of its columns.
+    BadKinds,
+    /// The texts of its columns take more bytes than a file has for kinds.
+    LongKinds,
 }
 
 /// Why a command over a saved index ends early. Each path is as it was written.
@@ -149,6 +153,8 @@ impl FileFault {
             FileFault::TooManyFiles(feeders) => {
                 push_counted(&mut text, "more than ", u64::from(*feeders), " files");
             }
+            FileFault::BadKinds => text.push_str("of kinds that are not known"),
+            FileFault::LongKinds => text.push_str("texts past 64 MiB"),
         }
         text
     }

@@ -10,8 +10,10 @@ mod lock;
 mod new_file;
 mod opening;
 mod save;
+mod save_kinds;
 mod show;
 mod summary;
+mod survey_rows;
 mod target;
 
 pub use add::{AddPaths, add_rows};
@@ -21,4 +23,6 @@ pub use lines::push_count_line;
 pub use lock::LockFile;
 pub use opening::{open_file, read_saved};
 pub use save::{SavePaths, save_rows};
+pub use save_kinds::save_kinds;
 pub use show::show_index;
+pub use survey_rows::{SurveyFault, find_dialect, survey_rows};

@@ -1,9 +1,9 @@
 //! A new file beside the one that it replaces, so that a crash leaves the one or the other.
 
-ghost use Rattle.std.specs.Prelude.{◌≡◌, [], IfErr, IfOk, OnOk};
+ghost use Rattle.std.specs.Prelude.{◌≡◌, ◌≤◌, [], IfErr, IfOk, OnOk, length};
 ghost use Rattle.std.specs.Io.KnownBytes.{Appends};
 ghost use Rattle.bsi_table.specs.Index.{table_of};
-ghost use Rattle.bsi_storage.specs.Saved.{head_segment, MayBeSaved};
+ghost use Rattle.bsi_storage.specs.Saved.{head_segment, max_kinds, MayBeSaved};
 ghost use Rattle.bsi_store.specs.Saving.{IsNotAboutBytes};
 ghost use Rattle.bsi_store.specs.Faults.{NamesPath};
 
@@ -51,16 +51,22 @@ impl<'a, S: Read + Write + OpenFile + LockFile + Drop> NewFile<'a, S> {
         })
     }
 
-    /// Writes the segment of an index that has no notes and no kinds.
-    pub(crate) fn write(&mut self, alloc: Global, index: &Index) -> Result<(), StoreFault<'a>>
+    /// Writes the segment of an index that has no notes, with its text of kinds.
+    pub(crate) fn write(
+        &mut self,
+        alloc: Global,
+        index: &Index,
+        kinds: &[u8],
+    ) -> Result<(), StoreFault<'a>>
+        requires few { length kinds.now ≤ max_kinds }
         ensures written { OnOk result (Appends (S.contents self.old.file) (S.contents self.new.file)
-            (head_segment (table_of index.now) [] [])) }
-        ensures valid { OnOk result (MayBeSaved Version.Two (table_of index.now) [] []) }
+            (head_segment (table_of index.now) [] kinds.now)) }
+        ensures valid { OnOk result (MayBeSaved Version.Two (table_of index.now) [] kinds.now) }
         ensures fault { IfErr result IsNotAboutBytes }
         ensures named { IfErr result (NamesPath (λ named. named ≡ self.old.target.path)) }
         ensures path { self.new.target.path ≡ self.old.target.path }
     {
-        match write_index(alloc, index, &[], &[], &mut self.file) {
+        match write_index(alloc, index, &[], kinds, &mut self.file) {
             Ok(()) => Ok(()),
             Err(fault) => Err(StoreFault::unsaved(self.target.path, fault)),
         }

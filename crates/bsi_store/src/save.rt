@@ -5,9 +5,10 @@ ghost use Rattle.std.specs.Io.KnownBytes.{Appends};
 ghost use Rattle.bsi_store.specs.Saving.{HasFailedRun, HasSaved, IsNotAboutBytes, IsSaveFault, LeavesReported, ReportsOn};
 ghost use Rattle.bsi_answers.specs.RowFiles.{fed_counts};
 ghost use Rattle.bsi_answers.specs.Runs.{HasLoaded};
+ghost use Rattle.bsi_input.specs.RowFiles.{plain_format};
 ghost use Rattle.bsi_input.specs.SchemaTexts.{IsSchemaText};
 ghost use Rattle.bsi_rows.specs.Table.{max_feeders};
-ghost use Rattle.bsi_storage.specs.Saved.{head_segment, MayBeSaved};
+ghost use Rattle.bsi_storage.specs.Saved.{head_segment, max_kinds, MayBeSaved};
 ghost use Rattle.bsi_table.specs.Index.{table_of};
 ghost use Rattle.std.specs.List.{Contains};
 ghost use Rattle.bsi_store.specs.Faults.{NamesPath};
@@ -31,8 +32,6 @@ use std::thread::Threads;
 /// The paths of an index that is saved, each as it was written.
 #[derive(Drop)]
 pub struct SavePaths<'a> {
-    /// The schema file.
-    pub schema: &'a str,
     /// The file of the index.
     pub to: &'a str,
     /// The row files.
@@ -42,7 +41,7 @@ pub struct SavePaths<'a> {
     ghost some: { 0 < length rows.items },
 }
 
-/// Loads row files as a run over files does, and saves their rows in the file of a path, in place of the index that it
+/// Loads row files by a schema file as a run over files does, and saves their rows in the file of a path, in place of the index that it
 /// had. Row file k is feeder k. It writes the line of each file, and how many rows were saved. After a fault the file
 /// is as it was, unless the folder could not be stored or only these lines could not be written: then it is replaced.
 pub fn save_rows<
@@ -51,18 +50,24 @@ pub fn save_rows<
     S: Read + Write + OpenFile + LockFile + Drop + Send,
     O: Write,
     G: Gate + Stopping + Sync,
->(rt: &R, paths: &SavePaths<'a>, output: &mut O, gate: &G) -> Result<(), StoreFault<'a>>
+>(
+    rt: &R,
+    schema: &'a str,
+    paths: &SavePaths<'a>,
+    output: &mut O,
+    gate: &G,
+) -> Result<(), StoreFault<'a>>
     requires { G.STOPS ≡ false }
     ensures saved { OnOk result (HasSaved S.remaining S.contents (length paths.now.rows.items)
         (O.contents output.old) (O.contents output.new)) }
-    ensures named { IfErr result (NamesPath (λ named. (named ≡ paths.now.schema)
+    ensures named { IfErr result (NamesPath (λ named. (named ≡ schema.entry)
         ⊎ ((named ≡ paths.now.to) ⊎ Contains paths.now.rows.items named))) }
     ensures prefix { IfErr result (λ fault. LeavesReported
         (HasSaved S.remaining S.contents (length paths.now.rows.items))
         (IsSaveFault S.remaining (length paths.now.rows.items)) fault
         (O.contents output.old) (O.contents output.new)) }
 {
-    let text = save_and_summarize(rt, paths, gate)?;
+    let text = save_and_summarize(rt, schema, paths, gate)?;
     write_bytes(output, text.as_slice())?;
     Ok(())
 }
@@ -74,21 +79,26 @@ fn save_and_summarize<
     R: AllocGlobal + Files<File = S> + Threads + Wait + Sync,
     S: Read + Write + OpenFile + LockFile + Drop + Send,
     G: Gate + Stopping + Sync,
->(rt: &R, paths: &SavePaths<'a>, gate: &G) -> Result<Vec<u8>, StoreFault<'a>>
+>(
+    rt: &R,
+    schema: &'a str,
+    paths: &SavePaths<'a>,
+    gate: &G,
+) -> Result<Vec<u8>, StoreFault<'a>>
     requires { G.STOPS ≡ false }
     ensures saved { IfOk result (λ text. ReportsOn
         (HasSaved S.remaining S.contents (length paths.now.rows.items)) text.items) }
     ensures fault { IfErr result (IsSaveFault S.remaining (length paths.now.rows.items)) }
-    ensures named { IfErr result (NamesPath (λ named. (named ≡ paths.now.schema)
+    ensures named { IfErr result (NamesPath (λ named. (named ≡ schema.entry)
         ⊎ ((named ≡ paths.now.to) ⊎ Contains paths.now.rows.items named))) }
 {
-    let schema = open_file(rt, paths.schema)?;
+    let schema = open_file(rt, schema)?;
     let rows = open_each(rt, &paths.rows)?;
     let target = SaveTarget::find(rt, paths.to, paths.force)?;
     let loaded = load_declared(rt, schema, rows, gate)?;
     let text = summary_lines(rt.alloc(), "saved", &loaded)?;
     let mut new = NewFile::begin(rt, target)?;
-    write_or_remove(rt, &loaded.table, &mut new)?;
+    write_or_remove(rt, &loaded.table, &[], &mut new)?;
     new.sync_folder()?;
     Ok(text)
 }
@@ -108,7 +118,7 @@ fn load_declared<
     ensures few { IfOk result (λ loaded. length loaded.fed.items ≤ max_feeders) }
     ensures rows { IfOk result (λ loaded. (texts : List (List ℕ)) →
         map S.remaining rows.items ≡ map Some texts →
-        HasLoaded loaded.table.schema loaded.table.limit texts loaded.table.rows
+        HasLoaded (plain_format loaded.table.schema) loaded.table.limit texts loaded.table.rows
         (map fed_counts loaded.fed.items)) }
     ensures fault { IfErr result (HasFailedRun S.remaining (length rows.items)) }
 {
@@ -116,24 +126,25 @@ fn load_declared<
         return Err(FilesFault::TooManyFiles);
     }
     let DeclaredTable { schema, limit } = read_schema(rt.alloc(), schema)?;
-    let loaded = load_files(rt, schema, limit, rows, gate)?;
+    let loaded = load_files(rt, &schema, limit, rows, gate)?;
     Ok(loaded)
 }
 
 /// Writes the segment of an index to a new file, and puts it in its place. After a fault the new file is removed.
-fn write_or_remove<
+pub(crate) fn write_or_remove<
     'a,
     R: AllocGlobal + Files<File = S>,
     S: Read + Write + OpenFile + LockFile + Drop,
->(rt: &R, table: &Index, new: &mut NewFile<'a, S>) -> Result<(), StoreFault<'a>>
+>(rt: &R, table: &Index, kinds: &[u8], new: &mut NewFile<'a, S>) -> Result<(), StoreFault<'a>>
+    requires few { length kinds.now ≤ max_kinds }
     ensures appended { OnOk result (Appends (S.contents new.old.file) (S.contents new.new.file)
-        (head_segment (table_of table.now) [] [])) }
-    ensures valid { OnOk result (MayBeSaved Version.Two (table_of table.now) [] []) }
+        (head_segment (table_of table.now) [] kinds.now)) }
+    ensures valid { OnOk result (MayBeSaved Version.Two (table_of table.now) [] kinds.now) }
     ensures fault { IfErr result IsNotAboutBytes }
     ensures named { IfErr result (NamesPath (λ named. named ≡ new.old.target.path)) }
     ensures path { new.new.target.path ≡ new.old.target.path }
 {
-    match write_and_replace(rt, table, new) {
+    match write_and_replace(rt, table, kinds, new) {
         Ok(()) => Ok(()),
         Err(fault) => {
             new.remove(rt);
@@ -147,14 +158,15 @@ fn write_and_replace<
     'a,
     R: AllocGlobal + Files<File = S>,
     S: Read + Write + OpenFile + LockFile + Drop,
->(rt: &R, table: &Index, new: &mut NewFile<'a, S>) -> Result<(), StoreFault<'a>>
+>(rt: &R, table: &Index, kinds: &[u8], new: &mut NewFile<'a, S>) -> Result<(), StoreFault<'a>>
+    requires few { length kinds.now ≤ max_kinds }
     ensures appended { OnOk result (Appends (S.contents new.old.file) (S.contents new.new.file)
-        (head_segment (table_of table.now) [] [])) }
-    ensures valid { OnOk result (MayBeSaved Version.Two (table_of table.now) [] []) }
+        (head_segment (table_of table.now) [] kinds.now)) }
+    ensures valid { OnOk result (MayBeSaved Version.Two (table_of table.now) [] kinds.now) }
     ensures fault { IfErr result IsNotAboutBytes }
     ensures named { IfErr result (NamesPath (λ named. named ≡ new.old.target.path)) }
     ensures path { new.new.target.path ≡ new.old.target.path }
 {
-    new.write(rt.alloc(), table)?;
+    new.write(rt.alloc(), table, kinds)?;
     new.replace(rt)
 }

@@ -4,7 +4,7 @@ ghost use Rattle.std.specs.Prelude.{◌≡◌, ◌<◌, ◌++◌, IfErr, IfOk, l
 ghost use Rattle.bsi_schema.specs.Columns.{column_at};
 ghost use Rattle.bsi_store.specs.Asked.{HasShown, LeavesShown};
 ghost use Rattle.bsi_store.specs.Faults.{IsOfFile, NamesPath};
-ghost use Rattle.bsi_store.specs.Lines.{bitmap_bytes, size_lines, IsShownText};
+ghost use Rattle.bsi_store.specs.Lines.{bitmap_bytes, size_lines, AreRecordsOf, IsShownText};
 ghost use Rattle.bsi_table.specs.Index.{table_of};
 
 use crate::StoreFault;
@@ -12,13 +12,14 @@ use crate::lines::{push_bytes_line, push_count_line};
 use crate::lock::LockFile;
 use crate::opening::open_index;
 use bsi_input::{describe_schema, write_bytes};
+use bsi_logical::{TableSchema, describe_logical};
 use bsi_table::{Index, NoMemory, count_bitmaps};
 use std::alloc::Global;
 use std::io::{Read, Write};
 use std::rt::Files;
 
-/// Writes the records of a schema file that declares the columns and the limit of a saved index, how many feeders and
-/// rows it has, and how many bytes the bitmaps of each column take.
+/// Writes the records of a schema file that declares the columns and the limit of a saved index, or says its columns by
+/// kinds; how many feeders and rows it has; and how many bytes the bitmaps of each column take.
 pub fn show_index<'a, R: AllocGlobal + Files<File = S>, S: Read + LockFile + Drop, O: Write>(
     rt: &R,
     path: &'a str,
@@ -32,20 +33,38 @@ pub fn show_index<'a, R: AllocGlobal + Files<File = S>, S: Read + LockFile + Dro
         (O.contents output.old) (O.contents output.new)) }
 {
     let opened = open_index(rt, path, false)?;
-    let text = describe_index(rt.alloc(), &opened.index)?;
+    let text = describe_index(rt.alloc(), &opened.saved.index, &opened.schema)?;
     write_bytes(output, text.as_slice())?;
     Ok(())
 }
 
 /// Makes the description of an index.
-fn describe_index(alloc: Global, index: &Index) -> Result<Vec<u8>, NoMemory>
-    ensures { IfOk result (λ text. IsShownText (table_of index.now) text.items) }
+fn describe_index(
+    alloc: Global,
+    index: &Index,
+    schema: &TableSchema,
+) -> Result<Vec<u8>, NoMemory>
+    ensures { IfOk result (λ text. IsShownText schema.now (table_of index.now) text.items) }
 {
-    let mut text = describe_schema(alloc, index.schema(), index.limit())?;
+    let mut text = describe_columns(alloc, index, schema)?;
     push_count_line("feeders", u64::from(index.feeders()), &mut text)?;
     push_count_line("rows", index.len(), &mut text)?;
     push_size_lines(index, &mut text)?;
     Ok(text)
+}
+
+/// Makes the records that say the schema of an index.
+fn describe_columns(
+    alloc: Global,
+    index: &Index,
+    schema: &TableSchema,
+) -> Result<Vec<u8>, NoMemory>
+    ensures { IfOk result (λ text. AreRecordsOf schema.now (table_of index.now) text.items) }
+{
+    match schema {
+        TableSchema::Plain(_) => describe_schema(alloc, index.schema(), index.limit()),
+        TableSchema::Logical(format) => describe_logical(alloc, format.logical()),
+    }
 }
 
 /// Adds for each column how many bytes its bitmaps take.

@@ -6,6 +6,7 @@ pub mod Moments
 pub mod Outcomes
 pub mod Readings
 pub mod Records
+mod Seeing
 pub mod Saying
 pub mod Schemas
 pub mod Spelling

@@ -10,7 +10,8 @@ use Rattle.csv.specs.declared.reader.Reader.{Reader}
 use Rattle.bsi_syntax.specs.Bytes.{KnownBytes}
 use Rattle.bsi_rows.specs.Fields.{Field}
 use Rattle.bsi_input.proofs.AllRecords.{records_behind}
-use Rattle.bsi_survey.specs.TextRecords.{config_of, AreLeft, AreTextRecords, HasRead}
+use Rattle.bsi_input.specs.Formats.{config_of}
+use Rattle.bsi_survey.specs.TextRecords.{AreLeft, AreTextRecords, HasRead}
 
 -- no record was read
 by_none : (cfg : Config) (o : KnownBytes) (s : State) → IfSome o (λ xs. MatchOption o ⊥ (λ rest. Reached cfg s xs [] s rest))

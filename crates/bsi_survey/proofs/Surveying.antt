@@ -9,7 +9,8 @@ use Rattle.bsi_inference.specs.Nulls.{usual_words}
 use Rattle.bsi_inference.specs.declared.candidates.Candidates.{Candidates}
 use Rattle.bsi_survey.specs.Looking.{AreGrown, AreLookedFor, AreNewBy, HasObservedFields, IsGrown}
 use Rattle.bsi_survey.specs.Surveys.{header_of, no_counts, AreCounted, HaveObservedAll, HaveObservedEach, Surveys}
-use Rattle.bsi_survey.specs.TextRecords.{config_of, AreTextRecords}
+use Rattle.bsi_input.specs.Formats.{config_of}
+use Rattle.bsi_survey.specs.TextRecords.{AreTextRecords}
 use Rattle.bsi_survey.specs.declared.counts.Counts.{Counts}
 use Rattle.bsi_survey.specs.declared.options.SurveyOptions.{SurveyOptions}
 use Rattle.bsi_survey.specs.declared.survey.Survey.{Survey}
@@ -22,7 +23,7 @@ fields_grown : (words fields : List Field) (old new : Candidates) → HasObserve
 fields_grown words [] old new same = subst (λ (c : Candidates). IsGrown old c) (sym same) (grown_same old)
 fields_grown words (field ∷ fields) old new seen = grown_then old seen.0 new (observed words field old seen.0 seen.1) (fields_grown words fields seen.0 new seen.2)
 
-each_grown : (words : List Field) (records : List (List Field)) (old new : List Candidates) → HaveObservedEach words records old new → AreGrown old new
+pub each_grown : (words : List Field) (records : List (List Field)) (old new : List Candidates) → HaveObservedEach words records old new → AreGrown old new
 each_grown words records old new each = record {
   len = each.len;
   each = λ c d within. fields_grown words _ (get_or old c d) (get_or new c d) (each.each c d within);
@@ -34,7 +35,7 @@ still_looked rem words input old new before after all = all_looked old new (each
 
 -- ---- a text
 
-if_some : (known : KnownBytes) (P Q : List ℕ → Type 0) → ((bytes : List ℕ) → P bytes → Q bytes) → IfSome known P → IfSome known Q
+pub if_some : (known : KnownBytes) (P Q : List ℕ → Type 0) → ((bytes : List ℕ) → P bytes → Q bytes) → IfSome known P → IfSome known Q
 if_some None P Q follows holds = tt
 if_some (Some bytes) P Q follows holds = follows bytes holds
 

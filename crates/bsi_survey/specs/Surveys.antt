@@ -1,10 +1,13 @@
 -- What a survey says of a text: its header, and that the candidates of each column have observed just the fields of the
 -- records as long as the header, and accept each of them (`Surveys`).
-use Rattle.std.specs.Prelude.{◌≡◌, ℕ, ◌+◌, ◌<◌, Bool, true, false, not, nat_eq, List, [], ◌∷◌, length, get_or, map, count_by, slice_index_or, All, IsTrue}
+use Rattle.std.specs.Prelude.{◌≡◌, ℕ, ◌+◌, ◌<◌, Bool, true, false, not, nat_eq, List, [], ◌∷◌, length, get_or, map, count_by, slice_index_or, All, IsSome, IsTrue}
 use Rattle.std.specs.List.{filter}
 use Rattle.csv.specs.declared.reader.Reader.{Reader}
 use Rattle.bsi_rows.specs.Fields.{Field}
 use Rattle.bsi_syntax.specs.Bytes.{KnownBytes}
+use Rattle.bsi_input.specs.Formats.{good_row}
+use Rattle.bsi_logical.specs.Logical.{Logical}
+use Rattle.bsi_logical.specs.LogicalRows.{has_titles, logical_format}
 use Rattle.bsi_inference.specs.ColumnCandidates.{LooksFor as LooksForKinds}
 use Rattle.bsi_inference.specs.Nulls.{usual_words}
 use Rattle.bsi_inference.specs.declared.candidates.Candidates.{Candidates}
@@ -85,6 +88,23 @@ pub record Surveys (options : SurveyOptions) (bytes : List ℕ) (survey : Survey
   pub accepted : AcceptsWhole survey.columns.items records
   -- The records as long as the header, and the others.
   pub counts : AreCounted (length (header_of survey)) records no_counts survey.counts
+
+-- A text with the header of a survey, whose columns accept each record of the text that is as long as the header.
+pub record SeesText (survey : Survey) (bytes : List ℕ) : Type 0 where
+  -- The records after the header.
+  pub records : List (List Field)
+  pub all : AreTextRecords survey.dialect.delimiter bytes (header_of survey ∷ records)
+  pub accepted : AcceptsWhole survey.columns.items records
+
+-- A text with a header of a schema of kinds, of which each record as long as the header is a row.
+pub record FitsText (l : Logical) (bytes : List ℕ) : Type 0 where
+  -- The fields of the header.
+  pub header : List Field
+  -- The records after the header.
+  pub records : List (List Field)
+  pub all : AreTextRecords l.dialect.delimiter bytes (header ∷ records)
+  pub header_is : IsTrue (has_titles l header)
+  pub rows : All (λ fields. length fields ≡ length header → IsSome (good_row (logical_format l) header fields)) records
 
 -- The columns of a survey look for each kind, by the decimal point of its dialect, or for texts alone.
 pub record LooksFor (survey : Survey) : Type 0 where

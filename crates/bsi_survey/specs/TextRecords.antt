@@ -1,19 +1,15 @@
 -- The records of a text whose fields have a given byte between them, and what a reader of such a text has left.
 use Rattle.std.specs.Prelude.{◌≡◌, ◌⊎◌, ℕ, List, [], None, IfSome, IsTrue, MatchOption}
 use Rattle.csv.specs.Machine.{next_record}
-use Rattle.csv.specs.Reading.{AreRecords, Ready, Reached, default_config, is_flexible, is_io, reader_config, reader_state, reader_trim, source_of, strip_bom}
+use Rattle.csv.specs.Reading.{AreRecords, Ready, Reached, is_flexible, is_io, reader_config, reader_state, reader_trim, source_of, strip_bom}
 use Rattle.csv.specs.declared.error.ErrorKind.{ErrorKind}
 use Rattle.csv.specs.declared.error.ErrorKind.TheVariants as error
-use Rattle.csv.specs.declared.parser.Config.{Config}
 use Rattle.csv.specs.declared.parser.State.TheVariants as st
 use Rattle.csv.specs.declared.reader.Reader.{Reader}
 use Rattle.csv.specs.declared.reader.Trim.TheVariants as trim
 use Rattle.bsi_syntax.specs.Bytes.{KnownBytes}
 use Rattle.bsi_rows.specs.Fields.{Field}
-
--- How records are written whose fields have this byte between them. Double quotes enclose fields.
-abbrev pub config_of : ℕ → Config
-config_of delimiter = record default_config { delimiter = delimiter }
+use Rattle.bsi_input.specs.Formats.{config_of}
 
 -- All records of a text, after any byte order mark.
 abbrev pub AreTextRecords : ℕ → List ℕ → List (List Field) → Type 0

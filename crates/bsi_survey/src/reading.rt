@@ -4,7 +4,8 @@ ghost use Rattle.std.specs.Prelude.{◌≡◌, ◌⊎◌, IfErr, IfOk, OnOk, opt
 ghost use Rattle.csv.specs.Reading.{ReadRecord, error_kind, reader_config, reader_state, source_of, strip_bom};
 ghost use Rattle.csv.specs.Records.{fields_of};
 ghost use Rattle.csv.specs.declared.parser.State.TheVariants as st;
-ghost use Rattle.bsi_survey.specs.TextRecords.{config_of, IsReadFault, IsRecordReader};
+ghost use Rattle.bsi_input.specs.Formats.{config_of};
+ghost use Rattle.bsi_survey.specs.TextRecords.{IsReadFault, IsRecordReader};
 
 use csv::{ByteRecord, Reader, ReaderBuilder};
 use std::alloc::Global;

@@ -35,7 +35,7 @@ pub struct Survey {
 }
 
 impl Survey {
-    ghost use Rattle.std.specs.Prelude.{◌+◌, ◌<◌, ◌≤◌, ℕ, List, [], All, Err, slice_index_or, IfSome, IsSome, IsTrue, OnOk};
+    ghost use Rattle.std.specs.Prelude.{◌+◌, ◌<◌, ◌≤◌, ℕ, Bool, List, [], All, Err, slice_index_or, true, IfSome, IsSome, IsTrue, OnOk};
     ghost use Rattle.bsi_schema.specs.Columns.{max_columns};
     ghost use Rattle.bsi_rows.specs.Fields.{Field};
     ghost use Rattle.bsi_input.specs.Formats.{good_row};
@@ -45,7 +45,7 @@ impl Survey {
     ghost use Rattle.bsi_survey.specs.Made.{IsGoodField};
     ghost use Rattle.bsi_survey.specs.Titles.{AreDistinct, IsFirstRepeated};
     ghost use Rattle.bsi_survey.specs.Looking.{AcceptMore, AcceptsRecord, AreLookedFor};
-    ghost use Rattle.bsi_survey.specs.Surveys.{header_of, LookAlike, LooksFor, Surveys};
+    ghost use Rattle.bsi_survey.specs.Surveys.{header_of, FitsText, LookAlike, LooksFor, SeesText, Surveys};
     ghost use Rattle.bsi_survey.specs.TextRecords.{AreTextRecords};
 
     /// Goes once over a text. Its first record is the header. Each further record of as many fields is shown to the
@@ -61,6 +61,7 @@ impl Survey {
         ensures dialect { IfOk result (λ survey. survey.dialect ≡ options.now.dialect) }
         ensures looked { IfOk result (λ survey. AreLookedFor options.now.dialect.point
             options.now.texts.items survey.columns.items) }
+        ensures sees { IfOk result (λ survey. IfSome (R.remaining reader) (SeesText survey)) }
         ensures empty { result ≡ Err SourceFault.BadHeader → IfSome (R.remaining reader)
             (λ bytes. AreTextRecords options.now.dialect.delimiter bytes []) }
     {
@@ -80,6 +81,30 @@ impl Survey {
             columns,
             counts,
         })
+    }
+
+    /// Goes once over a further text, as `read` does, and shows its records to the columns, too. It returns false if the
+    /// text has another header; then nothing has changed. The fault is `BadHeader`, if the text has no record. After
+    /// another fault the columns may have seen some of the records.
+    pub fn read_more<R: Read + Drop>(&mut self, alloc: Global, reader: R) -> Result<bool, SourceFault>
+        ensures sees { IfOk result (λ same. same ≡ true → IfSome (R.remaining reader) (SeesText self.new)) }
+        ensures preserved { OnOk result ((bytes : List ℕ) → SeesText self.old bytes → SeesText self.new bytes) }
+        ensures looked { OnOk result ((texts : List Bool) →
+            AreLookedFor self.old.dialect.point texts self.old.columns.items →
+            AreLookedFor self.new.dialect.point texts self.new.columns.items) }
+    {
+        let mut input = record_reader(alloc, self.dialect.delimiter, reader);
+        let mut fields = ByteRecord::new(alloc);
+        if !read_next(&mut input, &mut fields)? {
+            return Err(SourceFault::BadHeader);
+        }
+        let header = list_fields(alloc, &fields)?;
+        if !are_same_fields(&self.header, &header) {
+            return Ok(false);
+        }
+        let words = usual_null_words(alloc)?;
+        observe_all(&mut input, &words, &mut fields, &mut self.columns, &mut self.counts)?;
+        Ok(true)
     }
 
     /// Returns how many records were read after the header.
@@ -138,6 +163,9 @@ impl Survey {
         ensures columns { IfOk result (λ l. length l.schema.columns ≡ length self.columns.items) }
         ensures titles { IfOk result (λ l. l.titles ≡ header_of self) }
         ensures dialect { IfOk result (λ l. l.dialect ≡ self.dialect) }
+
+        // Each text that was seen fits the schema.
+        ensures fits { IfOk result (λ l. (bytes : List ℕ) → SeesText self bytes → FitsText l bytes) }
 
         // No title tells two columns apart that have the same field of the header.
         ensures many { max_columns < length (header_of self) → result ≡ Err SchemaRefusal.TooManyColumns }

@@ -7,9 +7,11 @@ use Rattle.bsi_answers.specs.Runs.{HasLoaded}
 use Rattle.bsi_storage.specs.Faults.{AcceptsRowsOf}
 use Rattle.bsi_segments.specs.declared.version.Version.TheVariants.{Two}
 use Rattle.bsi_storage.specs.Saved.{head_segment, MayBeSaved}
-use Rattle.bsi_schema.specs.Columns.{Declared}
+use Rattle.bsi_logical.specs.TableSchemas.{format_of}
+use Rattle.bsi_store.specs.Kinds.{SaysSchema}
+use Rattle.bsi_store.proofs.Kinds.{bad_kinds, says_schema}
 use Rattle.bsi_store.specs.declared.fault.StoreFault.{StoreFault}
-use Rattle.bsi_store.specs.Saving.{IsAddFault, IsReadOf}
+use Rattle.bsi_store.specs.Saving.{IsAddFault, IsNotAboutBytes, IsReadOf}
 use Rattle.bsi_store.proofs.Failing.{not_loaded}
 use Rattle.bsi_store.proofs.add.add_and_summarize.Goals as goal
 use Rattle.bsi_table.specs.Index.{table_of}
@@ -27,12 +29,13 @@ returns-clause-added g c = λ before after reported.
     let read : IsReadOf g.S.Read.remaining c.args.paths.now.so_far (table_of saved.index) saved.notes.items saved.kinds.items (g.S.Read.remaining c.reread_if_changed.new.file) =
     c.in_ok-saved-2.ensures.read c.in_ok-saved.ensures.read in
     let follows : AcceptsRowsOf (table_of saved.index) saved.kinds.items table saved.kinds.items = c.in_ok-check_rows_fit.ensures.follows in
-    let schema_is : first.index.schema ≡ saved.index.schema = sym c.in_ok-more.ensures.schema ∙ follows.schema in
     let limit_is : first.index.limit ≡ saved.index.limit = sym c.in_ok-more.ensures.limit ∙ follows.limit in
     record {
       saved = table_of saved.index;
       opened = read.saved;
       ours = read.ours;
+      schema = c.in_ok-schema.schema;
+      says = subst (λ (kinds : List ℕ). SaysSchema kinds (table_of saved.index) c.in_ok-schema.schema) (sym read.kinds_are) c.in_ok-check_same_schema.ensures.says;
       more = table;
       feeders_are = follows.feeders;
       within = follows.within;
@@ -40,10 +43,9 @@ returns-clause-added g c = λ before after reported.
         files = c.in_ok-rows.rows.items;
         many = c.in_ok-rows.ensures.many ∙ ap length c.deref.ensures.value;
         counts = counts;
-        schema_is = follows.schema;
+        schema_is = follows.schema ∙ says_schema (saved.kinds.items) (table_of saved.index) c.in_ok-schema.schema c.in_ok-check_same_schema.ensures.says;
         limit_is = follows.limit;
-        loaded = λ texts are. subst (λ (n : ℕ). HasLoaded saved.index.schema n texts table.rows counts) limit_is
-            (subst (λ (s : Declared). HasLoaded s first.index.limit texts table.rows counts) schema_is (c.in_ok-more.ensures.rows texts are));
+        loaded = λ texts are. subst (λ (n : ℕ). HasLoaded (format_of c.in_ok-schema.schema) n texts table.rows counts) limit_is (c.in_ok-more.ensures.rows texts are);
         old = c.reread_if_changed.new.file;
         new = c.append_segment.new.file;
         valid = subst (λ (notes : List ℕ). MayBeSaved Two table notes read.saved.kinds) (sym read.notes_are)
@@ -65,7 +67,9 @@ returns-in_err-more-clause-fault g c =
     let reported = c.in_err-more.field-0.0 in
     let many : length c.in_ok-rows.rows.items ≡ length c.args.paths.now.rows.items = c.in_ok-rows.ensures.many ∙ ap length c.deref.ensures.value in
     let failed : IsAddFault rem so_far (length c.args.paths.now.rows.items) reported = subst (λ (n : ℕ). IsAddFault rem so_far n reported) many
-    (not_loaded rem so_far (table_of c.in_ok-saved.saved.index) c.in_ok-saved.ensures.read.saved c.in_ok-rows.rows.items c.args.paths.now.index reported c.in_err-more.ensures.fault) in
+    (not_loaded rem so_far (table_of c.in_ok-saved.saved.index) c.in_ok-saved.ensures.read.saved c.in_ok-schema.schema
+    (subst (λ (kinds : List ℕ). SaysSchema kinds (table_of c.in_ok-saved.saved.index) c.in_ok-schema.schema) (sym c.in_ok-saved.ensures.read.kinds_are) c.in_ok-schema.ensures.says)
+    c.in_ok-rows.rows.items c.args.paths.now.index reported c.in_err-more.ensures.fault) in
     let met : IfErr c.from_residual-in_err-more.result (λ (fault : StoreFault). fault ≡ reported) = search rules in
     if_err c.from_residual-in_err-more.result (λ fault is. subst (IsAddFault rem so_far (length c.args.paths.now.rows.items)) (sym is) failed) met
 
@@ -84,6 +88,8 @@ returns-in_err-check_rows_fit-clause-fault g c =
         record {
           first = table_of c.in_ok-saved.saved.index;
           opened = c.in_ok-saved.ensures.read.saved;
+          schema = c.in_ok-schema.schema;
+          says = subst (λ (kinds : List ℕ). SaysSchema kinds (table_of c.in_ok-saved.saved.index) c.in_ok-schema.schema) (sym c.in_ok-saved.ensures.read.kinds_are) c.in_ok-schema.ensures.says;
           files = c.in_ok-rows.rows.items;
           many = c.in_ok-rows.ensures.many ∙ ap length c.deref.ensures.value;
           rows = c.in_ok-more.more.table.rows;
@@ -97,3 +103,32 @@ returns-in_err-check_rows_fit-clause-fault g c =
     ] in
     let met : IfErr c.from_residual-in_err-check_rows_fit.result (λ (fault : StoreFault). fault ≡ reported) = search rules in
     if_err c.from_residual-in_err-check_rows_fit.result (λ fault is. subst (IsAddFault rem so_far (length c.args.paths.now.rows.items)) (sym is) failed) met
+
+-- the text of kinds says no schema, when it is read first
+pub returns-in_err-schema-clause-fault : goal.returns-in_err-schema-clause-fault
+returns-in_err-schema-clause-fault g c =
+    let rem = g.S.Read.remaining in
+    let so_far = c.args.paths.now.so_far in
+    let reported = c.in_err-schema.field-0.0 in
+    let read = c.in_ok-saved.ensures.read in
+    let failed : IsAddFault rem so_far (length c.args.paths.now.rows.items) reported = elim c.in_err-schema.ensures.fault [
+      | inl none ↦ inl (inl (subst IsNotAboutBytes (sym none) tt))
+      | inr bad ↦ inl (inr (c.args.paths.now.index, read.saved.file, bad_kinds rem so_far (table_of c.in_ok-saved.saved.index) read.saved c.in_ok-saved.saved.kinds.items c.args.paths.now.index reported read.kinds_are bad.0 bad.1))
+    ] in
+    let met : IfErr c.from_residual-in_err-schema.result (λ (fault : StoreFault). fault ≡ reported) = search rules in
+    if_err c.from_residual-in_err-schema.result (λ fault is. subst (IsAddFault rem so_far (length c.args.paths.now.rows.items)) (sym is) failed) met
+
+-- or then
+pub returns-in_err-check_same_schema-clause-fault : goal.returns-in_err-check_same_schema-clause-fault
+returns-in_err-check_same_schema-clause-fault g c =
+    let rem = g.S.Read.remaining in
+    let so_far = c.args.paths.now.so_far in
+    let reported = c.in_err-check_same_schema.field-0.0 in
+    let saved = c.in_ok-saved-2.saved in
+    let read : IsReadOf rem so_far (table_of saved.index) saved.notes.items saved.kinds.items (rem c.reread_if_changed.new.file) = c.in_ok-saved-2.ensures.read c.in_ok-saved.ensures.read in
+    let failed : IsAddFault rem so_far (length c.args.paths.now.rows.items) reported = elim c.in_err-check_same_schema.ensures.fault [
+      | inl none ↦ inl (inl none)
+      | inr bad ↦ inl (inr (c.args.paths.now.index, read.saved.file, bad_kinds rem so_far (table_of saved.index) read.saved saved.kinds.items c.args.paths.now.index reported read.kinds_are bad.0 bad.1))
+    ] in
+    let met : IfErr c.from_residual-in_err-check_same_schema.result (λ (fault : StoreFault). fault ≡ reported) = search rules in
+    if_err c.from_residual-in_err-check_same_schema.result (λ fault is. subst (IsAddFault rem so_far (length c.args.paths.now.rows.items)) (sym is) failed) met

@@ -1,30 +1,79 @@
-use Rattle.std.specs.Prelude.{IfOk, Result, Ok, Err}
+use Rattle.std.proofs.Common.{◌≡◌, inl, inr, refl, rules, subst, sym}
+use Rattle.std.specs.Prelude.{◌⊎◌, IfErr}
 use Rattle.bsi_answers.proofs.Passing.{if_err}
+use Rattle.bsi_answers.specs.declared.faults.FilesFault.TheVariants.{NoMemory}
+use Rattle.bsi_store.specs.Asked.{IsSavedIn}
+use Rattle.bsi_store.specs.Faults.{IsOfFile, NamesPath}
+use Rattle.bsi_store.specs.Kinds.{SaysNoSchema}
+use Rattle.bsi_store.specs.declared.fault.FileFault.TheVariants.{BadKinds}
+use Rattle.bsi_store.specs.declared.fault.StoreFault.{StoreFault}
+use Rattle.bsi_store.specs.declared.fault.StoreFault.TheVariants.{Run, Unusable}
+use Rattle.bsi_store.proofs.Kinds.{bad_kinds}
 use Rattle.bsi_store.proofs.Named.{file_is, file_named}
 use Rattle.bsi_store.proofs.opening.open_index.Goals as goal
+use Rattle.bsi_table.specs.Index.{table_of}
 
--- what follows from what is so of a result, and from what is so under a condition
-all : {A E C : Type 0} {P K Q R : A → Type 0} (r : Result A E) → IfOk r P → IfOk r K → (C → IfOk r Q) → ((x : A) → P x → K x → (C → Q x) → R x) → IfOk r R
-all (Ok x) is known under follows = follows x is known under
-all (Err e) is known under follows = tt
+pub returns-clause-opened : goal.returns-clause-opened
+returns-clause-opened g c =
+    let saved = c.in_ok-saved.saved in
+    record {
+      saved = record {
+        file = c.in_ok-file.file;
+        after = g.S.Read.remaining c.read_saved.new.file;
+        notes = saved.notes.items;
+        kinds = saved.kinds.items;
+        size = saved.bytes;
+        fault = saved.fault;
+        opened = c.in_ok-saved.ensures.opened;
+        known = c.in_ok-saved.ensures.known;
+        whole = c.in_ok-saved.ensures.whole;
+      };
+      says = c.in_ok-schema.ensures.says;
+    }
 
-pub returns-clause-saved : goal.returns-clause-saved
-returns-clause-saved g c =
-    all c.read_saved.result c.read_saved.ensures.opened c.read_saved.ensures.known c.read_saved.ensures.whole (λ opened is known whole. record {
+-- the file was not read
+pub returns-in_err-saved-clause-named : goal.returns-in_err-saved-clause-named
+returns-in_err-saved-clause-named g c =
+    let reported = c.in_err-saved.field-0.0 in
+    let met : IfErr c.from_residual-in_err-saved.result (λ (fault : StoreFault). fault ≡ reported) = search rules in
+    if_err c.from_residual-in_err-saved.result
+    (λ fault is. subst (NamesPath (λ named. named ≡ c.args.path)) (sym is) (file_named c.args.path (g.S.Read.remaining c.in_ok-file.file) reported c.in_err-saved.ensures.fault)) met
+
+pub returns-in_err-saved-clause-fault : goal.returns-in_err-saved-clause-fault
+returns-in_err-saved-clause-fault g c =
+    let reported = c.in_err-saved.field-0.0 in
+    let met : IfErr c.from_residual-in_err-saved.result (λ (fault : StoreFault). fault ≡ reported) = search rules in
+    if_err c.from_residual-in_err-saved.result
+    (λ fault is. subst (IsOfFile g.S.Read.remaining) (sym is) (file_is g.S.Read.remaining c.args.path c.in_ok-file.file reported c.in_err-saved.ensures.fault)) met
+
+-- its text of kinds says no schema
+pub returns-in_err-schema-clause-named : goal.returns-in_err-schema-clause-named
+returns-in_err-schema-clause-named g c =
+    let reported = c.in_err-schema.field-0.0 in
+    let met : IfErr c.from_residual-in_err-schema.result (λ (fault : StoreFault). fault ≡ reported) = search rules in
+    if_err c.from_residual-in_err-schema.result (λ fault is. subst (NamesPath (λ named. named ≡ c.args.path)) (sym is) (elim c.in_err-schema.ensures.fault [
+      | inl none ↦ subst (NamesPath (λ named. named ≡ c.args.path)) (sym none) tt
+      | inr bad ↦ subst (NamesPath (λ named. named ≡ c.args.path)) (sym bad.0) (refl {a = c.args.path})
+    ])) met
+
+pub returns-in_err-schema-clause-fault : goal.returns-in_err-schema-clause-fault
+returns-in_err-schema-clause-fault g c =
+    let rem = g.S.Read.remaining in
+    let read = c.in_ok-saved.saved in
+    let reported = c.in_err-schema.field-0.0 in
+    let saved : IsSavedIn rem c.args.so_far (table_of read.index) = record {
       file = c.in_ok-file.file;
-      after = g.S.Read.remaining c.read_saved.new.file;
-      notes = opened.notes.items;
-      kinds = opened.kinds.items;
-      size = opened.bytes;
-      fault = opened.fault;
-      opened = is;
-      known = known;
-      whole = whole;
-    })
-
-pub returns-clause-named : goal.returns-clause-named
-returns-clause-named g c = if_err c.read_saved.result (λ fault is. file_named c.args.path (g.S.Read.remaining c.in_ok-file.file) fault is) c.read_saved.ensures.fault
-
-pub returns-clause-fault : goal.returns-clause-fault
-returns-clause-fault g c =
-    if_err c.read_saved.result (λ fault is. file_is g.S.Read.remaining c.args.path c.in_ok-file.file fault is) c.read_saved.ensures.fault
+      after = rem c.read_saved.new.file;
+      notes = read.notes.items;
+      kinds = read.kinds.items;
+      size = read.bytes;
+      fault = read.fault;
+      opened = c.in_ok-saved.ensures.opened;
+      known = c.in_ok-saved.ensures.known;
+      whole = c.in_ok-saved.ensures.whole;
+    } in
+    let met : IfErr c.from_residual-in_err-schema.result (λ (fault : StoreFault). fault ≡ reported) = search rules in
+    if_err c.from_residual-in_err-schema.result (λ fault is. subst (IsOfFile rem) (sym is) (elim c.in_err-schema.ensures.fault [
+      | inl none ↦ subst (IsOfFile rem) (sym none) tt
+      | inr bad ↦ file_is rem c.args.path c.in_ok-file.file reported (bad_kinds rem c.args.so_far (table_of read.index) saved read.kinds.items c.args.path reported refl bad.0 bad.1)
+    ])) met

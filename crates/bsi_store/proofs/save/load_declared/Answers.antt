@@ -5,6 +5,7 @@ use Rattle.bsi_answers.specs.Faults.{schema_fault}
 use Rattle.bsi_answers.specs.RowFiles.{fed_counts}
 use Rattle.bsi_answers.specs.Runs.{HasLoaded}
 use Rattle.bsi_answers.specs.declared.faults.FilesFault.{FilesFault}
+use Rattle.bsi_input.specs.RowFiles.{plain_format}
 use Rattle.bsi_input.specs.SchemaTexts.{IsSchemaText}
 use Rattle.bsi_schema.specs.Columns.{Declared}
 use Rattle.bsi_store.specs.Saving.{HasFailedRun}
@@ -25,8 +26,8 @@ pub returns-clause-rows : goal.returns-clause-rows
 returns-clause-rows g c = λ texts are.
     let table = c.in_ok-loaded.loaded.table in
     let counts = map fed_counts c.in_ok-loaded.loaded.fed.items in
-    subst (λ (n : ℕ). HasLoaded table.schema n texts table.rows counts) (sym c.in_ok-loaded.ensures.limit)
-    (subst (λ (s : Declared). HasLoaded s c.in_ok-schema.field-0.limit texts table.rows counts) (sym c.in_ok-loaded.ensures.schema)
+    subst (λ (n : ℕ). HasLoaded (plain_format table.schema) n texts table.rows counts) (sym c.in_ok-loaded.ensures.limit)
+    (subst (λ (s : Declared). HasLoaded (plain_format s) c.in_ok-schema.field-0.limit texts table.rows counts) (sym c.in_ok-loaded.ensures.schema)
     (c.in_ok-loaded.ensures.rows c.requires.never texts are))
 
 pub returns-then-len-clause-fault : goal.returns-then-len-clause-fault
@@ -49,7 +50,7 @@ returns-in_err-loaded-clause-fault g c =
     let limit = c.in_ok-schema.field-0.limit in
     let declared : IfSome (rem c.args.schema) (λ bytes. IsSchemaText bytes schema limit) = search rules in
     let failed : HasFailedRun rem (length c.args.rows.items) run = failed_load rem c.args.schema c.args.rows.items schema limit run declared
-    (load_fault g.G.Stopping.STOPS schema limit (map rem c.args.rows.items) run c.requires.never c.in_err-loaded.ensures.counted c.in_err-loaded.ensures.follows_output
+    (load_fault g.G.Stopping.STOPS (plain_format schema) limit (map rem c.args.rows.items) run c.requires.never c.in_err-loaded.ensures.counted c.in_err-loaded.ensures.follows_output
     c.in_err-loaded.ensures.fault) in
     let met : IfErr c.from_residual-in_err-loaded.result (λ (fault : FilesFault). fault ≡ run) = search rules in
     if_err c.from_residual-in_err-loaded.result (λ fault is. subst (HasFailedRun rem (length c.args.rows.items)) (sym is) failed) met

@@ -1,6 +1,7 @@
 use Rattle.std.proofs.Common.{ℕ, List, Vec, Global, arith, map, subst}
 use Rattle.std.proofs.lemmas.List.{length-map}
 use Rattle.bsi_survey.specs.Titles.{AreDistinct, IsFirstRepeated}
+use Rattle.bsi_survey.proofs.Seeing.{fits_all}
 use Rattle.bsi_survey.proofs.Distinct.{first_only, none_repeated}
 use Rattle.bsi_survey.proofs.survey.Survey.make_schema.Goals as goal
 
@@ -27,3 +28,8 @@ pub returns-in-None-clause-many : goal.returns-in-None-clause-many
 returns-in-None-clause-many c = λ high.
     let seen : Vec ℕ Global → List ℕ = λ field. field.items in
     absurd (omega (arith, high, c.if-len.false, length-map c.args.self.header.items seen))
+
+pub returns-in-None-clause-fits : goal.returns-in-None-clause-fits
+returns-in-None-clause-fits c =
+    let seen : Vec ℕ Global → List ℕ = λ field. field.items in
+    fits_all c.args.self c.make_titled.result (omega (arith, length-map c.args.self.header.items seen)) c.make_titled.ensures.header c.make_titled.ensures.rows c.make_titled.ensures.dialect

@@ -1,4 +1,4 @@
-use Rattle.std.proofs.Common.{◌≡◌, ◌++◌, ℕ, List, Vec, Global, true, false, length, map, take, drop, ap, arith, rules, subst, sym}
+use Rattle.std.proofs.Common.{◌≡◌, ◌++◌, ℕ, List, Vec, Global, true, false, length, map, take, drop, ap, arith, refl, rules, subst, sym}
 use Rattle.std.proofs.lemmas.List.{length-map}
 use Rattle.csv.specs.Reading.{ReadRecord}
 use Rattle.csv.specs.Records.{fields_of}
@@ -7,6 +7,7 @@ use Rattle.bsi_survey.specs.Looking.{AreLookedFor}
 use Rattle.bsi_survey.specs.Surveys.{HaveObservedAll}
 use Rattle.bsi_survey.proofs.Lists.{written}
 use Rattle.bsi_survey.proofs.Records.{no_record}
+use Rattle.bsi_survey.proofs.Seeing.{all_sees}
 use Rattle.bsi_survey.proofs.Surveying.{still_looked, surveyed}
 use Rattle.bsi_survey.proofs.survey.Survey.read.Goals as goal
 
@@ -56,3 +57,6 @@ returns-clause-looked g c =
     let same : take c.in_ok-columns.columns.len (new ++ drop (length new) first) ≡ new = written first new c.in_ok-columns.columns.len (omega (arith, c.in_ok-columns.columns.ok.0)) all.observed.len in
     subst (λ (cs : List Candidates). AreLookedFor c.args.options.now.dialect.point c.args.options.now.texts.items cs) (sym same)
     (still_looked g.R.Read.remaining words b first new c.new-counts.result c.observe_all.new.counts all c.args.options.now.dialect.point c.args.options.now.texts.items c.in_ok-columns.ensures.looked)
+
+pub returns-clause-sees : goal.returns-clause-sees
+returns-clause-sees g c = all_sees c.args.options.now _ (g.R.Read.remaining c.args.reader) refl (returns-clause-surveys g c)

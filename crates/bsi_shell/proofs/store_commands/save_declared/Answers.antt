@@ -1,6 +1,6 @@
 use Rattle.bsi_answers.proofs.Passing.{if_err_both}
 use Rattle.bsi_shell.proofs.Flushing.{flushed, reported_end}
-use Rattle.bsi_shell.proofs.store_commands.answer_save.Goals as goal
+use Rattle.bsi_shell.proofs.store_commands.save_declared.Goals as goal
 
 pub returns-clause-saved : goal.returns-clause-saved
 returns-clause-saved g c = λ zero.

@@ -1,0 +1,107 @@
+//! Writes on stderr why no schema of kinds was found for row files.
+ghost use Rattle.bsi_shell.specs.FaultLines.{IsSomeTextWritten};
+
+use crate::fault_lines::write_store_fault;
+use bsi_files::FilesFault;
+use bsi_inference::Doubt;
+use bsi_input::SourceFault;
+use bsi_rows::NoMemory;
+use bsi_store::{StoreFault, SurveyFault};
+use bsi_survey::{ColumnDoubt, SchemaRefusal};
+use bsi_text::{WriteFault, write_bytes};
+use itoa::Buffer;
+use std::alloc::Global;
+use std::io::Write;
+
+/// Writes the lines of a fault: one, or one for each column that is in doubt.
+pub(crate) fn write_survey_fault<F: Write>(
+    alloc: Global,
+    fault: SurveyFault<'_>,
+    stderr: &mut F,
+) -> Result<(), WriteFault>
+    ensures { IsSomeTextWritten result (F.contents stderr.old) (F.contents stderr.new) }
+{
+    if let SurveyFault::Store(fault) = fault {
+        return write_store_fault(fault, stderr);
+    }
+    match make_lines(alloc, &fault) {
+        Ok(text) => write_bytes(stderr, text.as_slice()),
+        Err(NoMemory) => write_store_fault(StoreFault::Run(FilesFault::NoMemory), stderr),
+    }
+}
+
+/// Makes the lines of a fault.
+fn make_lines(alloc: Global, fault: &SurveyFault<'_>) -> Result<Vec<u8>, NoMemory> {
+    let mut text = Vec::new(alloc);
+    match fault {
+        SurveyFault::Store(_) => {}
+        SurveyFault::NotTwice(path) => {
+            push_path(path, "is no file that can be read twice: give --schema", &mut text)?;
+        }
+        SurveyFault::Unread(path, fault) => push_path(path, unread_text(*fault), &mut text)?,
+        SurveyFault::OtherHeader(path) => {
+            push_path(path, "has another header than the first file", &mut text)?;
+        }
+        SurveyFault::Refused(refusal) => push_refusal(refusal, &mut text)?,
+    }
+    Ok(text)
+}
+
+/// Returns why a file was not surveyed.
+fn unread_text(fault: SourceFault) -> &'static str {
+    match fault {
+        SourceFault::BadHeader => "has no header",
+        fault => fault.text(),
+    }
+}
+
+/// Appends the line of a path.
+fn push_path(path: &str, why: &str, text: &mut Vec<u8>) -> Result<(), NoMemory> {
+    push_each(&["bsi: ", path, ": ", why, "\n"], text)
+}
+
+/// Appends texts, one after another.
+fn push_each(parts: &[&str], text: &mut Vec<u8>) -> Result<(), NoMemory> {
+    'parts: for part in parts {
+        text.extend_from_slice(part.as_bytes())?;
+    }
+    Ok(())
+}
+
+/// Appends the lines of why a survey makes no schema.
+fn push_refusal(refusal: &SchemaRefusal, text: &mut Vec<u8>) -> Result<(), NoMemory> {
+    match refusal {
+        SchemaRefusal::TooManyColumns => push_each(&["bsi: more than 64 columns\n"], text),
+        SchemaRefusal::RepeatedField(c) => {
+            let mut number = Buffer::new();
+            let column = number.format(c.saturating_add(1));
+            push_each(
+                &["bsi: column ", column, " has the title of a column before it\n"],
+                text,
+            )
+        }
+        SchemaRefusal::Doubts(doubts) => push_doubts(doubts, text),
+        SchemaRefusal::Undeclared(why) => push_each(&["bsi: ", why.text(), "\n"], text),
+        SchemaRefusal::NoMemory => Err(NoMemory),
+    }
+}
+
+/// Appends a line for each column that is in doubt.
+fn push_doubts(doubts: &[ColumnDoubt], text: &mut Vec<u8>) -> Result<(), NoMemory> {
+    'doubts: for doubt in doubts {
+        push_each(&["bsi: column '"], text)?;
+        text.extend_from_slice(doubt.title.as_slice())?;
+        push_each(&["' ", doubt_text(doubt.doubt), "\n"], text)?;
+    }
+    Ok(())
+}
+
+/// Returns why the fields of a column do not decide its kind.
+fn doubt_text(doubt: Doubt) -> &'static str {
+    match doubt {
+        Doubt::TooManyDigits(_) => "has numbers of more digits than 63 bits hold",
+        Doubt::TwoOrders(_) => "has dates that may begin with the day or with the month",
+        Doubt::TextsMissing => "has texts behind other values",
+        Doubt::TooManyTexts => "has more than 65,536 texts",
+    }
+}

@@ -1,0 +1,34 @@
+-- A text of kinds that says no schema of a saved table is a fault of its file.
+use Rattle.std.proofs.Common.{◌≡◌, Bool, List, inr, subst, sym}
+use Rattle.std.specs.Borrow.{Bor}
+use Rattle.std.specs.Prelude.{ℕ}
+use Rattle.bsi_rows.specs.Table.{Table}
+use Rattle.bsi_store.specs.Asked.{IsSavedIn}
+use Rattle.bsi_store.specs.Faults.{IsFileFault}
+use Rattle.bsi_logical.specs.TableSchemas.{format_of}
+use Rattle.bsi_logical.specs.declared.table_schema.TableSchema.{TableSchema}
+use Rattle.bsi_logical.specs.declared.table_schema.TableSchema.TheVariants.{Logical, Plain}
+use Rattle.bsi_store.specs.Kinds.{SaysNoSchema, SaysSchema}
+use Rattle.bsi_store.specs.declared.fault.FileFault.TheVariants.{BadKinds}
+use Rattle.bsi_store.specs.declared.fault.StoreFault.{StoreFault}
+use Rattle.bsi_store.specs.declared.fault.StoreFault.TheVariants.{Unusable}
+use Rattle.bsi_syntax.specs.Bytes.{Bytes, KnownBytes}
+
+pub bad_kinds : {S : Type 0} (rem : S → KnownBytes) (so_far : Bool) (table : Table) (saved : IsSavedIn rem so_far table) (kinds : Bytes) (path : Bor (List ℕ)) (fault : StoreFault)
+    → saved.kinds ≡ kinds → fault ≡ Unusable path BadKinds → SaysNoSchema kinds table → IsFileFault path (rem saved.file) fault
+bad_kinds rem so_far table saved kinds path fault same is none = inr (inr (record {
+  after = saved.after;
+  table = table;
+  notes = saved.notes;
+  kinds = saved.kinds;
+  size = saved.size;
+  fault = saved.fault;
+  opened = saved.opened;
+  bad = subst (λ (k : Bytes). SaysNoSchema k table) (sym same) none;
+  reported_is = is;
+}))
+
+-- the columns of a schema that is said are those of the table
+pub says_schema : (kinds : Bytes) (table : Table) (schema : TableSchema) → SaysSchema kinds table schema → table.schema ≡ (format_of schema).schema
+says_schema kinds table (Plain schema) says = sym says.1
+says_schema kinds table (Logical logical) says = sym says.1

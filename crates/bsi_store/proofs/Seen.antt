@@ -1,0 +1,40 @@
+-- Row files that a survey has seen.
+use Rattle.std.proofs.Common.{◌≡◌, ◌+◌, ℕ, true, List, [], ◌∷◌, ◌++◌, Some, None, All, IfOk, IfSome, Result, Ok, Err, length, length-append, get_or, arith, refl, subst, ◌∙◌}
+use Rattle.std.specs.Prelude.{OnOk}
+use Rattle.std.proofs.lemmas.List.Elements.{All-nil, All-push}
+use Rattle.bsi_logical.specs.Logical.{Logical}
+use Rattle.bsi_store.specs.Surveyed.{HasSeen, HasSurveyed}
+use Rattle.bsi_survey.specs.Surveys.{FitsText, SeesText}
+use Rattle.bsi_survey.specs.declared.survey.Survey.{Survey}
+use Rattle.bsi_syntax.specs.Bytes.{KnownBytes}
+
+if_some : (known : KnownBytes) (P Q : List ℕ → Type 0) → ((bytes : List ℕ) → P bytes → Q bytes) → IfSome known P → IfSome known Q
+if_some None P Q follows holds = tt
+if_some (Some bytes) P Q follows holds = follows bytes holds
+
+module _ {S : Type 0} (rem : S → KnownBytes) where
+  -- the first file
+  pub seen_first : (file : S) (survey : Survey) → IfSome (rem file) (SeesText survey) → HasSeen rem 1 survey
+  seen_first file survey sees = record {
+    files = file ∷ [];
+    many = refl;
+    seen = All-push (λ (f : S). IfSome (rem f) (SeesText survey)) [] file (All-nil (λ (f : S). IfSome (rem f) (SeesText survey))) sees;
+  }
+
+  -- one more
+  pub seen_more : (count : ℕ) (old new : Survey) (file : S) → HasSeen rem count old → ((bytes : List ℕ) → SeesText old bytes → SeesText new bytes)
+      → IfSome (rem file) (SeesText new) → HasSeen rem (count + 1) new
+  seen_more count old new file has still sees = record {
+    files = has.files ++ file ∷ [];
+    many = omega (arith, length-append has.files (file ∷ []), has.many);
+    seen = All-push (λ (f : S). IfSome (rem f) (SeesText new)) has.files file
+        (λ k d within. if_some (rem (get_or has.files k d)) (SeesText old) (SeesText new) still (has.seen k d within)) sees;
+  }
+
+  -- the schema that is made of the survey
+  pub surveyed : (count : ℕ) (survey : Survey) (l : Logical) → HasSeen rem count survey → ((bytes : List ℕ) → SeesText survey bytes → FitsText l bytes) → HasSurveyed rem count l
+  surveyed count survey l has fits = record {
+    files = has.files;
+    many = has.many;
+    fit = λ k d within. if_some (rem (get_or has.files k d)) (SeesText survey) (FitsText l) fits (has.seen k d within);
+  }

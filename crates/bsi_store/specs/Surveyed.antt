@@ -1,0 +1,19 @@
+-- What a survey of row files says of the schema that it makes (`HasSurveyed`).
+use Rattle.std.specs.Prelude.{◌≡◌, ℕ, List, All, IfSome, length}
+use Rattle.bsi_logical.specs.Logical.{Logical}
+use Rattle.bsi_survey.specs.Surveys.{FitsText, SeesText}
+use Rattle.bsi_survey.specs.declared.survey.Survey.{Survey}
+use Rattle.bsi_syntax.specs.Bytes.{KnownBytes}
+
+-- So many files were opened, and a survey has seen the text of each whose bytes are known.
+pub record HasSeen {S : Type 0} (rem : S → KnownBytes) (count : ℕ) (survey : Survey) : Type 0 where
+  pub files : List S
+  pub many : length files ≡ count
+  pub seen : All (λ file. IfSome (rem file) (SeesText survey)) files
+
+-- So many files were opened, and the text of each whose bytes are known fits the schema: its header has the titles, and
+-- each of its records that is as long as the header is a row.
+pub record HasSurveyed {S : Type 0} (rem : S → KnownBytes) (count : ℕ) (l : Logical) : Type 0 where
+  pub files : List S
+  pub many : length files ≡ count
+  pub fit : All (λ file. IfSome (rem file) (FitsText l)) files
