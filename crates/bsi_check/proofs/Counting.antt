@@ -1,6 +1,7 @@
 -- The records of a row file, good ones and bad ones, one after another.
 use Rattle.std.proofs.Common.{◌≡◌, ℕ, ◌+◌, ◌<◌, ◌≤◌, true, false, List, [], ◌∷◌, ◌++◌, Option, Some, None, IfSome, is_some, option_map, refl, sym, ap₂, subst, arith}
-use Rattle.csv.specs.Reading.{ReadRecord, source_of, strip_bom}
+use Rattle.csv.specs.Reading.{ReadRecord, default_config, source_of, strip_bom}
+use Rattle.csv.specs.declared.parser.Config.{Config}
 use Rattle.csv.specs.declared.reader.Reader.{Reader}
 use Rattle.bsi_rows.specs.Rows.{Entries}
 use Rattle.bsi_syntax.specs.Bytes.{KnownBytes}
@@ -8,7 +9,7 @@ use Rattle.bsi_rows.specs.Fields.{Field}
 use Rattle.bsi_schema.specs.Columns.{Declared}
 use Rattle.bsi_input.specs.Formats.{good_row, max_records}
 use Rattle.bsi_input.specs.RowFiles.{is_header}
-use Rattle.bsi_input.specs.Sources.{counts_of, Counts, HasReadRows, IsAfterHeader, IsPlainReader, Layout}
+use Rattle.bsi_input.specs.Sources.{counts_of, Counts, HasReadRows, HasNextBy, HasReadBy, IsAfterHeader, IsReaderBy, Layout}
 use Rattle.bsi_input.proofs.Joining.{is_whole, taken_both}
 use Rattle.bsi_input.proofs.Taking.{has_more, is_over, of_text, taken_bad, taken_good, taken_none, AreTaken}
 use Rattle.bsi_check.specs.Checks.{layout_of, HasCounted, HasTooManyRecords, IsCountedFile}
@@ -18,11 +19,11 @@ use Rattle.bsi_check.specs.declared.finding.FileCounts.{FileCounts}
 pub record AreCounted {R : Type 0} (rem : R → KnownBytes) (layout : Layout) (old new : Reader R) (records bad : ℕ) : Type 0 where
   pub rows : List Entries
   pub read_so_far : HasReadRows rem layout old new (counts_of 0 0) (counts_of records bad) rows
-  pub plain : IsPlainReader new
+  pub plain : IsReaderBy layout.format.config new
   pub few : records ≤ layout.format.most
   pub fewer : bad ≤ records
 
-pub counted_none : {R : Type 0} (rem : R → KnownBytes) (layout : Layout) (input : Reader R) → IsPlainReader input → AreCounted rem layout input input 0 0
+pub counted_none : {R : Type 0} (rem : R → KnownBytes) (layout : Layout) (input : Reader R) → IsReaderBy layout.format.config input → AreCounted rem layout input input 0 0
 counted_none rem layout input plain = record {
   rows = [];
   read_so_far = taken_none rem layout input (counts_of 0 0);
@@ -43,7 +44,7 @@ module _ {R : Type 0} (rem : R → KnownBytes) (layout : Layout) (old b : Reader
     counts = record { few = are.few; bad = are.fewer };
   }
 
-  pub counted_good : (c : Reader R) (fields : List Field) → ReadRecord rem b c true fields → IsPlainReader c → records < layout.format.most
+  pub counted_good : (c : Reader R) (fields : List Field) → ReadRecord rem b c true fields → IsReaderBy layout.format.config c → records < layout.format.most
       → true ≡ is_some (good_row layout.format layout.header fields) → AreCounted rem layout old c (records + 1) bad
   counted_good c fields next plain few good = by (good_row layout.format layout.header fields) refl good
     where
@@ -58,7 +59,7 @@ module _ {R : Type 0} (rem : R → KnownBytes) (layout : Layout) (old b : Reader
         fewer = omega (arith, are.fewer);
       }
 
-  pub counted_bad : (c : Reader R) (fields : List Field) → ReadRecord rem b c true fields → IsPlainReader c → records < layout.format.most
+  pub counted_bad : (c : Reader R) (fields : List Field) → ReadRecord rem b c true fields → IsReaderBy layout.format.config c → records < layout.format.most
       → false ≡ is_some (good_row layout.format layout.header fields) → AreCounted rem layout old c (records + 1) (bad + 1)
   counted_bad c fields next plain few good = by (good_row layout.format layout.header fields) refl good
     where
@@ -84,14 +85,14 @@ module _ {R : Type 0} (rem : R → KnownBytes) (layout : Layout) (old b : Reader
   }
 
   -- the most records were read, and there is one more
-  pub counted_long : (c : Reader R) (fields : List Field) → layout.format.most ≡ max_records → max_records ≤ records → ReadRecord rem b c true fields
+  pub counted_long : (c : Reader R) (fields : List Field) → layout.format.config ≡ default_config → layout.format.most ≡ max_records → max_records ≤ records → ReadRecord rem b c true fields
       → HasTooManyRecords rem old
-  counted_long c fields plain most next = record {
+  counted_long c fields config plain most next = record {
     at = b;
     records = are.read_so_far.records;
-    read = are.read_so_far.read;
+    read = subst (λ (by : Config). HasReadBy by rem old b are.read_so_far.records) config are.read_so_far.read;
     many = omega (arith, are.read_so_far.read_so_far, are.few, plain, most);
-    more = has_more rem old b c fields are.plain.config next;
+    more = subst (λ (by : Config). HasNextBy by rem b) config (has_more rem old b c fields are.plain.config next);
   }
 
 -- a file whose header was read, and then its records

@@ -11,7 +11,7 @@ use Rattle.bsi_rows.specs.declared.query.Query.{Query}
 use Rattle.bsi_schema.specs.Columns.{Declared}
 use Rattle.bsi_input.specs.Formats.{max_records}
 use Rattle.bsi_input.specs.RowFiles.{is_header, plain_format}
-use Rattle.bsi_input.specs.Sources.{counts_of, HasNext, HasNoHeader, HasReadRecords, HasReadRows, IsOver, IsWholeFile, Layout}
+use Rattle.bsi_input.specs.Sources.{counts_of, HasNext, HasNoHeader, HasReadRecords, HasReadRows, IsOverBy, IsWholeFile, Layout}
 use Rattle.bsi_input.specs.Texts.{AreAllRecords, AreFirstRecords, AreTooMany}
 use Rattle.bsi_input.specs.declared.rows.SourceFault.TheVariants as source
 use Rattle.bsi_check.specs.declared.finding.AsksFinding.{AsksFinding}
@@ -35,7 +35,7 @@ pub record HasCounted {R : Type 0} (rem : R → KnownBytes) (layout : Layout) (i
   -- Up to `at`, all records and the bad ones were counted, and the good ones have the rows.
   pub read_so_far : HasReadRows rem layout input at (counts_of 0 0) (counts_of counts.records counts.bad) rows
   -- No record is left.
-  pub over : IsOver rem at
+  pub over : IsOverBy layout.format.config rem at
 
 -- More than 1,000,000 records can be read from the input.
 pub record HasTooManyRecords {R : Type 0} (rem : R → KnownBytes) (input : Reader R) : Type 0 where

@@ -3,7 +3,7 @@ use Rattle.csv.specs.Reading.{ReadRecord}
 use Rattle.csv.specs.Records.{fields_of}
 use Rattle.bsi_schema.specs.Columns.{Declared}
 use Rattle.bsi_input.proofs.Taking.{stands_after}
-use Rattle.bsi_input.specs.RowFiles.{is_header}
+use Rattle.bsi_input.specs.RowFiles.{is_header, plain_format}
 use Rattle.bsi_input.specs.Sources.{plain_layout, LayoutOf}
 use Rattle.bsi_check.specs.Checks.{layout_of, HasCounted}
 use Rattle.bsi_check.proofs.Counting.{counted_text}
@@ -20,7 +20,7 @@ returns-clause-finding g c = λ bytes known.
     let next : ReadRecord g.I.Read.remaining start input true header = search rules in
     let named : is_header c.args.schema.now header ≡ true = search rules in
     counted_text g.I.Read.remaining c.args.schema.now header start input c.in_ok-counts.counts (Some bytes) named known
-    (stands_after g.I.Read.remaining start input header c.requires.plain.config c.requires.start layout refl next)
+    (stands_after g.I.Read.remaining start input header (plain_format c.args.schema.now) c.requires.plain.config c.requires.start header refl next)
     (subst (λ (l : LayoutOf Declared). HasCounted g.I.Read.remaining (plain_layout l) input c.in_ok-counts.counts) c.in_ok-layout.ensures c.in_ok-counts.ensures.counted)
 
 -- the header was read, and then too many records

@@ -70,4 +70,4 @@ pub returns-then-branch-clause-too_long : goal.returns-then-branch-clause-too_lo
 returns-then-branch-clause-too_long g c = λ is.
     let next : ReadRecord g.I.Read.remaining c.records.input c.read_next-2.new.input true (fields_of c.read_next-2.new.fields) = search rules in
     counted_long g.I.Read.remaining (plain_layout c.args.layout.now) c.args.input.now c.records.input c.records.records c.records.bad
-    c.records.invariant.counted c.read_next-2.new.input (fields_of c.read_next-2.new.fields) refl (omega (arith, c.records-test.false)) next
+    c.records.invariant.counted c.read_next-2.new.input (fields_of c.read_next-2.new.fields) refl refl (omega (arith, c.records-test.false)) next

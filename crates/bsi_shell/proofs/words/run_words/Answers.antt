@@ -63,7 +63,7 @@ returns-clause-unshown g c = λ one command.
 
 -- each command, by what it took from the words
 pub returns-in-Save-clause-unsaved : goal.returns-in-Save-clause-unsaved
-returns-in-Save-clause-unsaved g c = λ one command. inl (c.in-Save.paths, c.answer_save.ensures.reported one)
+returns-in-Save-clause-unsaved g c = λ one command. inl (c.in-Save.request, c.answer_save.ensures.reported one)
 
 pub returns-in-Add-clause-unadded : goal.returns-in-Add-clause-unadded
 returns-in-Add-clause-unadded g c = λ one command. inl (c.in-Add.paths, c.answer_add.ensures.reported one)
@@ -76,7 +76,7 @@ returns-in-Show-clause-unshown g c = λ one command. inl (c.in-Show.path, c.answ
 
 -- and what it did by them
 pub returns-in-Save-clause-saved : goal.returns-in-Save-clause-saved
-returns-in-Save-clause-saved g c = λ zero command. (c.in-Save.paths, c.answer_save.ensures.saved zero)
+returns-in-Save-clause-saved g c = λ zero command. (c.in-Save.request, c.answer_save.ensures.saved zero)
 
 pub returns-in-Add-clause-added : goal.returns-in-Add-clause-added
 returns-in-Add-clause-added g c = λ zero command. (c.in-Add.paths, c.answer_add.ensures.added zero)
