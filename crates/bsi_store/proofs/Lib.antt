@@ -1,5 +1,5 @@
 mod Failing
-mod Kinds
 mod Named
 mod Notes
+mod SaidKinds
 mod Seen

@@ -9,7 +9,7 @@ use Rattle.bsi_segments.specs.declared.version.Version.TheVariants.{Two}
 use Rattle.bsi_storage.specs.Saved.{head_segment, MayBeSaved}
 use Rattle.bsi_logical.specs.TableSchemas.{format_of}
 use Rattle.bsi_store.specs.Kinds.{SaysSchema}
-use Rattle.bsi_store.proofs.Kinds.{bad_kinds, says_schema}
+use Rattle.bsi_store.proofs.SaidKinds.{bad_kinds, says_schema}
 use Rattle.bsi_store.specs.declared.fault.StoreFault.{StoreFault}
 use Rattle.bsi_store.specs.Saving.{IsAddFault, IsNotAboutBytes, IsReadOf}
 use Rattle.bsi_store.proofs.Failing.{not_loaded}

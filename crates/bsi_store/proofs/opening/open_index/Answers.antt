@@ -8,7 +8,7 @@ use Rattle.bsi_store.specs.Kinds.{SaysNoSchema}
 use Rattle.bsi_store.specs.declared.fault.FileFault.TheVariants.{BadKinds}
 use Rattle.bsi_store.specs.declared.fault.StoreFault.{StoreFault}
 use Rattle.bsi_store.specs.declared.fault.StoreFault.TheVariants.{Run, Unusable}
-use Rattle.bsi_store.proofs.Kinds.{bad_kinds}
+use Rattle.bsi_store.proofs.SaidKinds.{bad_kinds}
 use Rattle.bsi_store.proofs.Named.{file_is, file_named}
 use Rattle.bsi_store.proofs.opening.open_index.Goals as goal
 use Rattle.bsi_table.specs.Index.{table_of}

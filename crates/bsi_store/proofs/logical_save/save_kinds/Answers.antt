@@ -1,6 +1,6 @@
 use Rattle.std.proofs.Common.{ℕ, List, subst}
 use Rattle.std.specs.Io.KnownBytes.{Appends}
-use Rattle.bsi_store.proofs.save_kinds.save_kinds.Goals as goal
+use Rattle.bsi_store.proofs.logical_save.save_kinds.Goals as goal
 
 pub returns-clause-saved : goal.returns-clause-saved
 returns-clause-saved g c =

@@ -4,7 +4,7 @@ use Rattle.bsi_answers.proofs.Passing.{if_err}
 use Rattle.bsi_answers.specs.declared.faults.FilesFault.{FilesFault}
 use Rattle.bsi_store.specs.Saving.{HasFailedLogical}
 use Rattle.bsi_store.proofs.Failing.{failed_logical, too_many_logical}
-use Rattle.bsi_store.proofs.save_kinds.load_logical.Goals as goal
+use Rattle.bsi_store.proofs.logical_save.load_logical.Goals as goal
 
 pub returns-then-len-clause-fault : goal.returns-then-len-clause-fault
 returns-then-len-clause-fault g c =

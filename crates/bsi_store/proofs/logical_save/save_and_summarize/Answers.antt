@@ -6,7 +6,7 @@ use Rattle.bsi_answers.specs.RowFiles.{fed_counts}
 use Rattle.bsi_store.specs.declared.fault.StoreFault.{StoreFault}
 use Rattle.bsi_store.specs.declared.fault.StoreFault.TheVariants.{Run}
 use Rattle.bsi_store.specs.Saving.{HasFailedLogical}
-use Rattle.bsi_store.proofs.save_kinds.save_and_summarize.Goals as goal
+use Rattle.bsi_store.proofs.logical_save.save_and_summarize.Goals as goal
 use Rattle.bsi_table.specs.Index.{table_of}
 
 pub returns-clause-saved : goal.returns-clause-saved

@@ -1,6 +1,6 @@
 use Rattle.bsi_answers.proofs.Passing.{if_ok}
 use Rattle.bsi_store.proofs.Seen.{seen_first}
-use Rattle.bsi_store.proofs.survey_rows.survey_first.Goals as goal
+use Rattle.bsi_store.proofs.surveying.survey_first.Goals as goal
 
 pub returns-clause-seen : goal.returns-clause-seen
 returns-clause-seen g c = ?

@@ -1,7 +1,7 @@
 use Rattle.std.proofs.Common.{◌≡◌, ℕ, length, arith, refl, subst}
 use Rattle.bsi_store.specs.Surveyed.{HasSeen}
 use Rattle.bsi_store.proofs.Seen.{seen_more}
-use Rattle.bsi_store.proofs.survey_rows.survey_all.Goals as goal
+use Rattle.bsi_store.proofs.surveying.survey_all.Goals as goal
 
 pub files-init : goal.files-init
 files-init g c = ?

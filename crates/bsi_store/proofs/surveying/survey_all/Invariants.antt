@@ -1,6 +1,6 @@
 use Rattle.bsi_store.specs.Surveyed.{HasSeen}
 use Rattle.bsi_survey.specs.Surveys.{LooksFor}
-use Rattle.bsi_store.proofs.survey_rows.survey_all.Given as goal
+use Rattle.bsi_store.proofs.surveying.survey_all.Given as goal
 
 -- the files so far were seen
 abbrev pub invariant-files : goal.invariant-files
