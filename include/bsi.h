@@ -3,13 +3,13 @@
  * An index holds rows; a row has one entry for each column: a number, or a null. Rows come from 1 to 64 feeders, and
  * questions are asked of all rows. docs/C.md shows a program.
  *
- * Each call takes a handle and returns a status. Where the status is not BSI_OK, the call has changed no row, and
- * written nothing, but for what is said at the call.
+ * Each call takes a handle and returns a status. If the status is not BSI_OK, the call has changed no row, and
+ * written nothing except what is said at the call.
  *
- * Pointers. No pointer is null, but one to a length of 0 may be: nothing is read or written there. What a call reads is the
- * caller's, and is not kept after the call. What a call writes lies apart from all else that it is given.
+ * Pointers. No pointer is null, but one to a length of 0 may be: nothing is read or written there. What a call reads is
+ * the caller's, and is not used after the call. What a call writes must not overlap anything else that it is given.
  *
- * Threads. A call has its handle alone while it runs, also to ask. Two handles of one index, made by bsi_share, may be
+ * Threads. No other call may use a handle while a call runs, not even to ask. Two handles of one index, made by bsi_share, may be
  * used by two threads at once. A handle may be used by one thread after another.
  */
 #ifndef BSI_H
@@ -45,7 +45,7 @@ typedef struct {
     size_t len;
 } bsi_text;
 
-/* A column of rows that are appended. Entry r is the number values[r], or a null where bit r of the bitmap is 0: bit
+/* A column of rows that are appended. Entry r is the number values[r], or a null if bit r of the bitmap is 0: bit
  * r % 8 of byte r / 8, from the lowest. A bitmap of 0 bytes says that no entry is null; any other has at least
  * values_len / 8 bytes, rounded up. */
 typedef struct {
@@ -59,7 +59,7 @@ typedef struct {
 typedef struct {
     uint32_t kind;      /* which of BSI_COUNT, BSI_SUM, BSI_VALUE and BSI_ROWS */
     bool present;       /* BSI_VALUE: whether there is a number */
-    int64_t value;      /* BSI_VALUE: the number, where there is one */
+    int64_t value;      /* BSI_VALUE: the number, if there is one */
     uint64_t count;     /* BSI_COUNT: the count; BSI_ROWS: how many rows there are */
     uint64_t low, high; /* BSI_SUM: the sum, high * 2^64 + low, of 128 bits in two's complement */
 } bsi_answer;
@@ -75,14 +75,14 @@ typedef struct {
 /* A group of rows: those that have the same entry in a column. */
 typedef struct {
     bool present;      /* whether the rows have a number there; else they are null */
-    int64_t entry;     /* the number, where there is one */
+    int64_t entry;     /* the number, if there is one */
     bsi_answer answer; /* the answer over these rows; of BSI_ROWS only the count */
 } bsi_group;
 
 /* A row's entry in a column, or the number of a rank. */
 typedef struct {
     bool present;   /* whether there is a number; else the row is null there, or the rank is past the last */
-    int64_t number; /* the number, where there is one */
+    int64_t number; /* the number, if there is one */
 } bsi_entry;
 
 /* A group of rows: those that have the same two entries in two columns. */
@@ -107,44 +107,44 @@ enum {
     BSI_NO_COLUMNS = 5,     /* the schema has no column */
     BSI_BAD_FEEDER = 6,     /* a number of feeders that is not from 1 to 64; in bsi_append no such feeder */
     BSI_BAD_COLUMNS = 7,    /* another number of columns than the schema has, lengths that differ, or a short bitmap */
-    BSI_BAD_ROW = 8,        /* a row has a number that its column does not take */
+    BSI_BAD_ROW = 8,        /* a row has a number that its column does not accept */
     BSI_INDEX_FULL = 9,     /* there would be more rows than the limit */
-    BSI_SHARED = 10,        /* a shared index takes no rows */
-    BSI_BAD_QUERY = 11,     /* the fields ask no query, or spell no predicate, or are over 1,000 for the predicate; or
-                               there is no column of a name that the call takes */
+    BSI_SHARED = 10,        /* a shared index accepts no rows */
+    BSI_BAD_QUERY = 11,     /* the fields are no query or no predicate, or the predicate has over 1,000; or there is no
+                               column of a name that was passed */
     BSI_NO_ROOM = 12,       /* there is too little room */
     BSI_BAD_TEXT = 13,      /* the schema has more than 1,000,000 records */
     BSI_LONG_NOTES = 14,    /* there are more than BSI_MAX_NOTES bytes of notes */
-    BSI_NOT_KEPT = 15,      /* the bytes are not those of a kept index, or there are none */
+    BSI_NOT_KEPT = 15,      /* the bytes are not those of a saved index, or there are none */
     BSI_OTHER_VERSION = 16, /* they are of another version of the format */
     BSI_CUT_SHORT = 17,     /* they end within a segment */
     BSI_DAMAGED = 18,       /* a segment is not as it was written */
-    BSI_HAS_KINDS = 19      /* they have a text of kinds, which the library does not keep */
+    BSI_HAS_KINDS = 19      /* they have a text of kinds, which the library does not store */
 };
 
 /* Opens a closed handle, with no rows. The schema is the text of a schema file, as docs/FORMATS.md says: the records
- * "column,NAME,FORM,SIZES" or "column,NAME,FORM,SIZES,OFFSET", and at most the last of "limit,ROWS" counts (2^32 rows
- * where there is none). A copy of it is kept. At BSI_BAD_SCHEMA *bad_record is the number of the first bad record, from
+ * "column,NAME,FORM,SIZES" or "column,NAME,FORM,SIZES,OFFSET", and the last of "limit,ROWS", if there are any, counts (2^32
+ * rows otherwise). The index has a copy of it. At BSI_BAD_SCHEMA *bad_record is the number of the first bad record, from
  * 1; else it is 0. */
 uint32_t bsi_open(bsi_index *index, const uint8_t *schema, size_t schema_len, uint32_t feeders, uint64_t *bad_record);
 
 /* Appends rows of a feeder, numbered from 0, that are given as one bsi_column for each column of the schema, in its
  * order. All rows are tested before the first is appended. *row and *column are, at
  *     BSI_OK           how many rows were appended: all; and 0
- *     BSI_BAD_ROW      the first row that does not fit, and the first column, from 0, that does not take its entry there
+ *     BSI_BAD_ROW      the first row that does not fit, and the first column, from 0, that does not accept its entry
  *     BSI_BAD_COLUMNS  0, and the first column that is missing, or too many, or has another number of entries than the first
  *                      or a bitmap that is short
- *     BSI_NO_MEMORY    how many rows were appended: the first so many, in whole blocks of 64; and 0
+ *     BSI_NO_MEMORY    how many of the first rows were appended, in whole blocks of 64; and 0
  * and else 0. Only at BSI_OK and BSI_NO_MEMORY were rows appended. */
 uint32_t bsi_append(bsi_index *index, uint32_t feeder, const bsi_column *columns, size_t columns_len, uint64_t *row,
                     size_t *column);
 
-/* Makes room for so many further rows, which then does not grow bit by bit. Rows that leave the limit are BSI_INDEX_FULL. */
+/* Makes room for this number of further rows at once. More rows than the limit are BSI_INDEX_FULL. */
 uint32_t bsi_reserve(bsi_index *index, uint64_t rows);
 
 /* Answers a query, given as the fields of a query record: {"count", "price", "<", "100"}, or of a rank, from 0:
  * {"rank", "price", "9", "all"}. A comparison may have the name of another column in place of the number: {"count", "price",
- * "<", "cost"}. Rows go to places, as many as the answer has; at BSI_NO_ROOM the answer is BSI_ROWS, and its count says how
+ * "<", "cost"}. The rows of an answer are written to places; at BSI_NO_ROOM the answer is BSI_ROWS, and its count says how
  * many places are needed. */
 uint32_t bsi_ask(bsi_index *index, const bsi_text *fields, size_t fields_len, bsi_answer *answer, bsi_place *places,
                  size_t places_len);
@@ -173,7 +173,7 @@ uint32_t bsi_select(bsi_index *index, const bsi_text *fields, size_t fields_len,
 uint32_t bsi_distinct(bsi_index *index, const bsi_text *fields, size_t fields_len, const uint8_t *name, size_t name_len,
                       uint64_t *count);
 
-/* Writes the number at the end of `part` parts of `whole` of those that the column of a name has at such rows, or none where
+/* Writes the number at the end of `part` parts of `whole` of those that the column of a name has at such rows, or none if
  * there is no number: of n numbers that of the rank (n - 1) * part / whole, from 0 and rounded down, so 1 and 2 give the
  * lower median. A whole of 0 or below the part is BSI_BAD_QUERY. */
 uint32_t bsi_quantile(bsi_index *index, const bsi_text *fields, size_t fields_len, const uint8_t *name, size_t name_len,
@@ -185,7 +185,7 @@ uint32_t bsi_ranks(bsi_index *index, const bsi_text *fields, size_t fields_len, 
                    const uint64_t *ranks, size_t ranks_len, bsi_entry *numbers, size_t numbers_len);
 
 /* Writes the rows with the greatest numbers, or the least, that the column of a name has at such rows: as many as rows_len,
- * or all where fewer have a number. The greatest comes first, or the least, and of rows with one number the lower row.
+ * or all if fewer have a number. The greatest comes first, or the least, and of rows with one number the lower row.
  * *count is how many they are. */
 uint32_t bsi_top(bsi_index *index, const bsi_text *fields, size_t fields_len, const uint8_t *name, size_t name_len,
                  bool least, bsi_row *rows, size_t rows_len, size_t *count);
@@ -194,31 +194,30 @@ uint32_t bsi_top(bsi_index *index, const bsi_text *fields, size_t fields_len, co
 uint32_t bsi_rows(bsi_index *index, uint64_t *rows);
 
 /* Writes how many bytes the index keeps of its rows: those of its bitmaps, in words of 64 rows, a byte a row for the feeder,
- * and, with several feeders, 4 bytes for each of them and every 512 rows. The room for more rows comes on top. */
+ * and, with several feeders, 4 bytes for each of them and every 512 rows. The room for more rows is not counted. */
 uint32_t bsi_memory(bsi_index *index, uint64_t *bytes);
 
-/* Writes the schema as the text that opened the index, or for kept bytes one that declares the same. *size is its number
+/* Writes the schema as the text that opened the index, or for saved bytes one that declares the same. *size is its number
  * of bytes, at BSI_NO_ROOM too. */
 uint32_t bsi_schema(bsi_index *index, uint8_t *text, size_t room, size_t *size);
 
-/* The most bytes of notes, which a caller keeps beside an index. */
+/* The most bytes of notes, which a caller stores with an index. */
 #define BSI_MAX_NOTES 67108864
 
-/* Writes the bytes that keep the index and the caller's notes: a file of one segment, as docs/FORMATS.md says. *size is
- * how many they are, at BSI_NO_ROOM too, so that a call with no room asks for it. Meanwhile the call takes memory for
- * twice these bytes or more. */
+/* Writes the index and the caller's notes as bytes: a file of one segment, as docs/FORMATS.md says. *size is their number,
+ * at BSI_NO_ROOM too, so a call with no room asks for it. The call needs memory for twice these bytes or more. */
 uint32_t bsi_save(bsi_index *index, const uint8_t *notes, size_t notes_len, uint8_t *bytes, size_t room, size_t *size);
 
-/* Opens a closed handle with the index that all these bytes keep, and writes the notes of the last segment; room for
+/* Opens a closed handle with the index that all these bytes are, and writes the notes of the last segment; room for
  * BSI_MAX_NOTES is enough, and so is room for len. *notes_len is their number, at BSI_NO_ROOM too, which leaves the handle
- * closed. Of the bytes nothing is kept after the call. *whole is how many of the first bytes keep an index: all at BSI_OK,
+ * closed. The bytes are not used after the call. *whole is how many of the first bytes are an index: all at BSI_OK,
  * BSI_NO_ROOM and BSI_HAS_KINDS; at BSI_NOT_KEPT, BSI_OTHER_VERSION, BSI_CUT_SHORT, BSI_DAMAGED and BSI_NO_MEMORY those
  * before the fault, which may be opened instead, or 0; 0 at BSI_OPEN. */
 uint32_t bsi_open_kept(bsi_index *index, const uint8_t *bytes, size_t len, uint8_t *notes, size_t notes_room,
                        size_t *notes_len, uint64_t *whole);
 
-/* Opens another, closed handle of the same index, whose rows stand from then on: neither handle takes more. If memory is
- * refused, the other stays closed, and the index may take no more rows. */
+/* Opens another, closed handle of the same index, whose rows stay the same from then on: neither handle accepts more. If
+ * memory is refused, the other stays closed, and the index may accept no more rows. */
 uint32_t bsi_share(bsi_index *index, bsi_index *other);
 
 /* Closes a handle. The index is freed with its last handle. */

@@ -8,7 +8,7 @@
 >>> index.count((p < 200) | p.isnull())
 2
 
-`Index.from_frame` and `read_csv` take data as it is; `Parts` splits rows over threads, and `bsi.dask` over the workers
+`Index.from_frame` and `read_csv` read data as it is; `Parts` splits rows over threads, and `bsi.dask` over the workers
 of a cluster.
 """
 

@@ -1,8 +1,8 @@
 """python -m bsi FILE.. [QUESTION..]
 
-Reads CSV or Parquet files, or opens kept indexes, says how it keeps their columns, and answers the questions. At a
-terminal it then waits for further ones, one a line; where no question is given, it reads them from standard input. The
-questions are those of bsi.questions, and `help` and `quit` are taken too:
+Reads CSV or Parquet files, or opens saved indexes, shows how their columns are stored, and answers the questions. At a
+terminal it then waits for further ones, one a line; if no question is given, it reads them from standard input. The
+questions are those of bsi.questions, and `help` and `quit`:
 
     count price < 100 and temp null
     median "Amount (EUR)" Ordered >= 2026-01-31
@@ -38,7 +38,7 @@ from .summary import lines_of
 from .version import __version__
 
 MAX_SHOWN = 20
-QUOTES = "a question with > or < stands in quotes: 'count price > 100'"
+QUOTES = "put a question with > or < in quotes: 'count price > 100'"
 FOR_CSV = ("null", "nulls", "delimiter", "decimal", "thousands", "dates", "encoding", "skiprows", "skip_bad")
 KINDS = {"text": lambda _: Texts, "whole": lambda _: Whole(), "flags": lambda _: Flags()}
 KINDS["decimals"] = lambda places: Decimals(int(places) if places.isdecimal() else places or 2)
@@ -57,24 +57,24 @@ def _arguments(words: Optional[List[str]]) -> Any:
     )
     parser.add_argument("words", nargs="+", metavar="WORD", help="files, and then questions about their rows")
     parser.add_argument("--version", action="version", version=f"bsi {__version__}")
-    parser.add_argument("--columns", metavar="NAME,..", help="the columns that are wanted; all where it is not given")
-    parser.add_argument("--drop", metavar="NAME,..", default="", help="columns that are not wanted")
+    parser.add_argument("--columns", metavar="NAME,..", help="the columns to read; default: all")
+    parser.add_argument("--drop", metavar="NAME,..", default="", help="columns to leave out")
     parser.add_argument("--kinds", metavar="NAME=KIND,..", default="", help=f"what columns hold: {', '.join(KINDS)}")
     parser.add_argument(
         "--text", metavar="NAME,..", default="", help="columns that hold texts, whatever they look like"
     )
     parser.add_argument(
-        "--null", metavar="FIELD", action="append", default=[], help="a further field that stands for a null"
+        "--null", metavar="FIELD", action="append", default=[], help="a further field that means null"
     )
     parser.add_argument("--nulls", metavar="FIELD,..", default="", help="several such fields")
-    parser.add_argument("--delimiter", metavar="SIGN", help="what stands between fields: a comma where it is not given")
-    parser.add_argument("--decimal", metavar="SIGN", help="the decimal sign: a comma, or a point where it is not given")
-    parser.add_argument("--thousands", metavar="SIGN", help="what stands between groups of three digits")
+    parser.add_argument("--delimiter", metavar="SIGN", help="the sign between fields; default: a comma")
+    parser.add_argument("--decimal", metavar="SIGN", help="the decimal sign, as a comma; default: a point")
+    parser.add_argument("--thousands", metavar="SIGN", help="the sign between groups of three digits")
     parser.add_argument("--dates", metavar="FORM", help="how dates are written, as %%d.%%m.%%Y")
     parser.add_argument("--round", metavar="PLACES", type=int, help="rounds decimals of more places")
-    parser.add_argument("--encoding", metavar="NAME", help="as cp1252; UTF-8 where it is not given")
+    parser.add_argument("--encoding", metavar="NAME", help="as cp1252; default: UTF-8")
     parser.add_argument("--skiprows", metavar="N", type=int, default=0, help="lines before the header")
-    parser.add_argument("--skip-bad", action="store_true", help="leaves out rows that can't be kept, and tells them")
+    parser.add_argument("--skip-bad", action="store_true", help="leaves out rows that can't be stored, and reports them")
     parser.add_argument("--parts", metavar="N", type=int, default=1, help="splits the rows over N threads")
     return parser.parse_intermixed_args(words)
 
@@ -101,7 +101,7 @@ def _wishes(given: Any) -> Dict[str, Any]:
 
 
 def _csv(files: List[str], columns: Optional[List[str]], given: Any, progress: bool) -> Any:
-    """Makes the index of CSV files, and tells which rows were left out."""
+    """Makes the index of CSV files, and reports which rows were left out."""
     named = ("delimiter", "thousands", "dates", "encoding", "skiprows", "parts")
     how = {**_wishes(given), **{name: getattr(given, name) for name in named}, "decimal": given.decimal or "."}
     nulls = ["", *given.null, *filter(None, given.nulls.split(","))]
@@ -118,7 +118,7 @@ def _open(files: List[str], given: Any) -> Any:
     alone = [name for name in named if getattr(given, name) not in (None, "", 0, [])]
     if alone or given.parts != 1:
         option = (alone or ["parts"])[0].replace("_", "-")
-        raise ValueError(f"--{option} is for files that are read, and not for kept indexes")
+        raise ValueError(f"--{option} is for files that are read, not for saved indexes")
     return open_index(files[0]) if len(files) == 1 else open_parts(files)
 
 

@@ -179,7 +179,7 @@ def struct_of(data: Any) -> List[Tuple[str, Field]]:
         kept = _chunks(data)
         schema, batches = kept[0].struct, [array.struct for array in kept[1]]
     if schema.format != b"+s":
-        raise BadColumns("rows come as an Arrow record batch, and not as one array")
+        raise BadColumns("pass rows as an Arrow record batch, not as one array")
     names = [_text(schema.children[place].contents.name or b"") for place in range(schema.n_children)]
     return [(name, Field(schema, batches, place, kept)) for place, name in enumerate(names)]
 
@@ -242,7 +242,7 @@ def _read(schema: _Schema, array: _Array, skipped: int = 0, length: Optional[int
     if decimal := re.fullmatch(r"d:\d+,(-?\d+)(?:,(32|64|128))?", layout):
         size, scale = int(decimal.group(2) or 128) // 8, int(decimal.group(1))
         return Read(_decimals(array, scale, size, start, valid), valid, scale=scale)
-    raise BadColumns(f"an Arrow array of format {layout!r} is none of numbers, times, booleans or texts")
+    raise BadColumns(f"an Arrow array of format {layout!r} is not one of numbers, times, booleans or texts")
 
 
 def _none(schema: _Schema) -> Read:

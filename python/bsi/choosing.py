@@ -1,4 +1,4 @@
-"""Which form each column of a user's own data gets: from the numbers that stand for its values, slices of the least
+"""Which form each column of a user's own data gets: from the numbers that represent its values, slices of the least
 width and an offset."""
 
 from __future__ import annotations
@@ -24,7 +24,7 @@ SPAN = 1 << 63
 
 
 class Block(NamedTuple):
-    """Numbers of a run of rows of one column, which of them are valid, what they stand for, and the first row's
+    """Numbers of a run of rows of one column, which of them are valid, what they represent, and the first row's
     number."""
 
     kind: Optional[Kind]
@@ -39,7 +39,7 @@ class Block(NamedTuple):
 
     @property
     def ends(self) -> Optional[Tuple[int, int]]:
-        """The least and the greatest of the valid numbers, or None where there is none."""
+        """The least and the greatest of the valid numbers, or None if there is none."""
         return ends_of(self.numbers, self.valid) if self.valid.any() else None
 
     def plain(self) -> "Block":
@@ -47,7 +47,7 @@ class Block(NamedTuple):
         return self
 
     def value(self, row: int) -> Any:
-        """Returns what a number of the block stands for."""
+        """Returns what a number of the block represents."""
         return (self.kind or Whole()).decode(int(self.numbers[row]))
 
     def part(self, start: int, end: int) -> "Block":
@@ -89,7 +89,7 @@ class PackedBlock(NamedTuple):
         return found._replace(ends=found.plain().ends)
 
     def scaled(self, kind: Optional[Kind]) -> Optional["PackedBlock"]:
-        """Returns the block under a kind that keeps what it keeps, or None where a number leaves 63 bits. It has no
+        """Returns the block under a kind that keeps what it keeps, or None if a number leaves 63 bits. It has no
         texts."""
         factor = factor_of(self.kind, kind)
         low, high = (end * factor for end in self.ends or (0, 0))
@@ -154,7 +154,7 @@ def _joined(blocks: List[Block]) -> Tuple[np.ndarray, np.ndarray]:
 
 
 def wanted_of(columns: Optional[Iterable[str]], names: List[str], drop: Iterable[str] = ()) -> List[str]:
-    """Returns the columns that are wanted, all where none are named, but for those that are dropped."""
+    """Returns the columns that are wanted, all if none are named, but for those that are dropped."""
     for what, given in (("columns", columns), ("drop", drop)):
         if given is not None and not isinstance(given, Iterable):
             raise TypeError(f"{what} is a list of names, and not {given!r}")
@@ -179,12 +179,12 @@ def refuse_no_kind(name: str, kind: Any) -> None:
 
 
 def _texts_of(name: str, dtype: Any) -> Texts:
-    """Returns the texts of a category's dtype of pandas, or raises BadSchema where it has none."""
+    """Returns the texts of a category's dtype of pandas, or raises BadSchema if it has none."""
     texts = () if dtype.categories is None else tuple(dtype.categories)
     if not texts or not all(isinstance(text, str) for text in texts):
         has = f"the categories {shown(list(texts))}" if texts else "no categories"
-        reason = f"its dtype has {has}, and a list of texts is wanted"
-        raise BadSchema(f"column {name!r}: {reason}; kinds= with Texts takes those that are there")
+        reason = f"its dtype has {has}, but needs a list of texts"
+        raise BadSchema(f"column {name!r}: {reason}; kinds= with Texts accepts those that are there")
     return Texts(texts, ordered=bool(dtype.ordered))
 
 
@@ -237,7 +237,7 @@ class Wishes:
                 self.kinds.setdefault(name, form.kind)
 
     def block(self, name: str, values: Values, row: int = 0) -> Block:
-        """Returns the numbers that stand for the values, under the kind that is given or the narrowest."""
+        """Returns the numbers that represent the values, under the kind that is given or the narrowest."""
         kind = self.kinds.get(name)
         try:
             if kind is None or kind is Texts:
@@ -270,7 +270,7 @@ class Wishes:
 
 def too_far(kind: Kind, low: int, high: int) -> str:
     """Returns what is wrong with numbers that lie too far apart."""
-    return f"from {kind.show(low)} to {kind.show(high)} are more than the 2^63 values that a column takes"
+    return f"from {kind.show(low)} to {kind.show(high)} are more than the 2^63 values that a column can hold"
 
 
 def kind_of(name: str, blocks: Iterable[AnyBlock], most: Optional[int] = MAX_TEXTS) -> Optional[Kind]:
@@ -353,18 +353,18 @@ def joined_blocks(name: str, blocks: List[Block]) -> Tuple[Optional[Kind], Tuple
 
 
 def ends_of(numbers: np.ndarray, valid: np.ndarray) -> Tuple[int, int]:
-    """Returns the least and the greatest of the valid numbers, and 0 twice where there is none."""
+    """Returns the least and the greatest of the valid numbers, and 0 twice if there is none."""
     there = numbers if valid.all() else numbers[valid]
     return (int(there.min()), int(there.max())) if len(there) else (0, 0)
 
 
 def misfits(form: Form, numbers: np.ndarray, valid: np.ndarray) -> np.ndarray:
-    """Returns which of the numbers their column does not take."""
+    """Returns which of the numbers their column does not accept."""
     return valid & ((numbers < form.offset) | (numbers > min(form.most, MOST)))
 
 
 def refuse_misfit(name: str, form: Form, numbers: np.ndarray, valid: np.ndarray, first: int = 0) -> None:
-    """Raises the first number that its column does not take, if there is one. The rows begin with that number."""
+    """Raises the first number that its column does not accept, if there is one. The rows begin with that number."""
     bad = misfits(form, numbers, valid)
     if bad.any():
         row = int(bad.argmax())

@@ -55,7 +55,7 @@ def _ends(block: Block) -> Block:
 
 
 def _misfit(frame: Any, forms: Mapping[str, Form]) -> Optional[Error]:
-    """Returns of each column the first value of a partition that it does not take, on the partition's worker."""
+    """Returns of each column the first value of a partition that it does not accept, on the partition's worker."""
     given = columns_of(frame)
     try:
         of_each(forms, lambda name: _refuse_misfit(name, forms[name], values_of(name, given[name])))
@@ -85,7 +85,7 @@ class Part:
 
 
 class KeptPart:
-    """A Dask actor: the index that a file keeps, opened on its worker."""
+    """A Dask actor: the index in a file, opened on its worker."""
 
     def __init__(self, path: str):
         self._kept = opened_file(path)
@@ -151,11 +151,11 @@ def _addresses(client: Client) -> set:
 
 
 class Workers(Table):
-    """Rows over the workers of a cluster, as `from_frame` makes them. Questions are those of an Index, and take no rows
-    further."""
+    """Rows over the workers of a cluster, as `from_frame` makes them. Questions are those of an Index; no further rows
+    are accepted."""
 
     def append(self, data: Any) -> int:
-        raise TypeError("an index over workers takes no further rows: make it of a frame that has them")
+        raise TypeError("an index over workers accepts no further rows: make it of a frame that has them")
 
 
 def from_frame(
@@ -193,7 +193,7 @@ def from_frame(
 
 
 def open_parts(paths: Iterable[Path], client: Optional[Client] = None) -> Workers:
-    """Opens the indexes that files keep on the workers of a cluster, by turns, which all reach the files under these
+    """Opens the indexes in files on the workers of a cluster, by turns, which all reach the files under these
     paths. The files have the same columns; their rows come file by file."""
     client = client or get_client()
     names, workers = [os.fspath(path) for path in paths], sorted(_addresses(client))
@@ -261,7 +261,7 @@ def _placed(ends: List[Block], rows: Sequence[int]) -> List[Block]:
 
 
 def _doubtful(ends: Mapping[str, List[Block]], wishes: Wishes) -> Dict[str, Form]:
-    """Returns the columns that may not take each value of a partition: those whose form is given, and those that keep
+    """Returns the columns that may not accept each value of a partition: those whose form is given, and those that keep
     it as another kind than the partition chose. Of these the form is one that takes all numbers."""
     kinds = of_each(ends, lambda name: kind_of(name, ends[name]) or Whole())
     return {

@@ -60,14 +60,14 @@ def values_of(part: str, times: np.ndarray) -> np.ndarray:
 
 
 def part_of(kind: Times, part: str, numbers: np.ndarray) -> np.ndarray:
-    """Returns the part of the times that numbers stand for."""
+    """Returns the part of the times that numbers represent."""
     refuse_other(kind, part)
     return values_of(part, _local(kind, numbers))
 
 
 def runs_where(kind: Kind, part: str, test: Callable[[np.ndarray], np.ndarray], low: int, high: int) -> Runs:
-    """Returns the runs of the numbers from one to another that stand for times whose part passes a test. Raises TypeError
-    where they have no such part, and ValueError where the span is too long."""
+    """Returns the runs of the numbers from one to another that represent times whose part passes a test. Raises TypeError
+    if they have no such part, and ValueError where the span is too long."""
     refuse_other(kind, part)
     assert isinstance(kind, Times)
     unit, _ = PARTS[part]
@@ -83,7 +83,7 @@ def runs_where(kind: Kind, part: str, test: Callable[[np.ndarray], np.ndarray], 
             raise OverflowError
         return list(_within([[_number(kind, first + place) for place in edge] for edge in edges], low, high))
     except OverflowError:
-        raise ValueError(f"the column takes times of too long a span to look at each {part}") from None
+        raise ValueError(f"the column's times span too long to look at each {part}") from None
 
 
 def _within(edges: List[List[int]], low: int, high: int) -> Iterator[Tuple[int, int]]:
@@ -94,7 +94,7 @@ def _within(edges: List[List[int]], low: int, high: int) -> Iterator[Tuple[int, 
 
 
 def _local(kind: Times, numbers: np.ndarray) -> np.ndarray:
-    """Returns the local times that numbers stand for, in whole seconds, rounded down."""
+    """Returns the local times that numbers represent, in whole seconds, rounded down."""
     size = NANOSECONDS[kind.unit]
     if len(numbers) and size > SECOND and np.abs(numbers).max() > (1 << 62) // (size // SECOND):
         raise OverflowError
@@ -111,7 +111,7 @@ def _ahead(second: int, zone: Any) -> int:
 
 
 def _number(kind: Times, moment: np.datetime64) -> int:
-    """Returns the first number that stands for a local time or a later one."""
+    """Returns the first number that represents a local time or a later one."""
     seconds = int(moment.astype("M8[s]").astype(np.int64))
     if kind.zone is not None:
         local = (EPOCH + timedelta(seconds=seconds)).replace(tzinfo=kind.zone)

@@ -61,7 +61,7 @@ def is_numeric(text: str) -> bool:
 
 
 def nanoseconds_of_date(text: str) -> Tuple[int, bool]:
-    """Returns the nanoseconds since 1970-01-01 of a text whose day and month can't be exchanged, in UTC where it has a
+    """Returns the nanoseconds since 1970-01-01 of a text whose day and month can't be exchanged, in UTC if it has a
     zone, and whether it has one."""
     if found := YEAR_FIRST.fullmatch(text):
         year, _, month, day, clock, zone = found.groups()
@@ -80,7 +80,7 @@ def nanoseconds_of_date(text: str) -> Tuple[int, bool]:
 
 
 def _moment(text: str, year: int, month: int, day: int, parts: Dict[str, Optional[str]]) -> Tuple[int, bool]:
-    """Returns the nanoseconds since 1970-01-01 of a day with the parts of a clock, in UTC where they have a zone, and
+    """Returns the nanoseconds since 1970-01-01 of a day with the parts of a clock, in UTC if they have a zone, and
     whether they have one."""
     try:
         moment = datetime(year, month, day, _hours(parts), int(parts["minute"] or 0), int(parts["second"] or 0))
@@ -91,9 +91,9 @@ def _moment(text: str, year: int, month: int, day: int, parts: Dict[str, Optiona
         raise ValueError(f"{shown(text)} is no date or time: that day is a {weekday.title()}")
     fraction, zone = (parts["fraction"] or "").rstrip("0"), (parts["zone"] or "").upper().replace("GMT", "UTC")
     if len(fraction) > 9:
-        raise Unclear(f"{shown(text)} is finer than nanoseconds; kinds= with Texts keeps it")
+        raise Unclear(f"{shown(text)} is finer than nanoseconds; kinds= with Texts stores it")
     if zone.isalpha() and zone not in ("Z", "UTC"):
-        raise Unclear(f"{shown(text)} has the zone {parts['zone']!r}, which is not known; kinds= with Texts keeps it")
+        raise Unclear(f"{shown(text)} has the zone {parts['zone']!r}, which is unknown; kinds= with Texts stores it")
     nanoseconds = (moment - EPOCH) // MICROSECOND * 1000 + int(fraction.ljust(9, "0"))
     return nanoseconds - seconds_ahead(zone) * NANOSECONDS["s"], bool(zone)
 
@@ -113,7 +113,7 @@ class Numeric(NamedTuple):
     is_known: bool
 
     def nanoseconds(self, text: str) -> Tuple[int, bool]:
-        """Returns the nanoseconds since 1970-01-01 that a text spells, in UTC where it has a zone, and whether it has
+        """Returns the nanoseconds since 1970-01-01 that a text spells, in UTC if it has a zone, and whether it has
         one."""
         found = NUMERIC.fullmatch(text)
         if not found:

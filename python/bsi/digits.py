@@ -104,7 +104,7 @@ def numbers_of(fields: Fields, point: int) -> Numbers:
 def _alike(
     data: np.ndarray, ends: np.ndarray, lengths: np.ndarray, place: int, point: int
 ) -> Tuple[np.ndarray, np.ndarray, np.ndarray]:
-    """Returns the digits of fields as numbers, of which so many stand behind a point, or -1 where there is none; which
+    """Returns the digits of fields as numbers, of which so many stand behind a point, or -1 if there is none; which
     are such; and so many of each."""
     behind = np.broadcast_to(np.int64(place), len(lengths))
     if place < 0 or lengths.max() > WORD:
@@ -160,7 +160,7 @@ def _spliced(words: np.ndarray, lengths: np.ndarray, places: int, point: int) ->
 
 
 def _behind_point(data: np.ndarray, starts: np.ndarray, ends: np.ndarray, point: int) -> np.ndarray:
-    """Returns how many bytes stand behind the last point of each field, and -1 where it has none."""
+    """Returns how many bytes stand behind the last point of each field, and -1 if it has none."""
     behind, points = np.full(len(starts), -1, np.int64), np.flatnonzero(data == point)
     rows = np.minimum(np.searchsorted(ends, points, "right"), len(ends) - 1)
     within = points >= starts[rows]
@@ -182,7 +182,7 @@ class Moments(NamedTuple):
 
 
 def moments_of(fields: Fields, sample: str) -> Optional[Moments]:
-    """Reads the fields that are spelt as the sample is: 2026-01-31, with a clock behind it or not. None where that one
+    """Reads the fields that are spelt as the sample is: 2026-01-31, with a clock behind it or not. None if that one
     is spelt otherwise."""
     shape = SHAPE.fullmatch(sample)
     if shape is None:

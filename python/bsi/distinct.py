@@ -109,7 +109,7 @@ class Distinct:
         self._known, self._codes = NONE, {}
 
     def codes(self, fields: Fields) -> np.ndarray:
-        """Returns the number of each field's text, which is kept where it is new."""
+        """Returns the number of each field's text, which is kept if it is new."""
         asked = asked_of(fields)
         codes = self._known.codes_of(asked)
         codes[asked.lengths > WORDS * WORD] = -1
@@ -125,7 +125,7 @@ class Distinct:
         return codes
 
     def places(self, texts: List[str]) -> List[int]:
-        """Returns the number of each text, which is kept where it is new."""
+        """Returns the number of each text, which is kept if it is new."""
         with self._lock:
             return [self._code(text) for text in texts]
 

@@ -9,8 +9,8 @@ KEPT = 1000
 
 
 class Error(Exception):
-    """A refused call. `status` is its number in bsi.h, where the library has one. Where several columns do not fit, it
-    is that of the first, and `others` are those of the others."""
+    """A refused call. `status` is its number in bsi.h, if the library has one. If several columns do not fit, it is that
+    of the first, and `others` has those of the others."""
 
     status: Optional[int] = None
     why = "the call was refused"
@@ -36,7 +36,7 @@ class Open(Error):
 
 
 class NoMemory(Error, MemoryError):
-    """Memory was refused. `appended` says how many rows of an append stand in the index all the same."""
+    """Memory was refused. `appended` says how many rows of an append are in the index."""
 
     status, why = 3, "memory was refused"
 
@@ -46,9 +46,9 @@ class NoMemory(Error, MemoryError):
 
 
 class BadSchema(Error, ValueError):
-    """A column can't be kept in that form. `record` is that of the schema which the library refused, from 1."""
+    """A column can't be stored in that form. `record` is that of the schema which the library refused, from 1."""
 
-    status, why = 4, "a column can't be kept in that form"
+    status, why = 4, "a column can't be stored in that form"
 
     def __init__(self, reason: Optional[str] = None, record: int = 0):
         super().__init__(reason)
@@ -74,7 +74,7 @@ class BadColumns(Error, ValueError):
 
 
 class BadRow(Error, ValueError):
-    """A value that its column does not take: `column` and `row` say where it is, from 0, and `value` what it is."""
+    """A value that its column does not accept: `column` and `row` say where it is, from 0, and `value` what it is."""
 
     status = 8
 
@@ -97,7 +97,7 @@ class IndexFull(Error):
 
 
 class Shared(Error):
-    """A shared index takes no rows."""
+    """A shared index accepts no rows."""
 
     status, why = 10, "a shared index takes no rows"
 
@@ -117,7 +117,7 @@ class NoRoom(Error):
 class BadText(Error, ValueError):
     """The text of a schema is too long, or is none."""
 
-    status, why = 13, "the text of a schema is too long, or is none"
+    status, why = 13, "the text of a schema is too long or invalid"
 
 
 class LongNotes(Error, ValueError):
@@ -127,7 +127,7 @@ class LongNotes(Error, ValueError):
 
 
 class KeptError(Error, ValueError):
-    """A file that is not opened. `path` is its path, where there is one, `rows` how many rows stand whole before the
+    """A file that is not opened. `path` is its path, if there is one, `rows` how many rows are whole before the
     fault, and `whole` in how many bytes: `bsi.open(path, so_far=True)` opens these."""
 
     why = "the file is not opened"
@@ -143,47 +143,47 @@ class KeptError(Error, ValueError):
 
 
 class NotKept(KeptError):
-    """A file that keeps no index."""
+    """A file without an index."""
 
-    status, why = 15, "it keeps no index"
+    status, why = 15, "it contains no index"
 
 
 class OtherVersion(KeptError):
-    """A kept index of another version."""
+    """A saved index of another version."""
 
-    status, why = 16, "it keeps an index in another version of the format"
+    status, why = 16, "it contains an index in another version of the format"
 
 
 class CutShort(KeptError):
-    """A kept index whose file ends too soon."""
+    """A saved index whose file ends too soon."""
 
     status, why = 17, "it is cut short"
 
 
 class Damaged(KeptError):
-    """A kept index that is not as it was written."""
+    """A saved index that is not as it was written."""
 
     status, why = 18, "it is damaged"
 
 
 class HasKinds(KeptError):
-    """A kept index that says by a text of kinds what its numbers stand for."""
+    """A saved index with a text of kinds, which says what its numbers represent."""
 
-    status, why = 19, "it says what its numbers stand for by a text of kinds, which this package does not read"
+    status, why = 19, "it has a text of kinds, which this package does not read"
 
 
 class BadNotes(KeptError):
-    """A kept index whose notes say in no known way what its columns mean."""
+    """A saved index with notes that this package cannot read."""
 
     why = "its notes can't be read"
 
 
 class LostWorker(Error):
-    """A worker that keeps a part of the rows is gone, and its part with it."""
+    """A worker with a part of the rows is gone, and its part with it."""
 
 
 def several(refusals: List[Error]) -> Error:
-    """Returns the first of the refusals, which tells the others too."""
+    """Returns the first of the refusals, which names the others too."""
     first, *others = refusals
     first.others = tuple(others)
     return first

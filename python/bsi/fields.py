@@ -91,7 +91,7 @@ def fields_of(texts: Sequence[str]) -> Fields:
 
 
 class Records(NamedTuple):
-    """The records of a run: how many they are, the fields of a column, the line of each from 0 where they are not one
+    """The records of a run: how many they are, the fields of a column, the line of each from 0 if they are not one
     a line, how many lines the run has, of each record of another width its place, its line and its width, and the line
     that is no record with why."""
 
@@ -104,7 +104,7 @@ class Records(NamedTuple):
 
 
 def split(run: Run, width: int, delimiter: bytes, quote: bytes) -> Optional[Records]:
-    """Returns the records of a run, or None where it is not certain that each has so many fields."""
+    """Returns the records of a run, or None if it is not certain that each has so many fields."""
     text = run.text
     if not text.isascii():
         text.decode()  # (or it raises UnicodeError)
@@ -149,7 +149,7 @@ def _before_return(data: np.ndarray, ends: np.ndarray) -> np.ndarray:
 
 
 def _doubled(quotes: np.ndarray) -> np.ndarray:
-    """Returns where two quotes stand for one, of quotes that are in pairs."""
+    """Returns where two quotes represent one, of quotes that are in pairs."""
     return quotes[2::2][quotes[2::2] == quotes[1:-1:2] + 1]
 
 

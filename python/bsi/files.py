@@ -31,7 +31,7 @@ def name_of(path: Path) -> str:
 
 
 def size_of(path: Path) -> int:
-    """Returns how many bytes a file has, and 0 where that is not known."""
+    """Returns how many bytes a file has, and 0 if that is not known."""
     return 0 if hasattr(path, "read") else os.path.getsize(path)  # type: ignore[arg-type]
 
 
@@ -79,7 +79,7 @@ def _unpacked(stack: ExitStack, raw: IO[bytes], name: str) -> IO[bytes]:
         except zipfile.BadZipFile as why:
             raise BadColumns(f"{name}: it can't be unpacked: {why}") from None
         if len(packed.namelist()) != 1:
-            raise BadColumns(f"{name}: it packs {len(packed.namelist())} files, and one is wanted")
+            raise BadColumns(f"{name}: it packs {len(packed.namelist())} files, not one")
         return stack.enter_context(packed.open(packed.namelist()[0]))
     if ending in (".zst", ".lz4", ".7z"):
         raise BadColumns(f"{name}: such files are not unpacked here; .gz, .bz2, .xz and .zip are")
@@ -194,7 +194,7 @@ class Runs:
         return bool(more)
 
     def _cut(self, text: bytes, quotes: np.ndarray) -> int:
-        """Returns where the last record ends that the text has as a whole, and 0 where it has none."""
+        """Returns where the last record ends that the text has as a whole, and 0 if it has none."""
         if self._is_end and len(text) == len(self._rest):
             return len(text)
         if not len(quotes):

@@ -16,8 +16,8 @@ LEAST, MOST = -(1 << 63), (1 << 63) - 1
 
 @dataclass(frozen=True)
 class Form:
-    """How a column is kept: the word of its form, its width or its bases, the least number that it takes, and what its
-    numbers stand for."""
+    """How a column is stored: the word of its form, its width or its bases, the least number that it accepts, and what
+    its numbers represent."""
 
     word: str
     sizes: Tuple[int, ...]
@@ -26,12 +26,12 @@ class Form:
 
     @cached_property
     def size(self) -> int:
-        """How many numbers the column takes, from the offset up."""
+        """How many numbers the column accepts, from the offset up."""
         return 1 << min(max(self.sizes[0], 0), 64) if self.word == "slices" else math.prod(self.sizes)
 
     @cached_property
     def most(self) -> int:
-        """The greatest number that the column takes."""
+        """The greatest number that the column accepts."""
         return self.offset + self.size - 1
 
     @property
@@ -50,7 +50,7 @@ class Form:
         return self.sizes[0] if self.word == "slices" else sum((base - 1).bit_length() for base in self.sizes)
 
     def value(self, number: int) -> Any:
-        """Returns the value that a number stands for, and the number where that can't be told, as past an end of the
+        """Returns the value that a number represents, and the number where that can't be told, as past an end of the
         column."""
         try:
             return self.kind.decode(number)
@@ -58,16 +58,16 @@ class Form:
             return number
 
     def show(self, number: int) -> str:
-        """Returns the value that a number stands for as a text, and the number where that can't be told."""
+        """Returns the value that a number represents as a text, and the number where that can't be told."""
         return self.kind.show(number) if self.value(number) is not number else f"{number:,}"
 
     def misfit(self, column: str, row: int, number: int) -> BadRow:
-        """Returns the refusal of a number that the column does not take."""
+        """Returns the refusal of a number that the column does not accept."""
         reason = f"{self.show(number)} is not from {self.show(self.offset)} to {self.show(self.most)}"
         return BadRow(column, row, self.value(number), reason)
 
     def of(self, kind: Kind) -> "Form":
-        """Returns the same form for numbers that stand for another kind of value."""
+        """Returns the same form for numbers that represent another kind of value."""
         return replace(self, kind=kind)
 
     def record(self, name: str) -> str:
@@ -81,7 +81,7 @@ class Form:
 
 
 def slices(width: int, *, offset: int = 0, kind: Kind = Whole()) -> Form:
-    """Bit slices for 2^width numbers from `offset` up, in whole numbers as the column keeps them. Width: 1 to 63."""
+    """Bit slices for 2^width whole numbers, in the column's units, from `offset` up. Width: 1 to 63."""
     return Form("slices", _whole([width]), _whole([offset])[0], kind)
 
 

@@ -27,7 +27,7 @@ Numbers = Tuple[Optional[int], ...]
 
 class _Left(NamedTuple):
     """What is left for a rank: from the one number to the other, and of each part how many numbers lie below the one and
-    up to the other, or None where that is not known; and whether they lie there as evenly as was expected."""
+    up to the other, or None if that is not known; and whether they lie there as evenly as was expected."""
 
     low: int
     high: int
@@ -109,7 +109,7 @@ class Gathered:
     def _median(self, name: bytes, fields: Fields) -> Optional[int]:
         """Finds the median between those of the parts."""
         if len(fields) + BOUND > MAX_FIELDS:
-            rule = f"a median over several parts takes a predicate of at most {MAX_FIELDS - BOUND} fields"
+            rule = f"a median over several parts accepts a predicate of at most {MAX_FIELDS - BOUND} fields"
             raise BadQuery(f"{rule}, and this one has {len(fields):,}")
         numbers, counts = zip(*self._each("median_and_count", name, fields))
         known = [(max(0, count - 1) // 2, number) for number, count in zip(numbers, counts)]
@@ -262,7 +262,7 @@ def _middle(numbers: Sequence[int], rank: int) -> Tuple[int, int]:
 
 
 def _ranked(parts: Sequence[Any], rank: int) -> Optional[int]:
-    """Returns the number of a rank where it is among those that all parts give."""
+    """Returns the number of a rank if it is among those that all parts give."""
     place = rank - sum(part.below for part in parts)
     if any(part.numbers is None for part in parts) or not 0 <= place < sum(part.many for part in parts):
         return None

@@ -120,7 +120,7 @@ class GroupBy:
         """Returns several figures of columns in the rows of each group, as `{"price": ["sum", "mean"], "day": "max"}`
         names them: count, sum, mean, median, min, max, nunique, and missing, how many rows have no value."""
         if not isinstance(figures, Mapping):
-            raise TypeError(f"agg takes a dict of columns with their figures, and not {figures!r}")
+            raise TypeError(f"agg needs a dict of columns with their figures, not {figures!r}")
         rows, found = self.count(where=where), {}
         for column, words in figures.items():
             for word in [words] if isinstance(words, str) else words:
@@ -169,7 +169,7 @@ class GroupBy:
     def _at_once(
         self, keys: Tuple[Key, ...], word: Optional[bytes], column: Optional["Name"], where: Predicate
     ) -> Optional[Dict[Identity, Any]]:
-        """Returns the answers that the library has in one question, or None where it has not."""
+        """Returns the answers that the library has in one question, or None if it has not."""
         names, has_parts = tuple(dict.fromkeys(key.column for key in keys)), any(key.part for key in keys)
         if word is None or len(names) > 2 or has_parts and word == b"median":
             return None
@@ -256,7 +256,7 @@ def keys_of(given: Any, name_of: Callable[[Any], str]) -> List[Key]:
     if not isinstance(given, (list, tuple)):
         given = [given]
     if not given:
-        raise BadQuery("groupby takes a column or more")
+        raise BadQuery("groupby needs a column or more")
     return [Key(name_of(one.column), one.part) if isinstance(one, DatePart) else Key(name_of(one)) for one in given]
 
 

@@ -41,11 +41,12 @@ class Index(Table):
         limit: Optional[int] = None,
         progress: Progress = None,
     ) -> "Index":
-        """Makes an index of a pandas frame, a dict of columns, or what gives Arrow record batches, and chooses kinds,
-        widths and offsets from the data. `repr` of the index says what it chose, and so does the logger "bsi".
+        """Makes an index of a pandas frame, a dict of columns, or Arrow record batches, and chooses kinds, widths and
+        offsets from the data. `repr` of the index shows the choice, and so does the logger "bsi".
 
-        `columns` are those wanted, or all but `drop`; `kinds` and `forms` what is not to be chosen. What can't be kept
-        exactly is a BadRow, but for decimals of more places than `round`. `spare` widens columns by so many bits.
+        `columns` are the columns to use; without it all but those of `drop` are used. `kinds` and `forms` override the
+        choice. A value that can't be stored exactly raises BadRow; decimals are rounded to `round` places if it is
+        given. `spare` reserves extra bits for each column.
         """
         found = chosen_of([frame], columns, kinds, forms, drop=drop, round=round, spare=spare)
         return cls(found.forms, limit=limit)._filled(found, progress)
@@ -58,14 +59,14 @@ class Index(Table):
 
     def share(self) -> "Index":
         """Opens the index once more, for another thread: both can be asked at the same time, and from then on neither
-        takes rows."""
+        accepts rows."""
         other = object.__new__(type(self))
         Table.__init__(other, self._forms, self._limit, self._store.share())
         return other
 
     def save(self, path: Path) -> None:
-        """Writes the index to a file, which `open` opens. The file is replaced when the disk has all of the new one.
-        Until then, and after an error, it is as it was."""
+        """Writes the index to a file, which `open` opens. The file is replaced once the disk has the whole new one; until
+        then, and after an error, it is unchanged."""
         replace(path, self._kept())
 
     def _kept(self) -> Any:
@@ -89,9 +90,9 @@ def _copied(cls: type, data: bytes) -> Any:
 
 
 def open(path: Path, *, so_far: bool = False) -> Index:
-    """Opens the index that a file keeps, as `save` or the command `bsi save` wrote it. It may take further rows, which
-    the file gets by another `save`.
+    """Opens the index in a file that `save` or the command `bsi save` wrote. Rows that are appended to it are written
+    to the file only by another `save`.
 
     A file that is cut short or damaged is refused; with `so_far` the rows before the fault are opened. A file of the
-    command says not what its numbers mean: it has whole numbers."""
+    command does not say what its numbers mean: it has whole numbers."""
     return _of(Index, opened_file(path, so_far))

@@ -88,7 +88,7 @@ def _zone_name(name: str, zone: Any) -> Optional[str]:
         return f"{round(zone.utcoffset(None).total_seconds()):+d}"
     if zone.utcoffset(datetime(2026, 1, 1)) == timedelta(0) and "utc" in repr(zone).lower():
         return "+0"
-    raise Error(f"column {name!r} has the time zone {zone!r}, which has no name to be kept by; zoneinfo.ZoneInfo has")
+    raise Error(f"column {name!r} has the time zone {zone!r}, which has no name to be saved by; zoneinfo.ZoneInfo has")
 
 
 def _zone(name: Optional[str]) -> Any:
@@ -164,13 +164,13 @@ def _named(forms: Dict[str, Form], notes: bytes) -> Tuple[Dict[str, Form], Dict[
 
 
 def _refuse_unknown(handle: Handle, within: Iterable[str], forms: Mapping[str, Form]) -> None:
-    """Raises ValueError where a column has a number that stands for no text, or is neither true nor false."""
+    """Raises ValueError where a column has a number that represents no text, or is neither true nor false."""
     for name, (column, form) in zip(within, forms.items()):
         count = len(form.kind.values) if isinstance(form.kind, Texts) else 2
         if isinstance(form.kind, (Texts, Flags)):
             ends = [handle.value(word, name.encode(), [b"all"]) for word in (b"least", b"greatest")]
             if not all(end is None or 0 <= end < count for end in ends):
-                raise ValueError(f"column {column!r} has a number that stands for nothing")
+                raise ValueError(f"column {column!r} has a number that represents no value")
 
 
 # ---- Bytes ----
@@ -222,7 +222,7 @@ def _reason(why: BaseException) -> str:
 
 
 def opened_file(path: Path, so_far: bool = False) -> Kept:
-    """Opens the index that a file keeps. The file is mapped, and not read into memory of its own."""
+    """Opens the index in a file. The file is mapped, and not read into memory of its own."""
     name = os.fspath(path)
     if not (stat.S_ISREG(os.stat(name).st_mode) or os.path.isdir(name)):
         raise NotKept("it is no regular file", name)
@@ -234,7 +234,7 @@ def opened_file(path: Path, so_far: bool = False) -> Kept:
 
 
 def is_kept(path: str) -> bool:
-    """Returns whether a file's first bytes are those of a kept index."""
+    """Returns whether a file's first bytes are those of a saved index."""
     try:
         with open(path, "rb") as file:
             return stat.S_ISREG(os.fstat(file.fileno()).st_mode) and file.read(len(MAGIC)) == MAGIC
@@ -290,7 +290,7 @@ def _create(name: str, mode: int) -> Tuple[int, str]:
 
 
 def _stat(name: str) -> Optional[os.stat_result]:
-    """Returns what the system says of a file, or None where there is none."""
+    """Returns what the system says of a file, or None if there is none."""
     try:
         return os.stat(name)
     except FileNotFoundError:

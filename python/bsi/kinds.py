@@ -1,9 +1,9 @@
-"""What the whole numbers of a column stand for: numbers, decimals, times, booleans or texts.
+"""What the whole numbers of a column represent: numbers, decimals, times, booleans or texts.
 
 A kind turns values into whole numbers and back, and only where nothing is lost. A constant of a comparison need not be
-one of the values: its *cut* are two whole numbers, `left` up to which the column's numbers stand for less than the
-constant, and `right` from which on they stand for more. They differ by one where a number stands for the constant
-itself, and are equal where none does.
+one of the values: its *cut* are two whole numbers, `left` up to which the column's numbers represent less than the
+constant, and `right` from which on they represent more. They differ by one if a number represents the constant
+itself, and are equal if none does.
 """
 
 from __future__ import annotations
@@ -38,7 +38,7 @@ TIME = re.compile(rf"(\d{{4}}-\d\d-\d\d)(?:[T ]({CLOCK})(?: ?({ZONE}))?)?", re.A
 
 
 class Misfit(ValueError):
-    """The first value of an array that a kind does not take: its place, and why."""
+    """The first value of an array that a kind does not accept: its place, and why."""
 
     def __init__(self, row: int, value: Any, reason: str):
         super().__init__(reason)
@@ -73,7 +73,7 @@ def cut_of(value: Fraction) -> Cut:
 
 
 class Kind:
-    """What a column's numbers stand for. This is the base of the five kinds, and has what most of them share."""
+    """What a column's numbers represent. This is the base of the five kinds, and has what most of them share."""
 
     names_values = False  # whether its numbers are no quantities, but places in a list
     takes = ""  # what its values are called in an error
@@ -89,35 +89,35 @@ class Kind:
         raise NotImplementedError
 
     def decode(self, number: int) -> Any:
-        """Returns the value that a number of the column stands for."""
+        """Returns the value that a number of the column represents."""
         return number
 
     def show(self, number: int) -> str:
-        """Returns the value that a number stands for as a text."""
+        """Returns the value that a number represents as a text."""
         return str(self.decode(number))
 
     def decode_sum(self, total: int) -> Any:
-        """Returns what a sum of numbers stands for, or raises TypeError where such values have no sum."""
+        """Returns what a sum of numbers represents, or raises TypeError where such values have no sum."""
         raise TypeError(f"{self.takes} have no sum")
 
     def decode_between(self, number: Fraction) -> Any:
-        """Returns what a number stands for that may lie between two of the column's, or raises TypeError where such
+        """Returns what a number represents that may lie between two of the column's, or raises TypeError where such
         values have none between them."""
         raise TypeError(f"{self.takes} have none between them")
 
     def decode_deviation(self, variance: Fraction) -> Any:
-        """Returns what the root of a variance of numbers stands for, or raises TypeError where values have none."""
+        """Returns what the root of a variance of numbers represents, or raises TypeError where values have none."""
         raise TypeError(f"{self.takes} have no standard deviation")
 
     def number(self, value: Any) -> int:
-        """Returns the number that stands for a value, or raises TypeError or ValueError."""
+        """Returns the number that represents a value, or raises TypeError or ValueError."""
         left, right = self.cut(value)
         if left == right:
             raise ValueError(f"{shown(value)} {self.unfit}")
         return left
 
     def encode(self, values: np.ndarray, valid: np.ndarray) -> np.ndarray:
-        """Returns the numbers that stand for the values where they are valid, and 0 elsewhere. The first other value is
+        """Returns the numbers that represent the values where they are valid, and 0 elsewhere. The first other value is
         a Misfit."""
         numbers_found = np.zeros(len(values), np.int64)
         for row in np.flatnonzero(valid):
@@ -157,7 +157,7 @@ def fraction_of(constant: Any, read_float: Callable[[Any], Fraction] = Fraction)
 
 @dataclass(frozen=True)
 class Whole(Kind):
-    """Whole numbers. Answers are ints. A float stands for the number that it is."""
+    """Whole numbers. Answers are ints. A float represents the number that it is."""
 
     takes = "whole numbers"
     unfit = "is no whole number"
@@ -211,9 +211,9 @@ def _whole_of_floats(values: np.ndarray, valid: np.ndarray) -> np.ndarray:
 
 @dataclass(frozen=True)
 class Decimals(Kind):
-    """Decimals of so many places, given as a number of places or as the scale, "0.01". Answers are Decimal. A float
-    stands for the decimal that it prints as. Where `rounded`, a value of more places is kept as the nearest one, the
-    even one of two, and a float is then the number that it is."""
+    """Decimals of a number of places, given as that number or as the scale, "0.01". Answers are Decimal. A float
+    represents the decimal that it prints as. If `rounded`, a value of more places is stored as the nearest one, the
+    even one of two, and a float is then its exact number."""
 
     places: Any = 2
     rounded: bool = field(default=False, compare=False)
@@ -294,7 +294,7 @@ class Decimals(Kind):
         first_misfit(valid & ~np.isfinite(values), values, "is no finite number")
         fits = (np.abs(scaled) <= most) & (back == np.where(valid, values, 0))
         way = f"a column of Decimals({self.places}, rounded=True) rounds it"
-        reason = f"can't be kept exactly with {self.places} decimal places; {way}"
+        reason = f"can't be stored exactly with {self.places} decimal places; {way}"
         first_misfit(~fits, values, reason, TooFine)
         return scaled.astype(np.int64)
 
@@ -325,7 +325,7 @@ def _decimal(number: int, places: int) -> Decimal:
 
 @dataclass(frozen=True)
 class Times(Kind):
-    """Points of time, as a count of days "D", seconds "s", "ms", "us" or "ns" since 1970-01-01, in UTC where there is a
+    """Points of time, as a count of days "D", seconds "s", "ms", "us" or "ns" since 1970-01-01, in UTC if there is a
     zone: a tzinfo, or a name as "Europe/Paris". Answers are datetime, and numpy.datetime64 in UTC for nanoseconds and
     years past 9999. Constants are dates, times, or texts such as 2026-01-31T12:00.
     """
@@ -398,7 +398,7 @@ EPOCH, MICROSECOND = datetime(1970, 1, 1), timedelta(microseconds=1)
 
 
 def nanoseconds_of_text(text: str) -> Tuple[int, bool]:
-    """Returns the nanoseconds since 1970-01-01 that a text spells, in UTC where it has a zone, and whether it has
+    """Returns the nanoseconds since 1970-01-01 that a text spells, in UTC if it has a zone, and whether it has
     one."""
     found = TIME.fullmatch(text)
     if not found:
@@ -420,7 +420,7 @@ def seconds_ahead(zone: Optional[str]) -> int:
 
 
 def nanoseconds_of(moment: Any) -> Tuple[int, bool]:
-    """Returns the nanoseconds since 1970-01-01, in UTC where the moment has a zone, and whether it has one."""
+    """Returns the nanoseconds since 1970-01-01, in UTC if the moment has a zone, and whether it has one."""
     if isinstance(moment, str):
         return nanoseconds_of_text(moment)
     if isinstance(moment, np.datetime64) and not np.isnat(moment):
@@ -493,9 +493,9 @@ class Flags(Kind):
 
 @dataclass(frozen=True)
 class Texts(Kind):
-    """One of these texts, as its place among them. They compare in order of their characters, and in the order given
-    where `ordered`. Answers are str. Where it `grows`, further texts of an append get the next places, as far as the
-    column has room, so that places are in no order."""
+    """One of these texts, as its place among them. They compare in order of their characters, or in the order given if
+    `ordered`. Answers are str. If it `grows`, further texts of an append get the next places, as far as the column
+    has room, so that places are in no order."""
 
     values: Tuple[str, ...]
     ordered: bool = False
@@ -514,7 +514,7 @@ class Texts(Kind):
         object.__setattr__(self, "values", values)
         object.__setattr__(self, "places", {value: place for place, value in enumerate(values)})
         if len(self.places) < len(values):
-            raise ValueError("a text stands twice in the list")
+            raise ValueError("a text is twice in the list")
 
     def cut(self, constant: Any) -> Cut:
         if not isinstance(constant, str):
@@ -524,7 +524,7 @@ class Texts(Kind):
         if self.grows:
             return len(self.values), len(self.values)
         if self.ordered:
-            raise ValueError(f"{shown(constant)} is none of the texts, whose order was given")
+            raise ValueError(f"{shown(constant)} is not one of the texts, whose order was given")
         return bisect_left(self.values, constant), bisect_right(self.values, constant)
 
     def numbers_where(self, sign: str, constant: Any) -> List[int]:
@@ -540,7 +540,7 @@ class Texts(Kind):
 
     @property
     def unfit(self) -> str:  # type: ignore[override]
-        return f"is none of its {len(self.values):,} texts" + ("" if self.ordered or self.grows else GROWS)
+        return f"is not one of its {len(self.values):,} texts" + ("" if self.ordered or self.grows else GROWS)
 
     def parse(self, text: str) -> str:
         return text

@@ -23,7 +23,7 @@ Narrowed = Tuple[Optional[Kind], np.ndarray]
 
 
 def encode(kind: Kind, given: Values) -> np.ndarray:
-    """Returns the numbers that stand for the values under a kind that is known. The first other value is a Misfit."""
+    """Returns the numbers that represent the values under a kind that is known. The first other value is a Misfit."""
     if given.values.dtype.kind == "M" and isinstance(kind, Times) and (given.zone is None) != (kind.zone is None):
         has, column_has = ("no", "one") if given.zone is None else ("a", "none")
         first_misfit(given.valid, given.values, f"has {has} time zone, and the column has {column_has}")
@@ -31,7 +31,7 @@ def encode(kind: Kind, given: Values) -> np.ndarray:
 
 
 def narrow(given: Values, texts: Optional[int] = MAX_TEXTS, round: Optional[int] = None) -> Narrowed:
-    """Returns the narrowest kind of the values and the numbers that stand for them. The first value that fits in none
+    """Returns the narrowest kind of the values and the numbers that represent them. The first value that fits in none
     is a Misfit. There are at most so many texts, and decimals of more than so many places are rounded."""
     values, valid = given.values, given.valid
     if not valid.any():
@@ -79,7 +79,7 @@ def _of_objects(given: Values, texts: Optional[int], round: Optional[int]) -> Na
         return _times(given)
     if isinstance(first, (numbers.Real, Decimal, np.number)):
         return _numbers(given, round)
-    raise Misfit(int(given.valid.argmax()), first, f"{shown(first)} is none of numbers, times, booleans or texts")
+    raise Misfit(int(given.valid.argmax()), first, f"{shown(first)} is not one of numbers, times, booleans or texts")
 
 
 def _texts(given: Values, most: Optional[int]) -> Narrowed:
@@ -104,19 +104,19 @@ def _refuse_texts(given: Values, most: Optional[int]) -> None:
 
 def too_fine(value: Any) -> str:
     """Returns what is wrong with a float of more places than are tried."""
-    return f"{shown(value)} can't be kept exactly with {MAX_PLACES} decimal places; round= rounds it"
+    return f"{shown(value)} can't be stored exactly with {MAX_PLACES} decimal places; round= rounds it"
 
 
 def too_many_texts(text: str, for_dates: str = "pandas.to_datetime makes dates of texts") -> str:
     """Returns what is wrong with a text past those that a column may have, and what to do where it looks like a
     date."""
-    ways = "kinds= with Texts takes all of them, and drop= leaves the column out"
+    ways = "kinds= with Texts accepts all of them, and drop= leaves the column out"
     ways = f"it looks like a date, and {for_dates}; {ways}" if is_date(text) else ways
-    return f"{shown(text)} is one text more than the {MAX_TEXTS:,} that are taken unasked; {ways}"
+    return f"{shown(text)} is one text more than the {MAX_TEXTS:,} that are accepted unasked; {ways}"
 
 
 def _numbers(given: Values, round: Optional[int]) -> Narrowed:
-    """Decimals of as many places as the values show, and whole numbers where none of them is a Decimal or has a
+    """Decimals of as many places as the values show, and whole numbers if none of them is a Decimal or has a
     fraction."""
     places, is_whole = 0, True
     for row in np.flatnonzero(given.valid).tolist():
@@ -167,7 +167,7 @@ def _times(given: Values) -> Narrowed:
 
 
 def zone_of(zone: Any) -> Any:
-    """Returns the zone itself: pytz gives each time one that stands for a part of the year alone."""
+    """Returns the zone itself: pytz gives each time one that represents a part of the year alone."""
     pytz = sys.modules.get("pytz")
     is_part = pytz is not None and isinstance(zone, pytz.tzinfo.DstTzInfo)
     return pytz.timezone(zone.zone) if is_part else zone
@@ -184,7 +184,7 @@ def times_of(moments: np.ndarray, values: Any, zone: Any) -> Narrowed:
 
 
 def joined(one: Optional[Kind], other: Optional[Kind]) -> Optional[Kind]:
-    """Returns the kind that keeps what both keep, or raises TypeError where there is none."""
+    """Returns the kind that keeps what both keep, or raises TypeError if there is none."""
     if one is None or other is None or one == other:
         return one or other
     if isinstance(one, (Whole, Decimals)) and isinstance(other, (Whole, Decimals)):

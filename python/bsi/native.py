@@ -66,7 +66,7 @@ Known = Tuple[int, Optional[int]]
 
 
 class Near(NamedTuple):
-    """How many numbers lie below a span, how many within it, and these, or None where they are too many."""
+    """How many numbers lie below a span, how many within it, and these, or None if they are too many."""
 
     below: int
     many: int
@@ -152,7 +152,7 @@ class Handle:
             status = self._call("bsi_open", _address(text), len(text), 1, byref(bad_record))
             if status == BAD_SCHEMA:
                 raise errors.BadSchema(
-                    f"the library does not take record {bad_record.value} of the schema", bad_record.value
+                    f"the library does not accept record {bad_record.value} of the schema", bad_record.value
                 )
             check(status)
 
@@ -195,7 +195,7 @@ class Handle:
         return _sum_of(self._ask(b"sum", name, *fields))
 
     def value(self, word: bytes, name: bytes, fields: Sequence[bytes]) -> Optional[int]:
-        """Returns the least, greatest or lower median number in these rows, or None where there is none."""
+        """Returns the least, greatest or lower median number in these rows, or None if there is none."""
         answer = self._ask(word, name, *fields)
         return answer.value if answer.present else None
 
@@ -254,7 +254,7 @@ class Handle:
         self, by: Tuple[bytes, ...], fields: Sequence[bytes], most: int, nulls: bool = False
     ) -> Optional[Dict[Tuple[Optional[int], ...], Optional[int]]]:
         """Returns the query's answer over the rows of each number of a column, or of each pair of numbers of two, in
-        order of these, and over the nulls, as None, only where they are wanted. None where there are more than so many.
+        order of these, and over the nulls, as None, only where they are wanted. None if there are more than so many.
         For two columns it takes eight fields more."""
         if len(by) == 2:
             # (there may be more pairs with a null in them than others)
@@ -271,12 +271,12 @@ class Handle:
         return found if len(found) <= most else None
 
     def _groups(self, call: str, room: Any, by: Tuple[bytes, ...], fields: Sequence[bytes]) -> Optional[List[Any]]:
-        """Returns the groups of the rows, or None where there are more than this room has."""
+        """Returns the groups of the rows, or None if there are more than this room has."""
         count = self._grouped(call, room, by, fields)
         return None if count is None else room[:count]
 
     def _grouped(self, call: str, room: Any, by: Tuple[bytes, ...], fields: Sequence[bytes]) -> Optional[int]:
-        """Writes the groups of the rows, and returns how many they are, or None where this room has fewer."""
+        """Writes the groups of the rows, and returns how many they are, or None if this room has fewer."""
         slices, length, _kept = _slices(tuple(fields))
         count, names = c_size_t(), [np.frombuffer(name, np.uint8) for name in by]
         named = (word for name in names for word in (_address(name), len(name)))
@@ -371,7 +371,7 @@ class Handle:
         return handle, notes[: size.value].tobytes()
 
     def share(self) -> "Handle":
-        """Returns another handle of the same index. From then on it takes no rows."""
+        """Returns another handle of the same index. From then on it accepts no rows."""
         other = Handle()
         check(self._call("bsi_share", byref(other._index)))
         return other
@@ -390,7 +390,7 @@ def _sum_of(answer: _Answer) -> int:
 
 
 def _number_of(answer: _Answer) -> Optional[int]:
-    """Returns the number that an answer is, or None where it is none."""
+    """Returns the number that an answer is, or None if it is none."""
     if answer.kind == COUNT:
         return answer.count
     return _sum_of(answer) if answer.kind == SUM else answer.value if answer.present else None

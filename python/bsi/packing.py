@@ -28,8 +28,8 @@ def all_of(rows: int) -> np.ndarray:
 
 
 class Packed(NamedTuple):
-    """Numbers of some rows: the least and the greatest of the valid ones, or None where there is none, the binary places,
-    and a bit for each row that says whether it is valid, or None where all are."""
+    """Numbers of some rows: the least and the greatest of the valid ones, or None if there is none, the binary places,
+    and a bit for each row that says whether it is valid, or None if all are."""
 
     rows: int
     ends: Optional[Tuple[int, int]]

@@ -154,8 +154,8 @@ def refuse_no_parts(n: Any) -> None:
 
 
 class Parts(Table):
-    """Rows split over n indexes, each asked on a thread of its own. Counts, sums, ends, masks and exact lower medians
-    are put together, so every answer is that of one index over all rows, in the order in which they were appended."""
+    """Rows split over n indexes, each asked on a thread of its own. Counts, sums, least and greatest values, masks and
+    exact lower medians are combined, so every answer is that of one index over all rows in the order of appending."""
 
     def __init__(self, n: int, columns: Mapping[str, Form], *, limit: Optional[int] = None):
         refuse_no_parts(n)
@@ -191,7 +191,7 @@ class Parts(Table):
         return super()._append(encoded)
 
     def save(self, folder: Path) -> List[str]:
-        """Writes a file for each part into a folder, which is made where it is not there, and returns their paths.
+        """Writes a file for each part into a folder, which is made if it is not there, and returns their paths.
         `open_parts` opens these."""
         os.makedirs(folder, exist_ok=True)
         kept = self._store.each_kept(self._forms)
@@ -214,7 +214,7 @@ def _of(cls: type, each: List[Kept], paths: Sequence[str]) -> Any:
     try:
         runs, limit = _placed(each)
     except (ValueError, KeyError, TypeError, AttributeError) as why:
-        raise BadNotes(f"it is none of these parts: {why}", paths[0], first.handle.rows()) from None
+        raise BadNotes(f"it is not one of these parts: {why}", paths[0], first.handle.rows()) from None
     parts, store = object.__new__(cls), _Threads([kept.handle for kept in each], limit, runs)
     Table.__init__(parts, first.forms, limit, store)
     return parts
@@ -233,7 +233,7 @@ def _placed(each: Sequence[Kept]) -> Tuple[List[Tuple[int, int]], int]:
         raise ValueError("all files that were saved together are opened together, in their order, and no others")
     runs = [(int(part), int(count)) for part, count in notes["runs"]]
     if [sum(count for part, count in runs if part == place) for place in range(len(each))] != rows:
-        raise ValueError("its notes tell other rows")
+        raise ValueError("its notes describe other rows")
     return runs, min(MAX_ROWS, int(notes["limit"]))
 
 
@@ -242,7 +242,7 @@ def _copied(cls: type, each: List[bytes]) -> Any:
 
 
 def open_parts(paths: Iterable[Path]) -> Parts:
-    """Opens the indexes that files keep as the parts of one, each asked on a thread of its own. Files that
+    """Opens the indexes in files as the parts of one, each asked on a thread of its own. Files that
     `Parts.save` wrote are all given, in their order. Any others of the same columns are taken too: their rows come file
     by file."""
     names = [os.fspath(path) for path in paths]

@@ -70,7 +70,7 @@ class Holds(NamedTuple):
 
 
 class Stored(NamedTuple):
-    """A column, one of the signs, and a number of those that stand for its values."""
+    """A column, one of the signs, and a number of those that represent its values."""
 
     column: str
     sign: str
@@ -173,7 +173,7 @@ class Predicate:
         if isinstance(other, Column):
             other = other.holds()
         if not isinstance(other, Predicate):
-            raise TypeError(f"a predicate stands on each side of '{word}', and not {type(other).__name__}")
+            raise TypeError(f"a predicate is needed on each side of '{word}', not {type(other).__name__}")
         return Predicate((*self.terms, *other.terms, word))
 
     def __bool__(self) -> bool:
@@ -245,9 +245,9 @@ class _Comparable:
 def _listed(constants: Any) -> Tuple[Any, ...]:
     """Returns the constants of `isin`."""
     if isinstance(constants, (str, bytes)):
-        raise TypeError(f"isin takes a list of constants, and not a text: isin([{constants!r}])")
+        raise TypeError(f"isin needs a list of constants, not a text: isin([{constants!r}])")
     if not isinstance(constants, Iterable):
-        raise TypeError(f"isin takes a list of constants, and not {constants!r}")
+        raise TypeError(f"isin needs a list of constants, not {constants!r}")
     return tuple(map(_scalar, constants))
 
 
@@ -347,7 +347,7 @@ class Column(_Comparable):
     def _matching(self, word: str, text: str) -> Predicate:
         text = _scalar(text)
         if not isinstance(text, str):
-            raise TypeError(f"{word} takes a text, and not {text!r}")
+            raise TypeError(f"{word} needs a text, not {text!r}")
         return Predicate((Matching(self.name, word, str(text)),))
 
     @property

@@ -144,7 +144,7 @@ class _Process:
 
 
 def _most(count: int) -> int:
-    """Returns how many of so many processes may be started: one a processor at most, and none where there is but one or
+    """Returns how many of so many processes may be started: one a processor at most, and none if there is but one or
     where this program is not Python itself, which can be started anew."""
     is_python = "python" in os.path.basename(sys.executable or "").lower() and not getattr(sys, "frozen", False)
     processors = len(os.sched_getaffinity(0)) if count and is_python else 0
@@ -189,7 +189,7 @@ class Processes:
         self._threads.append(thread)
 
     def read(self, reader: RunReader, run: Run, wanted: Sequence[bool]) -> Optional[Answers]:
-        """Lets a process read a run, and returns where its answer will be, or None where there is none that can."""
+        """Lets a process read a run, and returns where its answer will be, or None if there is none that can."""
         self._size += len(run.text)
         self.start_for(self._size)
         with self._lock:
@@ -202,7 +202,7 @@ class Processes:
             return answers
 
     def _packed(self, reader: RunReader) -> Optional[How]:
-        """Returns how runs are read, packed anew where a column has come to be read, or None where that can't be."""
+        """Returns how runs are read, packed anew where a column has come to be read, or None if that can't be."""
         readers = [column.reader for column in reader.columns]
         if readers != self._readers:
             self._how, self._readers = None, readers
@@ -272,7 +272,7 @@ def main() -> None:
 
 
 def _read(reader: Any, run: Run, wanted: Sequence[bool], told: List[int]) -> Optional[Tuple[Pieces, List[List[str]]]]:
-    """Returns the pieces of a run with the texts that were not told before, or None where the caller has to read it."""
+    """Returns the pieces of a run with the texts that were not told before, or None if the caller has to read it."""
     try:
         records, pieces = reader.read(run, wanted)
     except Exception:  # (the caller meets it too)

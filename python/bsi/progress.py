@@ -1,4 +1,4 @@
-"""How far a long read is: told to a callback, or shown by tqdm where it is there."""
+"""How far a long read is: told to a callback, or shown by tqdm if it is there."""
 
 from __future__ import annotations
 

@@ -1,4 +1,4 @@
-"""Predicates as the fields of queries, over the numbers that stand for the values of columns.
+"""Predicates as the fields of queries, over the numbers that represent the values of columns.
 
 One that has too many constants in its lists for one query becomes several. Each of them is over the rows whose numbers
 of a column lie in a span, or that have none there, so that no two share a row, and needs but the constants in that
@@ -37,7 +37,7 @@ Spans = Mapping[str, Optional[Tuple[int, int]]]
 
 
 def name_among(forms: Mapping[str, Form], column: Name) -> str:
-    """Returns the name of a column, or raises BadQuery where there is none."""
+    """Returns the name of a column, or raises BadQuery if there is none."""
     name = column.name if isinstance(column, Column) else column
     if not isinstance(name, str) or name not in forms:
         raise BadQuery(f"there is no column {shown(name)}, only {', '.join(map(repr, forms))}")
@@ -180,7 +180,7 @@ class Writer:
 
 
 def _are_comparable(kind: Kind, other: Kind) -> bool:
-    """Returns whether equal numbers of the two kinds stand for equal values, and others in the same order."""
+    """Returns whether equal numbers of the two kinds represent equal values, and others in the same order."""
     if isinstance(kind, Times) and isinstance(other, Times):
         return kind.unit == other.unit and (kind.zone is None) == (other.zone is None)
     return kind == other
@@ -205,7 +205,7 @@ def runs_of(numbers: Sequence[int]) -> Iterator[Tuple[int, int]]:
 
 
 def clamped(form: Form, sign: str, number: int) -> Tuple[str, int]:
-    """Returns the same comparison with a number that the column takes: below its least one there is none, from it on
+    """Returns the same comparison with a number that the column accepts: below its least one there is none, from it on
     are all."""
     if sign in ("=", "!="):
         if form.offset <= number <= form.most:

@@ -8,8 +8,8 @@
 rank gives the value of rank K, from 0, and quantile that of the share PART / WHOLE. A KEY is a column, or a part of its
 dates: day.year, .quarter, .month, .week, .day, .weekday (from Monday, 0) or .hour. Nulls are groups of their own.
 P is made of `COLUMN SIGN CONSTANT` with one of = == != < <= > >= startswith endswith contains, `COLUMN null`,
-`COLUMN not null`, `all`, `and`, `or`, `not` and brackets; `where` may stand before it. COLUMN may be a part of dates. What is none of the column's constants may name another column. `not`
-binds closest, then `and`. A name or a constant that is no plain word, or one of these words, stands in quotes:
+`COLUMN not null`, `all`, `and`, `or`, `not` and brackets; `where` may precede it. COLUMN may be a part of dates. A word that is no constant of the column may name another column. `not`
+binds closest, then `and`. A name or a constant that is no plain word, or one of these words, is in quotes:
 "Amount (EUR)", 'Okafor, Ada'; a quote within them is written twice.
 Constants are read as the column's own kind: 100, 12.50, 2026-01-31, true, Meyer.
 """
@@ -39,11 +39,11 @@ BINDS = {"(": 0, "or": 1, "and": 2, "not": 3}
 
 
 class NoSign(BadQuery):
-    """A column is named where it is to be compared, and no sign follows."""
+    """A column that is to be compared is named, and no sign follows."""
 
 
 class Token(str):
-    """A word of a question, and whether it stood in quotes."""
+    """A word of a question, and whether it was in quotes."""
 
     quoted: bool
 
@@ -82,7 +82,7 @@ def ask(table: Table, text: str) -> Any:
     """Returns the answer of an Index, or of parts, to a question that is a text."""
     if not isinstance(table, Table) or not isinstance(text, str):
         given = f"{type(table).__name__} and {type(text).__name__}"
-        raise TypeError(f"ask takes an index and a question that is a text, and not {given}")
+        raise TypeError(f"ask needs an index and a question that is a text, not {given}")
     tokens = tokens_of(text)
     if not tokens or tokens[0].quoted or tokens[0] not in WORDS:
         raise BadQuery(f"a question begins with one of {', '.join(WORDS)}")
@@ -177,9 +177,9 @@ def _predicate(table: Table, tokens: List[Token]) -> Predicate:
             waiting.pop()
             at += 1
         else:
-            raise BadQuery(f"'and', 'or' or the end is wanted, and not {str(token)!r}")
+            raise BadQuery(f"'and', 'or' or the end must follow, not {str(token)!r}")
     if is_operand:
-        raise BadQuery("the question ends where a column is wanted")
+        raise BadQuery("the question ends before a column")
     _apply(operands, waiting, 1)
     if waiting:
         raise BadQuery("a bracket is opened and not closed")
@@ -210,7 +210,7 @@ def _operand(table: Table, tokens: List[Token], at: int) -> Tuple[Predicate, int
     if rest == ["not", "null"]:
         return tested.notnull(), at + 3
     if rest[:1] == [None] or not rest or rest[0] not in SIGNS or at + 2 >= len(tokens):
-        raise NoSign(f"a sign and a constant, or 'null', is wanted after {str(name)!r}")
+        raise NoSign(f"a sign and a constant, or 'null', must follow {str(name)!r}")
     return _compared(table, column, str(rest[0]), tokens[at + 2]), at + 3
 
 

@@ -58,15 +58,18 @@ def read_csv(
     parts: int = 1,
     progress: Progress = None,
 ) -> Union[Index, Parts]:
-    """Makes an index of CSV files with one header, and chooses kinds, widths and offsets from what they hold. `repr`
-    says what it chose.
+    """Makes an index of CSV files with one header, and chooses kinds, widths and offsets from their fields. `repr` of the
+    index shows the choice.
 
-    `columns` are those wanted, or all but `drop`; `kinds` and `forms` what is not to be chosen (`Texts` keeps a column
-    of codes as text); `nulls` the fields that stand for nothing; `decimal` the decimal sign, and `thousands` what
-    stands between groups of three digits (" " for blanks of any width); `dates` how strptime reads dates, also by
-    column; `round` the places to which decimals of more are rounded. With `bad="skip"` rows that can't be kept are left
-    out, and stand in `skipped`; else they are a BadRow. `spare` widens columns by so many bits. With several `parts`
-    rows are split over as many indexes, and a large file is read by as many processes, at most one a processor.
+    `columns`: the columns to read; without it all but those of `drop`.
+    `kinds`, `forms`: override the choice (`Texts` stores a column of codes as text).
+    `nulls`: the fields that are nulls.
+    `decimal`, `thousands`: the decimal sign, and the sign between groups of three digits (" " for blanks of any width).
+    `dates`: the format of dates, as for strptime, also by column.
+    `round`: decimals of more places are rounded to this number of places.
+    `bad="skip"`: leaves out rows that can't be stored and lists them in `skipped`; otherwise they raise BadRow.
+    `spare`: reserves this number of extra bits for each column.
+    `parts`: splits rows over this number of indexes; as many processes read a large file, at most one a processor.
     """
     if bad not in ("refuse", "skip"):
         raise ValueError(f"bad is 'refuse' or 'skip', and not {bad!r}")
@@ -207,7 +210,7 @@ class _Column:
         return self.fields.options
 
     def meaning(self) -> Tuple[Optional[Meaning], Bad, bool]:
-        """Returns what the places of texts stand for, which of them stand for nothing, and whether the column is
+        """Returns what the places of texts represent, which of them are nulls, and whether the column is
         refused for those: where its texts are no texts."""
         if not isinstance(self.reader, TextReader) or not self.reader.distinct.texts:
             return None, {}, False
@@ -226,7 +229,7 @@ class _Column:
         return counts
 
     def apply(self, meaning: Meaning) -> None:
-        """Puts what the places of texts stand for in their place."""
+        """Puts what the places of texts represent in their place."""
         for at, block in enumerate(self.blocks):
             self.blocks[at] = block.meaning(meaning.kind, meaning.numbers)
 
@@ -421,7 +424,7 @@ class _Reader:
                 seen |= {code} - {-1}
                 if len(seen) > (reader.most or FAR):
                     text = reader.distinct.texts[code]
-                    reason = too_many_texts(text, "dates= tells how to read it")
+                    reason = too_many_texts(text, "dates= says how to read it")
                     column.refusal = rows.bad(column.name, first, text, reason)
                     return
 
@@ -458,7 +461,7 @@ class _Reader:
         return BadRow(why.column, why.row, why.value, why.reason, rows.place(why.row - rows.row))
 
     def _mean(self, column: _Column) -> None:
-        """Finds what the texts of a column stand for, and leaves out or refuses those that stand for nothing."""
+        """Finds what the texts of a column represent, and leaves out or refuses those that are nulls."""
         meaning, bad, is_refused = column.meaning()
         if bad:
             places = np.array(list(bad), np.int64)
@@ -476,7 +479,7 @@ class _Reader:
             column.apply(meaning)
 
     def _leave_misfits(self, column: _Column) -> None:
-        """Leaves the rows out that a form which is given does not take."""
+        """Leaves the rows out that a form which is given does not accept."""
         for at, rows in enumerate(self._rows):
             block = column.blocks[at].plain()
             form = self._wishes.forms[column.name].of(block.kind or column.options.kind or Whole())

@@ -1,4 +1,4 @@
-"""What goes out: numbers of a column turned back to the values that they stand for, as a list or as a column of pandas.
+"""What goes out: numbers of a column turned back to the values that they represent, as a list or as a column of pandas.
 """
 
 from __future__ import annotations
@@ -12,7 +12,7 @@ from .taking import Found
 
 
 def objects_of(kind: Kind, found: Found) -> np.ndarray:
-    """Returns the values that numbers stand for as an array of objects, with None for a null. Each different number is
+    """Returns the values that numbers represent as an array of objects, with None for a null. Each different number is
     turned once."""
     numbers, valid = found
     different, places = np.unique(numbers[valid], return_inverse=True)
@@ -22,15 +22,15 @@ def objects_of(kind: Kind, found: Found) -> np.ndarray:
 
 
 def list_of(kind: Kind, found: Found) -> List[Any]:
-    """Returns the values that numbers stand for, with None for a null."""
+    """Returns the values that numbers represent, with None for a null."""
     if kind == Whole() and found[1].all():
         return found[0].tolist()
     return objects_of(kind, found).tolist()
 
 
 def column_of(pandas: Any, kind: Kind, found: Found) -> Any:
-    """Returns a column of pandas that has the values which numbers stand for: whole numbers and booleans, of a nullable
-    dtype where there are nulls; times in nanoseconds where these can have them; an ordered category; and else objects,
+    """Returns a column of pandas that has the values which numbers represent: whole numbers and booleans, of a nullable
+    dtype if there are nulls; times in nanoseconds where these can have them; an ordered category; and else objects,
     with None for a null."""
     numbers, valid = found
     if kind == Whole():

@@ -1,6 +1,6 @@
 """How the fields of a column of a file are read: as numbers, times, booleans or texts.
 
-A reader turns the fields of a run into numbers, or into the places of their texts in a list: what these stand for is
+A reader turns the fields of a run into numbers, or into the places of their texts in a list: what these represent is
 then found at the end, over all of the column. A field that it can't read is told with why.
 """
 
@@ -46,7 +46,7 @@ class Options(NamedTuple):
 
 
 class Read(NamedTuple):
-    """Numbers of fields and their kind, or places of texts in a list where there is none yet; and the fields that are
+    """Numbers of fields and their kind, or places of texts in a list if there is none yet; and the fields that are
     not read."""
 
     kind: Optional[Kind]
@@ -55,7 +55,7 @@ class Read(NamedTuple):
 
 
 class Meaning(NamedTuple):
-    """What the places in a list of texts stand for, and those that stand for nothing."""
+    """What the places in a list of texts represent, and those that are nulls."""
 
     kind: Kind
     numbers: np.ndarray
@@ -98,7 +98,7 @@ def _sign_of(grouped: Any) -> str:
 def _hint(text: str, options: Options) -> str:
     """Returns how a text could be read that looks like a number."""
     if mark := MARK.search(text):
-        return f"; take the {mark[0].strip()!r} out, or kinds= with Texts keeps it" if _is_like_number(text) else ""
+        return f"; take the {mark[0].strip()!r} out, or kinds= with Texts stores it" if _is_like_number(text) else ""
     other = {".": ",", ",": "."}[options.decimal]
     if found := GROUPED.fullmatch(text):
         sign = _sign_of(found)
@@ -242,7 +242,7 @@ class TimeReader:
 
 def other_zone(text: str, is_aware: bool) -> str:
     """Returns what is wrong with a time that alone has a time zone, or alone has none."""
-    return f"{shown(text)} has {'a' if is_aware else 'no'} time zone, as none before it"
+    return f"{shown(text)} has {'a' if is_aware else 'no'} time zone, like those before it"
 
 
 def _text(fields: Fields, row: int) -> str:
@@ -307,7 +307,7 @@ class TextReader:
         return Read(None, self.distinct.codes(fields), {})
 
     def meaning(self) -> Meaning:
-        """Returns what the places stand for, when all fields are read."""
+        """Returns what the places represent, when all fields are read."""
         self.distinct.end()
         return self._meaning(self.distinct.texts, self.options)
 
@@ -459,5 +459,5 @@ def misread(texts: List[str], count: Callable[[], np.ndarray], options: Options)
             return {place: why + ("" if "nulls=" in why else more) for place, why in reasons.items()}
     if not there and texts:
         each = enumerate(texts)
-        return {place: told(text, f"{shown(text)} stands for no text", options.nulls) for place, text in each}
+        return {place: told(text, f"{shown(text)} represents no text", options.nulls) for place, text in each}
     return {}

@@ -82,7 +82,7 @@ def opened(columns: Mapping[str, Form], limit: Optional[int] = None) -> Handle:
             raise
         name, form = list(columns.items())[why.record - 1]
         rule = "1 to 63 slices, or bases of 2 to 1,024 with a sum of at most 4,096 and a product of at most 2^63"
-        reason = f"column {name!r} can't be kept as {form}: {rule}; all numbers within 64 bits"
+        reason = f"column {name!r} can't be stored as {form}: {rule}; all numbers within 64 bits"
         raise BadSchema(reason, why.record) from None
 
 
@@ -96,7 +96,7 @@ def schema_of(columns: Mapping[str, Form], limit: Optional[int]) -> bytes:
             raise BadSchema(f"an index has columns by name, each {shape}, and not {name!r}: {form!r}")
         refuse_no_kind(name, form.kind)
     if len(columns) > MAX_COLUMNS:
-        raise BadSchema(f"an index has at most {MAX_COLUMNS} columns, and not {len(columns)}; name those wanted")
+        raise BadSchema(f"an index has at most {MAX_COLUMNS} columns, and not {len(columns)}; name those to read")
     if limit is not None and (not isinstance(limit, Integral) or not 1 <= limit <= MAX_ROWS):
         raise BadSchema(f"the limit is 1 to {MAX_ROWS:,} rows, and not {shown(limit)}")
     within = names_within(list(columns))
@@ -106,7 +106,7 @@ def schema_of(columns: Mapping[str, Form], limit: Optional[int]) -> bytes:
 
 
 class Table:
-    """Rows of named columns, and answers to questions about them. Any thread may ask; questions of one store are asked
+    """Rows of named columns, and answers to questions about them. Any thread may ask; questions to one store are asked
     one at a time."""
 
     def __init__(self, columns: Mapping[str, Form], limit: int, store: Any):
@@ -166,7 +166,7 @@ class Table:
         """Appends rows, given as a dict of columns, a pandas frame or an Arrow record batch, and returns how many they
         are.
 
-        A value that its column does not take, and a row past the limit, are refused before anything changes."""
+        A value that its column does not accept, and a row past the limit, are refused before anything changes."""
         grown: Dict[str, Form] = {}
         encoded = self._encoded(data, grown)
         try:
@@ -266,7 +266,7 @@ class Table:
 
     def mean(self, column: Name, where: Predicate = all_rows) -> Any:
         """Returns the mean of the column's values in these rows: a float, a Decimal for decimals, and for times the
-        nearest microsecond, or nanosecond. None where there is no value."""
+        nearest microsecond, or nanosecond. None if there is no value."""
         name = self._name(column)
         kind, count = self._forms[name].kind, self.count(name, where)
         if isinstance(kind, Times):
@@ -277,7 +277,7 @@ class Table:
     def std(self, column: Name, where: Predicate = all_rows) -> Any:
         """Returns the standard deviation of the column's values in these rows as pandas has it, by one less than their
         count: a float, or a Decimal for decimals, from the exact sums of their numbers and of the squares of these. None
-        where there are fewer than two values. A column that takes more than 65,536 numbers takes memory as `save` does."""
+        if there are fewer than two values. A column that takes more than 65,536 numbers takes memory as `save` does."""
         name = self._name(column)
         return self._deviations([name], where)[name]
 
@@ -324,7 +324,7 @@ class Table:
         interpolation: str = "lower",
     ) -> Any:
         """Returns the value of the column at a part of these rows from 0 to 1, or a list of such, as NumPy's method
-        "lower" has it, or "linear": between two values a float, a Decimal or a datetime. None where there is no value.
+        "lower" has it, or "linear": between two values a float, a Decimal or a datetime. None if there is no value.
         It takes a count and the time of a median."""
         if interpolation not in ("lower", "linear"):
             raise ValueError(f"interpolation is 'lower' or 'linear', and not {interpolation!r}")
@@ -357,7 +357,7 @@ class Table:
         return kind.decode_between(low + (high - low) * (place - rank))
 
     def _numbers_at(self, name: str, ranks: List[int], where: Predicate) -> List[int]:
-        """Returns the numbers of ranks as `_number_at` does, which the library finds in one call where it can."""
+        """Returns the numbers of ranks as `_number_at` does, which the library finds in one call if it can."""
         kind, queries = self._forms[name].kind, self._queries(where, BOUND)
         if len(queries) > 1 or isinstance(kind, Texts) and kind.grows:
             return [self._number_at(name, rank, where) for rank in ranks]
@@ -394,11 +394,11 @@ class Table:
 
     def rank(self, column: Name, value: Any, where: Predicate = all_rows, method: str = "average") -> Any:
         """Returns the place from 1 that a value has among those of the column in these rows, as pandas ranks them: of
-        equal ones the mean of their places, or the "min" or "max" of these. None where none of the rows has it."""
+        equal ones the mean of their places, or the "min" or "max" of these. None if none of the rows has it."""
         if method not in ("average", "min", "max"):
             raise ValueError(f"method is 'average', 'min' or 'max', and not {method!r}")
         if isinstance(value, Column):
-            raise TypeError("rank takes a value of the column, and not a column")
+            raise TypeError("rank needs a value of the column, not a column")
         one = Column(self._name(column))
         less, same = self.count((one < value) & where), self.count((one == value) & where)
         places = {"min": less + 1, "max": less + same, "average": less + (same + 1) / 2}
@@ -406,7 +406,7 @@ class Table:
 
     def nlargest(self, n: int, column: Name, where: Predicate = all_rows) -> np.ndarray:
         """Returns the numbers of the n rows that have the greatest values of the column, the greatest first, and of
-        equal ones the first rows first, as pandas does. Fewer where fewer have a value."""
+        equal ones the first rows first, as pandas does. Fewer if fewer have a value."""
         return self._outermost(n, self._name(column), where, ">")
 
     def nsmallest(self, n: int, column: Name, where: Predicate = all_rows) -> np.ndarray:
@@ -417,7 +417,7 @@ class Table:
     def _outermost(self, n: int, name: str, where: Predicate, sign: str) -> np.ndarray:
         """Returns the n rows of which the others lie on one side, the outermost first."""
         if not hasattr(n, "__index__") or isinstance(n, bool) or n < 0:
-            raise ValueError(f"so many rows is a whole number from 0 up, and not {n!r}")
+            raise ValueError(f"the number of rows is a whole number from 0 up, not {n!r}")
         count = self.count(name, where)
         n = min(n, count)
         if not n:
@@ -442,7 +442,7 @@ class Table:
         return map(self._forms[name].kind.decode, self.numbers_in(name, where))
 
     def numbers_in(self, column: Name, where: Predicate = all_rows) -> Iterator[int]:
-        """Yields the numbers that stand for the different values of a column in these rows, in order of the values."""
+        """Yields the numbers that represent the different values of a column in these rows, in order of the values."""
         name, queries = self._name(column), self._queries(where, BOUND)
         form, within = self._forms[name], self._within[name]
         if isinstance(form.kind, Texts) and form.kind.grows:
@@ -467,7 +467,7 @@ class Table:
         self, by: Tuple[str, ...], word: bytes, column: Optional[Name], where: Predicate, most: int, nulls: bool
     ) -> Optional[Dict[Numbers, Optional[int]]]:
         """Returns the answer to a question of one word, as a number, for each number of a column, or for each pair of
-        numbers of two, with those of nulls as None where they are wanted. None where the library does not have them at
+        numbers of two, with those of nulls as None if they are wanted. None if the library does not have them at
         once: of a median of parts, an end of texts whose numbers are in no order, and of too long a predicate."""
         if word == b"sum":
             self._refuse_no_sum(self._name(column))  # type: ignore[arg-type]
@@ -491,7 +491,7 @@ class Table:
         return kind.decode_sum if word == b"sum" else kind.decode
 
     def ends(self, column: Name, where: Predicate = all_rows) -> Optional[Tuple[int, int]]:
-        """Returns the least and the greatest number of a column in these rows, or None where it has none."""
+        """Returns the least and the greatest number of a column in these rows, or None if it has none."""
         name, queries = self._name(column), self._queries(where)
         low, high = (self._end(word, name, queries) for word in (b"least", b"greatest"))
         return None if low is None or high is None else (low, high)
@@ -541,7 +541,7 @@ class Table:
         return figures
 
     def sum(self, column: Name, where: Predicate = all_rows) -> Any:
-        """Returns the sum of the column's values in the rows that the predicate selects, 0 where there are none."""
+        """Returns the sum of the column's values in the rows that the predicate selects, 0 if there are none."""
         name = self._name(column)
         self._refuse_no_sum(name)
         return self._forms[name].kind.decode_sum(self._sum(name, where))
@@ -556,16 +556,16 @@ class Table:
         return sum(self._store.sum(self._within[name], fields) for fields in self._queries(where))
 
     def least(self, column: Name, where: Predicate = all_rows) -> Any:
-        """Returns the least value of the column in these rows, or None where there is none."""
+        """Returns the least value of the column in these rows, or None if there is none."""
         return self._value(b"least", column, where)
 
     def greatest(self, column: Name, where: Predicate = all_rows) -> Any:
-        """Returns the greatest value of the column in these rows, or None where there is none."""
+        """Returns the greatest value of the column in these rows, or None if there is none."""
         return self._value(b"greatest", column, where)
 
     def median(self, column: Name, where: Predicate = all_rows) -> Any:
         """Returns the lower median of the column in these rows: of an even count the lower one of the two in the
-        middle. None where there is no value."""
+        middle. None if there is no value."""
         return self._value(b"median", column, where)
 
     def mask(self, where: Predicate = all_rows) -> np.ndarray:
@@ -611,7 +611,7 @@ class Table:
         return {name: (numbers[places], valid[places]) for name, (numbers, valid) in zip(names, found)}
 
     def _names(self, columns: Optional[Iterable[Name]]) -> List[str]:
-        """Returns the columns that are wanted: all where none are named."""
+        """Returns the columns that are wanted: all if none are named."""
         named = [columns] if isinstance(columns, (str, Column)) else self._forms if columns is None else columns
         if not isinstance(named, Iterable):
             raise TypeError(f"columns is a list of names, and not {columns!r}")
@@ -690,7 +690,7 @@ class Table:
 
 def rows_of(rows: Any, count: int) -> np.ndarray:
     """Returns numbers of rows as an array, or raises TypeError or BadQuery where they are none of so many rows."""
-    wrong = f"rows are a list of their numbers, as rows(where) returns them, and not {shown(rows)}"
+    wrong = f"rows are a list of their numbers, as rows(where) returns them, not {shown(rows)}"
     try:
         given = np.asarray(list(rows) if isinstance(rows, (Iterator, AbstractSet)) else rows)
     except ValueError:
@@ -710,7 +710,7 @@ def is_scalar(given: Any) -> bool:
 
 
 def part_of(q: Any) -> Part:
-    """Returns a part from 0 to 1, or raises TypeError or ValueError where it is none."""
+    """Returns a part from 0 to 1, or raises TypeError or ValueError if it is none."""
     part = q[()] if is_scalar(q) else q
     is_number = isinstance(part, (Real, Decimal)) and not isinstance(part, (bool, np.timedelta64))
     if not is_number:
@@ -722,7 +722,7 @@ def part_of(q: Any) -> Part:
 
 def rank_of(count: int, part: Part) -> int:
     """Returns the rank from 0 that NumPy's method "lower" has at a part of so many values: by the product of floats
-    where it is one."""
+    if it is one."""
     return math.floor((count - 1) * part)
 
 
@@ -737,7 +737,7 @@ def _entries(numbers: np.ndarray, valid: np.ndarray) -> Entries:
 def _span(form: Form) -> str:
     """Returns what the column takes as a text, where that is no matter of course."""
     is_known = form.kind.names_values or form.kind == Flags()
-    return "" if is_known else f", takes {form.show(form.offset)} to {form.show(form.most)}"
+    return "" if is_known else f", from {form.show(form.offset)} to {form.show(form.most)}"
 
 
 def _bytes(size: float) -> str:

@@ -66,7 +66,7 @@ def kept_of(handle: Any, bitmaps: int) -> KeptBitmaps:
 
 def numbers_at(handle: Any, name: bytes, rows: np.ndarray) -> Optional[Found]:
     """Returns the numbers of a column in these rows, by a comparison for each class of a binary place, so at most one
-    for each place and different number. None where that takes more than 1,000."""
+    for each place and different number. None if that takes more than 1,000."""
     valid = ~bits_at(handle.select([name, b"null"])[0], rows)
     numbers, there, asked = np.zeros(len(rows), np.int64), rows[valid], 0
     if len(there):

@@ -26,7 +26,7 @@ NUMPY_TYPES: Dict[type, Any] = {int: np.int64, bool: np.bool_, float: np.float64
 
 class Values(NamedTuple):
     """An array of the dtypes b, i, u, f, M or object, which of its places are valid, the time zone of its times, and
-    the order of its texts, where it has these; and the kind that it has without values, where its dtype tells one."""
+    the order of its texts, if it has these; and the kind that it has without values, where its dtype tells one."""
 
     values: np.ndarray
     valid: np.ndarray
@@ -109,7 +109,7 @@ def _of_array(array: np.ndarray, hidden: Optional[np.ndarray] = None) -> Values:
         if hidden is not None:
             objects = [None if is_hidden else value for value, is_hidden in zip(objects, hidden.tolist())]
         return _of_objects(objects)._replace(kind=NO_TEXTS if kind == "U" else None)
-    raise BadColumns(f"an array of {array.dtype} is none of numbers, times, booleans or texts")
+    raise BadColumns(f"an array of {array.dtype} is not one of numbers, times, booleans or texts")
 
 
 def _of_arrow(chunks: List[arrow.Read]) -> Values:
@@ -140,7 +140,7 @@ def _of_pandas(pandas: Any, series: Any) -> Values:
         values = series.to_numpy(dtype=plain, na_value=False if plain.kind == "b" else 0)
         return Values(values, valid & ~np.isnan(values) if plain.kind == "f" else valid)
     if isinstance(dtype, (pandas.PeriodDtype, pandas.IntervalDtype)):
-        raise BadColumns(f"a series of {dtype} is none of numbers, times, booleans or texts")
+        raise BadColumns(f"a series of {dtype} is not one of numbers, times, booleans or texts")
     if isinstance(dtype, pandas.SparseDtype):
         return _of_array(np.asarray(series))
     return _of_objects(series.to_numpy(object).tolist())._replace(kind=_kind_of(dtype))
@@ -171,7 +171,7 @@ def _kind_of_first(values: Any) -> Optional[Kind]:
 
 
 def is_null(value: Any) -> bool:
-    """Returns whether the value stands for nothing: None, NaN, NaT or pandas.NA."""
+    """Returns whether the value represents no value: None, NaN, NaT or pandas.NA."""
     if value is None:
         return True
     try:

@@ -126,7 +126,7 @@ def test_answers_are_exact_and_a_lost_worker_is_told(client, monkeypatch):
     pandas.testing.assert_frame_equal(rows.to_pandas(col.a < 9_999), one.to_pandas(col.a < 9_999))
     monkeypatch.setattr("bsi.dask.SECONDS", 0.0001)
     assert rows.count() == 40_000 and rows.median("a") == one.median("a")
-    with pytest.raises(TypeError, match="takes no further rows"):
+    with pytest.raises(TypeError, match="accepts no further rows"):
         rows.append(frame)
     gone, pid = sorted(client.run(os.getpid).items())[1]
     os.kill(pid, signal.SIGKILL)

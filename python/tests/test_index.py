@@ -38,7 +38,7 @@ def test_the_first_example():
 def test_it_says_what_it_is():
     index = small()
     assert repr(index).splitlines()[0].startswith("Index of 4 rows, about ")
-    assert "temp   range(10, 10, 10, offset=-400)  whole numbers, takes -400 to 599" in repr(index)
+    assert "temp   range(10, 10, 10, offset=-400)  whole numbers, from -400 to 599" in repr(index)
     assert index.columns == ["price", "temp", "day"] and str(index.forms["day"]) == "equality(7)"
     assert index.schema == "column,price,slices,20\ncolumn,temp,range,10 10 10,-400\ncolumn,day,equality,7\n"
     index.close()
@@ -95,7 +95,7 @@ def test_columns_that_differ(data, why):
         ({}, "needs a column"),
         ({"a": 5}, "slices"),
         ({5: bsi.slices(1)}, "by name"),
-        ({"a": bsi.slices(5), "b": bsi.slices(0)}, r"column 'b' can't be kept as slices\(0\)"),
+        ({"a": bsi.slices(5), "b": bsi.slices(0)}, r"column 'b' can't be stored as slices\(0\)"),
         ({"a": bsi.slices(64)}, "1 to 63 slices"),
         ({"a": bsi.slices(-1)}, r"slices\(-1\): 1 to 63 slices"),
         ({"a": bsi.equality()}, "bases of 2 to 1,024"),
@@ -228,7 +228,7 @@ def test_a_column_is_no_truth():
 
 def test_a_text_is_no_list():
     for text in ("Meyer", b"Meyer"):
-        with pytest.raises(TypeError, match="a list of constants, and not a text"):
+        with pytest.raises(TypeError, match="a list of constants, not a text"):
             col.who.isin(text)
     with pytest.raises(TypeError, match="and not one text"):
         bsi.Texts("abc")
@@ -542,7 +542,7 @@ def test_room_to_grow(parts):
             found = sorted(one for one, is_there in zip(texts, rows) if is_there)
             ends = [found[0], found[-1], found[(len(found) - 1) // 2]] if found else [None] * 3
             assert [index.least("t", where), index.greatest("t", where), index.median("t", where)] == ends
-    with pytest.raises(bsi.BadRow, match="row [0-9]+: 'x[0-9]+' is none of its"):
+    with pytest.raises(bsi.BadRow, match="row [0-9]+: 'x[0-9]+' is not one of its"):
         index.append({"t": [f"x{number}" for number in range(2000)], "n": [0] * 2000})
     assert len(index) == 200 and index.append({"t": ["new", None], "n": [None, 1]}) == 2
     assert index.greatest("t") == "w39" and index.least("t") == "new"
@@ -592,7 +592,7 @@ def test_frames_of_an_ordered_category_follow_each_other():
     index = bsi.Index.from_frame(frames[0])
     assert [index.append(frame) for frame in frames[1:]] == [2, 1] and index.rows(col.x > "low").tolist() == [1, 3]
     more = pandas.DataFrame({"x": pandas.Series(["top"], dtype=pandas.CategoricalDtype([*dtype.categories, "top"], True))})
-    with pytest.raises(bsi.BadRow, match="column 'x', row 0: 'top' is none of the texts, whose order was given"):
+    with pytest.raises(bsi.BadRow, match="column 'x', row 0: 'top' is not one of the texts, whose order was given"):
         index.append(more)
 
 
@@ -603,7 +603,7 @@ def test_a_list_of_texts_that_is_given_is_taken_as_a_whole():
 
 def test_a_frame_that_follows_without_spare_bits():
     index = bsi.Index.from_frame({"t": ["a", "b"], "n": [1, 2]})
-    with pytest.raises(bsi.BadRow, match="column 't', row 1: 'c' is none of its 2 texts; spare= leaves room for more"):
+    with pytest.raises(bsi.BadRow, match="column 't', row 1: 'c' is not one of its 2 texts; spare= leaves room for more"):
         index.append({"t": ["a", "c"], "n": [1, 2]})
 
 
@@ -614,9 +614,9 @@ def test_an_order_by_the_dtype_of_a_category():
     assert index.greatest("x") == "high" and index.count(col.x >= "mid") == 1
     assert index.append({"x": pandas.Series(["mid"], dtype=dtype)}) == 1
     for categories, why in (
-        (None, "column 'x': its dtype has no categories, and a list of texts is wanted"),
+        (None, "column 'x': its dtype has no categories, but needs a list of texts"),
         ([], "column 'x': its dtype has no categories"),
-        ([1, 2], r"column 'x': its dtype has the categories \[1, 2\], and a list of texts is wanted"),
+        ([1, 2], r"column 'x': its dtype has the categories \[1, 2\], but needs a list of texts"),
     ):
         with pytest.raises(bsi.BadSchema, match=why):
             bsi.Index.from_frame({"x": ["high"]}, kinds={"x": pandas.CategoricalDtype(categories)})
@@ -743,7 +743,7 @@ def test_a_float_that_an_append_can_not_keep():
     with pytest.raises(bsi.BadRow) as refused:
         index.append({"x": np.array([1 / 3]), "y": np.array([1 / 3])})
     hint = "a column of Decimals(2, rounded=True) rounds it"
-    told = f"column 'x', row 0: 0.3333333333333333 can't be kept exactly with 2 decimal places; {hint}"
+    told = f"column 'x', row 0: 0.3333333333333333 can't be stored exactly with 2 decimal places; {hint}"
     assert str(refused.value) == told
     index = bsi.Index({"y": index.forms["y"]})
     assert index.append({"y": np.array([1 / 3])}) == 1 and index.least("y") == Decimal("0.33")
@@ -815,7 +815,7 @@ def test_sums_past_64_bits():
 
 def test_what_it_takes_is_said_in_words():
     index = bsi.Index({"a": bsi.slices(3, kind=bsi.Decimals(7))})
-    assert "takes 0.0000000 to 0.0000007" in repr(index)
+    assert "from 0.0000000 to 0.0000007" in repr(index)
 
 
 def test_closing():
@@ -886,7 +886,7 @@ def test_texts_and_times_and_flags():
     for name in ("who", "at"):
         with pytest.raises(bsi.BadQuery, match=f"column '{name}': .* have no sum"):
             index.sum(name)
-    with pytest.raises(bsi.BadRow, match="row 0: 'new' is none of its 2 texts"):
+    with pytest.raises(bsi.BadRow, match="row 0: 'new' is not one of its 2 texts"):
         index.append({"who": ["new"], "at": [None], "ok": [None]})
     with pytest.raises(bsi.BadRow, match="row 1: .*2026-01-01T12:00.* is no whole number of days"):
         index.append(

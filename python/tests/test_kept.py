@@ -225,7 +225,7 @@ def test_what_is_no_file_of_ours(tmp_path, path):
         small().save(tmp_path)
     with open(path, "wb"):
         pass
-    with pytest.raises(bsi.NotKept, match="small.bsi: it keeps no index"):
+    with pytest.raises(bsi.NotKept, match="small.bsi: it contains no index"):
         bsi.open(path)
     with open(path, "wb") as file:
         file.write(b"price,day\n1,2\n")

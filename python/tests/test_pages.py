@@ -38,15 +38,18 @@ def test_the_page_prints_what_it_says(monkeypatch, tmp_path):
     assert found.attempted > 15 and found.failed == 0
 
 
-def test_the_readme_gives_what_its_comment_says(monkeypatch):
+def test_the_readme_gives_what_its_comments_say(monkeypatch):
     pytest.importorskip("pandas")
     monkeypatch.chdir(EXAMPLES)
     (block,) = blocks("python", README)
-    names = {}
-    *before, last = block.strip().splitlines()
-    exec("\n".join(before), names)
-    question, _, wanted = last.partition("  #")
-    assert repr(eval(question, names)) == wanted.strip()
+    names, said = {}, []
+    for line in block.splitlines():
+        question, _, wanted = line.partition("  #")
+        if wanted:
+            said.append((repr(eval(question, names)), wanted.strip()))
+        else:
+            exec(line, names)
+    assert said and all(found == wanted for found, wanted in said)
 
 
 def test_the_commands_of_the_page_print_what_they_say():

@@ -90,13 +90,13 @@ def test_answers(index, text, answer):
         ("count price 5", "a sign and a constant"),
         ("count price < cheap", "'cheap' is no number"),
         ("count day < 5", "no date or time"),
-        ("count price < 5 and", "ends where a column is wanted"),
+        ("count price < 5 and", "ends before a column"),
         ("count (price < 5", "opened and not closed"),
         ("count price < 5)", "closed that was not opened"),
         ("count price < 5 price < 6", "'and', 'or' or the end"),
         ("count and", "a sign and a constant"),
         ("count price < 'x", "no word of a question"),
-        ("count not", "ends where a column is wanted"),
+        ("count not", "ends before a column"),
         ("count price ! 5", "no word of a question"),
         ("count ()", "no column"),
         ("sum 'where'", "have no sum"),
@@ -138,7 +138,7 @@ def test_columns_of_other_kinds_are_refused(index):
         assert texts.rows(col.a == col.b).tolist() == [1]
         with pytest.raises(bsi.BadQuery, match="texts that grow"):
             texts.count(col.a < col.b)
-    with pytest.raises(TypeError, match="rank takes a value"):
+    with pytest.raises(TypeError, match="rank needs a value"):
         index.rank("price", col["and"])
 
 
@@ -185,8 +185,8 @@ def test_the_command(tmp_path, capsys):
     other.write_text("n,Day\n5,2026-02-03\n")
     ran = run(str(path), str(other), "--null", "n/a", "sum n", "greatest Day n < 5", "rows n null", "count n = x")
     assert ran.stdout.splitlines()[1:] == [
-        "  n    slices(3)                whole numbers, takes 0 to 7",
-        "  Day  slices(2, offset=20484)  dates, takes 2026-01-31 to 2026-02-03",
+        "  n    slices(3)                whole numbers, from 0 to 7",
+        "  Day  slices(2, offset=20484)  dates, from 2026-01-31 to 2026-02-03",
         "8",
         "2026-02-01",
         "2",

@@ -40,17 +40,17 @@ REFUSED = [
     (lambda: index().sum("x", np.array([True])), TypeError, "a predicate is made of bsi.col"),
     (lambda: index().sum("f", col.x), bsi.BadQuery, "column 'x' holds whole numbers: only one of booleans"),
     (lambda: index().rank("x", None), bsi.BadQuery, "column 'x' is compared with one of whole numbers: None"),
-    (lambda: index().rank("x", 5, "x < 5"), TypeError, "a predicate stands on each side of 'and', and not str"),
-    (lambda: index().nlargest(1, "x", "x < 5"), TypeError, "a predicate stands on each side of 'and', and not str"),
+    (lambda: index().rank("x", 5, "x < 5"), TypeError, "a predicate is needed on each side of 'and', not str"),
+    (lambda: index().nlargest(1, "x", "x < 5"), TypeError, "a predicate is needed on each side of 'and', not str"),
     (lambda: index().count(col.t == None), bsi.BadQuery, "None is no text; isnull"),  # noqa: E711
     (lambda: index().count(col.x.isin([3, None])), bsi.BadQuery, r"None is no number; isnull\(\) finds the nulls"),
     (lambda: index().count(col.f == float("nan")), bsi.BadQuery, "nan is neither True nor False; isnull"),
     (lambda: index().count(col.t == 10**5000), bsi.BadQuery, "type int and too long to show is no text"),
     (lambda: index().quantile("x", 10**5000), ValueError, "a quantile is from 0 to 1, and not what is of type int"),
     (lambda: bsi.Index({"x": bsi.slices(2)}, limit=10**5000), bsi.BadSchema, "the limit is 1 to .* type int"),
-    (lambda: col.x.isin(5), TypeError, "a list of constants, and not 5"),
-    (lambda: bsi.ask(index(), None), TypeError, "a question that is a text, and not Index and NoneType"),
-    (lambda: bsi.ask("count", index()), TypeError, "takes an index and a question"),
+    (lambda: col.x.isin(5), TypeError, "a list of constants, not 5"),
+    (lambda: bsi.ask(index(), None), TypeError, "a question that is a text, not Index and NoneType"),
+    (lambda: bsi.ask("count", index()), TypeError, "needs an index and a question"),
     (lambda: bsi.Index(["a"]), bsi.BadSchema, r"columns by name, as .*, and not \['a'\]"),
     (lambda: bsi.Index(None), bsi.BadSchema, "columns by name"),
     (lambda: bsi.Index({"a": bsi.slices(3, kind=bsi.Texts)}), bsi.BadSchema, "the kind of column 'a' is one"),
@@ -109,5 +109,5 @@ def test_a_text_too_many_that_looks_like_a_date(tmp_path):
         bsi.Index.from_frame({"d": texts})
     words = "".join(f"{text}x\n" for text in texts[:1023])
     (tmp_path / "rows.csv").write_text("d\na\n" + words + "2026-01-31\n")
-    with pytest.raises(bsi.BadRow, match="row 1024 .*it looks like a date, and dates= tells how to read it"):
+    with pytest.raises(bsi.BadRow, match="row 1024 .*it looks like a date, and dates= says how to read it"):
         bsi.read_csv(tmp_path / "rows.csv")

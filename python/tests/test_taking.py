@@ -132,7 +132,7 @@ def test_texts_that_grow_are_taken():
         (1, TypeError, "a list of their numbers"),
         ("12", TypeError, "a list of their numbers"),
         ([[1], [1, 2]], TypeError, "a list of their numbers"),
-        (col.x < 2, TypeError, r"as rows\(where\) returns them, and not \(col.x < 2\)"),
+        (col.x < 2, TypeError, r"as rows\(where\) returns them, not \(col.x < 2\)"),
     ],
 )
 def test_rows_that_are_none(rows, kind, why):

@@ -1,4 +1,4 @@
-"""Nulls and numbers of every source come in as they are, and what can't be kept exactly is refused with its column and
+"""Nulls and numbers of every source come in as they are, and what can't be stored exactly is refused with its column and
 row."""
 
 import datetime
@@ -300,7 +300,7 @@ def test_a_stream_of_record_batches_is_a_frame():
     assert len(bsi.Index.from_frame(Stream(batch([])))) == 0
     with pytest.raises(bsi.BadColumns, match="the Arrow stream broke off: no more rows"):
         bsi.Index.from_frame(Stream(batch([]), batch([5], "x"), breaks=True))
-    with pytest.raises(bsi.BadColumns, match="an Arrow record batch, and not as one array"):
+    with pytest.raises(bsi.BadColumns, match="an Arrow record batch, not as one array"):
         bsi.Index.from_frame(Stream(texts("a")))
 
 
@@ -388,9 +388,9 @@ REFUSED = {
     "2^63": ([1, 2**63], 1, "past 63 bits|past 64 bits"),
     "a large uint64": (np.array([1, 2**63], np.uint64), 1, "past 63 bits"),
     "a third": (np.array([0.5, 1 / 3, 0.1]), 1, "exactly with 6 decimal places; round= rounds it"),
-    "a third as a decimal": (np.array([1 / 3], np.float64), 0, "0.3333333333333333 can't be kept exactly"),
-    "a third in a list": ([1, 1 / 3], 1, "0.3333333333333333 can't be kept exactly with 6 decimal places"),
-    "a third of few digits": (np.array([1, 1 / 3], np.float32), 1, "0.33333334 can't be kept exactly"),
+    "a third as a decimal": (np.array([1 / 3], np.float64), 0, "0.3333333333333333 can't be stored exactly"),
+    "a third in a list": ([1, 1 / 3], 1, "0.3333333333333333 can't be stored exactly with 6 decimal places"),
+    "a third of few digits": (np.array([1, 1 / 3], np.float32), 1, "0.33333334 can't be stored exactly"),
     "a long double of 17 digits": (np.array([1, 1234567890123456.5], np.longdouble), 1, "exactly with"),
     "numbers far apart": ([None, -1, 5, 2**63 - 1], 3, "more than the 2\\^63 values"),
     "a large float": (np.array([0.5, 1e300]), 1, "exactly with"),
@@ -407,11 +407,11 @@ REFUSED = {
     "a number among booleans": ([True, 1], 1, "neither True nor False"),
     "a date among numbers": ([1, DAY], 1, "no number"),
     "a number among dates": ([DAY, 1], 1, "no date or time"),
-    "bytes": ([b"a"], 0, "none of numbers"),
-    "a list in a list": ([[1, 2], [3, 4]], 0, "none of numbers"),
+    "bytes": ([b"a"], 0, "not one of numbers"),
+    "a list in a list": ([[1, 2], [3, 4]], 0, "not one of numbers"),
     "an array in a list": ([1, np.array([1, 2])], 1, "no number"),
     "a complex number": ([1, 2j], 1, "no number"),
-    "a duration": ([datetime.timedelta(1)], 0, "none of numbers"),
+    "a duration": ([datetime.timedelta(1)], 0, "not one of numbers"),
     "texts of many values": ([f"text {number}" for number in range(1030)], 1024, "one text more than the 1,024"),
 }
 
