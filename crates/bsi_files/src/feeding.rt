@@ -120,7 +120,10 @@ fn feed_next<R: Wait, I: Read + Drop, F: RowFormat + Drop, G: Gate>(
 
 /// Makes a batch for the next rows of the source, and its block. It returns none if the ring has fewer slots than a
 /// block, if the rows are of another schema than the feeder's, of which each is to be tested, or if memory is refused.
-fn batch_for<I: Read + Drop, F: RowFormat + Drop>(feeder: &Feeder, source: &RowSource<I, F>) -> Option<EmptyBatch>
+fn batch_for<I: Read + Drop, F: RowFormat + Drop>(
+    feeder: &Feeder,
+    source: &RowSource<I, F>,
+) -> Option<EmptyBatch>
     ensures block { IfSome result (λ made. made.block
         ≡ no_block_rows (F.format source.now.layout.format).schema 1) }
     ensures batch { IfSome result (λ made. (made.batch.rows ≡ []) × (made.batch.feeders ≡ 1)) }

@@ -14,8 +14,8 @@ use crate::words::CommandEnd;
 use bsi_files::{Gate, Stopping};
 use bsi_logical::LogicalFormat;
 use bsi_store::{
-    AddPaths, AskPaths, LockFile, SavePaths, StoreFault, SurveyFault, add_rows, ask_input, ask_over,
-    find_dialect, save_kinds, save_rows, show_index, survey_rows,
+    AddPaths, AskPaths, LockFile, SavePaths, StoreFault, SurveyFault, add_rows, ask_input,
+    ask_over, find_dialect, save_kinds, save_rows, show_index, survey_rows,
 };
 use bsi_survey::SurveyOptions;
 use bsi_text::WriteFault;
@@ -34,13 +34,7 @@ pub(crate) fn answer_save<
     O: Write,
     F: Write,
     G: Gate + Stopping + Sync,
->(
-    rt: &R,
-    request: &SaveRequest<'a>,
-    output: &mut O,
-    stderr: &mut F,
-    gate: &G,
-) -> CommandEnd
+>(rt: &R, request: &SaveRequest<'a>, output: &mut O, stderr: &mut F, gate: &G) -> CommandEnd
     requires { G.STOPS ≡ false }
     ensures status { result.status ≤ 1 }
     ensures saved { result.status ≡ 0 →
@@ -96,13 +90,7 @@ fn save_found<
     O: Write,
     F: Write,
     G: Gate + Stopping + Sync,
->(
-    rt: &R,
-    paths: &SavePaths<'a>,
-    output: &mut O,
-    stderr: &mut F,
-    gate: &G,
-) -> CommandEnd
+>(rt: &R, paths: &SavePaths<'a>, output: &mut O, stderr: &mut F, gate: &G) -> CommandEnd
     requires { G.STOPS ≡ false }
     ensures status { result.status ≤ 1 }
     ensures saved { result.status ≡ 0 →

@@ -36,7 +36,11 @@ fn make_lines(alloc: Global, fault: &SurveyFault<'_>) -> Result<Vec<u8>, NoMemor
     match fault {
         SurveyFault::Store(_) => {}
         SurveyFault::NotTwice(path) => {
-            push_path(path, "is no file that can be read twice: give --schema", &mut text)?;
+            push_path(
+                path,
+                "is no file that can be read twice: give --schema",
+                &mut text,
+            )?;
         }
         SurveyFault::Unread(path, fault) => push_path(path, unread_text(*fault), &mut text)?,
         SurveyFault::OtherHeader(path) => {
@@ -76,7 +80,11 @@ fn push_refusal(refusal: &SchemaRefusal, text: &mut Vec<u8>) -> Result<(), NoMem
             let mut number = Buffer::new();
             let column = number.format(c.saturating_add(1));
             push_each(
-                &["bsi: column ", column, " has the title of a column before it\n"],
+                &[
+                    "bsi: column ",
+                    column,
+                    " has the title of a column before it\n",
+                ],
                 text,
             )
         }

@@ -1,11 +1,15 @@
 -- A text of kinds that says no schema of a saved table is a fault of its file.
-use Rattle.std.proofs.Common.{◌≡◌, Bool, List, inr, subst, sym}
+use Rattle.std.proofs.Common.{◌≡◌, ◌∙◌, ◌∷◌, Bool, List, [], inr, length, refl, rules, subst, sym}
+use Rattle.std.specs.Bool.{◌==◌}
 use Rattle.std.specs.Borrow.{Bor}
-use Rattle.std.specs.Prelude.{ℕ}
+use Rattle.std.specs.Prelude.{ℕ, Result, Some, false}
 use Rattle.bsi_rows.specs.Table.{Table}
 use Rattle.bsi_store.specs.Asked.{IsSavedIn}
 use Rattle.bsi_store.specs.Faults.{IsFileFault}
+use Rattle.bsi_logical.specs.Logical as logical
+use Rattle.bsi_logical.specs.LogicalTexts.{IsLogicalText, Reads}
 use Rattle.bsi_logical.specs.TableSchemas.{format_of}
+use Rattle.bsi_logical.specs.declared.logical_text.LogicalFault.{LogicalFault}
 use Rattle.bsi_logical.specs.declared.table_schema.TableSchema.{TableSchema}
 use Rattle.bsi_logical.specs.declared.table_schema.TableSchema.TheVariants.{Logical, Plain}
 use Rattle.bsi_store.specs.Kinds.{SaysNoSchema, SaysSchema}
@@ -32,3 +36,18 @@ bad_kinds rem so_far table saved kinds path fault same is none = inr (inr (recor
 pub says_schema : (kinds : Bytes) (table : Table) (schema : TableSchema) → SaysSchema kinds table schema → table.schema ≡ (format_of schema).schema
 says_schema kinds table (Plain schema) says = sym says.1
 says_schema kinds table (Logical logical) says = sym says.1
+
+not_none : (text : Bytes) → false ≡ (length text == 0) → text ≡ [] → ⊥
+not_none [] some none = absurd cc
+not_none (b ∷ text) some none = absurd (search rules)
+
+-- A text that is read as no schema of the table says none.
+pub no_schema : (kinds text : Bytes) (table : Table) (read : Result logical.Logical LogicalFault)
+    → text ≡ kinds
+    → false ≡ (length text == 0)
+    → ((bytes : List ℕ) (said : logical.Logical) → Some text ≡ Some bytes → IsLogicalText bytes said → Reads said read)
+    → ((said : logical.Logical) → Reads said read → said.schema ≡ table.schema → ⊥)
+    → SaysNoSchema kinds table
+no_schema kinds text table read is some reads other (Plain schema) says = not_none text some (is ∙ says.0)
+no_schema kinds text table read is some reads other (Logical said) says =
+    other said (reads text said refl (subst (λ (k : Bytes). IsLogicalText k said) (sym is) says.0)) says.1

@@ -82,7 +82,7 @@ pub(crate) fn read_table_schema<'a>(
         Err(LogicalFault::Source(SourceFault::NoMemory | SourceFault::Read)) => {
             Err(StoreFault::Run(FilesFault::NoMemory))
         }
-        Ok(_) | Err(_) => Err(StoreFault::Unusable(path, FileFault::BadKinds)),
+        _ => Err(StoreFault::Unusable(path, FileFault::BadKinds)),
     }
 }
 

@@ -79,12 +79,7 @@ fn save_and_summarize<
     R: AllocGlobal + Files<File = S> + Threads + Wait + Sync,
     S: Read + Write + OpenFile + LockFile + Drop + Send,
     G: Gate + Stopping + Sync,
->(
-    rt: &R,
-    schema: &'a str,
-    paths: &SavePaths<'a>,
-    gate: &G,
-) -> Result<Vec<u8>, StoreFault<'a>>
+>(rt: &R, schema: &'a str, paths: &SavePaths<'a>, gate: &G) -> Result<Vec<u8>, StoreFault<'a>>
     requires { G.STOPS ≡ false }
     ensures saved { IfOk result (λ text. ReportsOn
         (HasSaved S.remaining S.contents (length paths.now.rows.items)) text.items) }

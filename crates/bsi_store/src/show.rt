@@ -39,11 +39,7 @@ pub fn show_index<'a, R: AllocGlobal + Files<File = S>, S: Read + LockFile + Dro
 }
 
 /// Makes the description of an index.
-fn describe_index(
-    alloc: Global,
-    index: &Index,
-    schema: &TableSchema,
-) -> Result<Vec<u8>, NoMemory>
+fn describe_index(alloc: Global, index: &Index, schema: &TableSchema) -> Result<Vec<u8>, NoMemory>
     ensures { IfOk result (λ text. IsShownText schema.now (table_of index.now) text.items) }
 {
     let mut text = describe_columns(alloc, index, schema)?;
@@ -54,11 +50,7 @@ fn describe_index(
 }
 
 /// Makes the records that say the schema of an index.
-fn describe_columns(
-    alloc: Global,
-    index: &Index,
-    schema: &TableSchema,
-) -> Result<Vec<u8>, NoMemory>
+fn describe_columns(alloc: Global, index: &Index, schema: &TableSchema) -> Result<Vec<u8>, NoMemory>
     ensures { IfOk result (λ text. AreRecordsOf schema.now (table_of index.now) text.items) }
 {
     match schema {

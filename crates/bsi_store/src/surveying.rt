@@ -7,8 +7,8 @@ ghost use Rattle.bsi_store.specs.Surveyed.{HasSeen, HasSurveyed};
 
 use crate::{StoreFault, open_file};
 use bsi_answers::FilesFault;
-use bsi_input::SourceFault;
 use bsi_inference::Doubt;
+use bsi_input::SourceFault;
 use bsi_logical::{Dialect, LogicalSchema};
 use bsi_survey::{SchemaRefusal, Survey, SurveyOptions, find_delimiter};
 use bsi_table::NoMemory;

@@ -86,7 +86,11 @@ impl Survey {
     /// Goes once over a further text, as `read` does, and shows its records to the columns, too. It returns false if the
     /// text has another header; then nothing has changed. The fault is `BadHeader`, if the text has no record. After
     /// another fault the columns may have seen some of the records.
-    pub fn read_more<R: Read + Drop>(&mut self, alloc: Global, reader: R) -> Result<bool, SourceFault>
+    pub fn read_more<R: Read + Drop>(
+        &mut self,
+        alloc: Global,
+        reader: R,
+    ) -> Result<bool, SourceFault>
         ensures sees { IfOk result (λ same. same ≡ true → IfSome (R.remaining reader) (SeesText self.new)) }
         ensures preserved { OnOk result ((bytes : List ℕ) → SeesText self.old bytes → SeesText self.new bytes) }
         ensures looked { OnOk result ((texts : List Bool) →
@@ -103,7 +107,13 @@ impl Survey {
             return Ok(false);
         }
         let words = usual_null_words(alloc)?;
-        observe_all(&mut input, &words, &mut fields, &mut self.columns, &mut self.counts)?;
+        observe_all(
+            &mut input,
+            &words,
+            &mut fields,
+            &mut self.columns,
+            &mut self.counts,
+        )?;
         Ok(true)
     }
 
