@@ -37,20 +37,20 @@ VERSION = re.compile(r"\d+\.\d+\.\d+")
 # How many bytes a page may have, and how many those may have that are named.
 MAX_SIZE = 12_288
 MAX_SIZES = {
-    "README.md": 7_800,
-    "CONTRIBUTING.md": 7_200,
-    "CHANGELOG.md": 8_900,
-    "docs/ARCHITECTURE.md": 14_700,
+    "README.md": 7_750,
+    "CONTRIBUTING.md": 7_050,
+    "CHANGELOG.md": 8_000,
+    "docs/ARCHITECTURE.md": 14_400,
     "docs/C.md": 5_600,
-    "docs/DECISIONS.md": 13_300,
-    "docs/DESIGN.md": 9_100,
-    "docs/FORMATS.md": 18_400,
-    "docs/GLOSSARY.md": 8_300,
-    "docs/GUIDE.md": 10_100,
-    "docs/PERFORMANCE.md": 11_300,
-    "docs/PROMISES.md": 25_200,
-    "docs/PYTHON.md": 10_700,
-    "docs/TOOLS.md": 5_600,
+    "docs/DECISIONS.md": 11_800,
+    "docs/DESIGN.md": 8_850,
+    "docs/FORMATS.md": 18_350,
+    "docs/GLOSSARY.md": 8_000,
+    "docs/GUIDE.md": 10_050,
+    "docs/PERFORMANCE.md": 11_200,
+    "docs/PROMISES.md": 25_100,
+    "docs/PYTHON.md": 10_650,
+    "docs/TOOLS.md": 5_400,
 }
 # What the program of the tarball finds on a machine without the kit.
 PATH = "/usr/local/bin:/usr/bin:/bin"
