@@ -1,8 +1,8 @@
 -- A text of kinds that says no schema of a saved table is a fault of its file.
-use Rattle.std.proofs.Common.{◌≡◌, ◌∙◌, ◌∷◌, Bool, List, [], inr, length, refl, rules, subst, sym}
+use Rattle.std.proofs.Common.{◌≡◌, ◌∙◌, ◌∷◌, Bool, List, [], inl, inr, length, refl, rules, subst, sym}
 use Rattle.std.specs.Bool.{◌==◌}
 use Rattle.std.specs.Borrow.{Bor}
-use Rattle.std.specs.Prelude.{ℕ, Result, Some, false}
+use Rattle.std.specs.Prelude.{ℕ, ◌⊎◌, Result, Err, Some, false}
 use Rattle.bsi_rows.specs.Table.{Table}
 use Rattle.bsi_store.specs.Asked.{IsSavedIn}
 use Rattle.bsi_store.specs.Faults.{IsFileFault}
@@ -10,12 +10,15 @@ use Rattle.bsi_logical.specs.Logical as logical
 use Rattle.bsi_logical.specs.LogicalTexts.{IsLogicalText, Reads}
 use Rattle.bsi_logical.specs.TableSchemas.{format_of}
 use Rattle.bsi_logical.specs.declared.logical_text.LogicalFault.{LogicalFault}
+use Rattle.bsi_logical.specs.declared.logical_text.LogicalFault.TheVariants as logical_fault
+use Rattle.bsi_input.specs.declared.rows.SourceFault.TheVariants as source
+use Rattle.bsi_answers.specs.declared.faults.FilesFault.TheVariants.{NoMemory}
 use Rattle.bsi_logical.specs.declared.table_schema.TableSchema.{TableSchema}
 use Rattle.bsi_logical.specs.declared.table_schema.TableSchema.TheVariants.{Logical, Plain}
-use Rattle.bsi_store.specs.Kinds.{SaysNoSchema, SaysSchema}
+use Rattle.bsi_store.specs.Kinds.{kinds_fault, SaysNoSchema, SaysSchema}
 use Rattle.bsi_store.specs.declared.fault.FileFault.TheVariants.{BadKinds}
 use Rattle.bsi_store.specs.declared.fault.StoreFault.{StoreFault}
-use Rattle.bsi_store.specs.declared.fault.StoreFault.TheVariants.{Unusable}
+use Rattle.bsi_store.specs.declared.fault.StoreFault.TheVariants.{Run, Unusable}
 use Rattle.bsi_syntax.specs.Bytes.{Bytes, KnownBytes}
 
 pub bad_kinds : {S : Type 0} (rem : S → KnownBytes) (so_far : Bool) (table : Table) (saved : IsSavedIn rem so_far table) (kinds : Bytes) (path : Bor (List ℕ)) (fault : StoreFault)
@@ -51,3 +54,20 @@ pub no_schema : (kinds text : Bytes) (table : Table) (read : Result logical.Logi
 no_schema kinds text table read is some reads other (Plain schema) says = not_none text some (is ∙ says.0)
 no_schema kinds text table read is some reads other (Logical said) says =
     other said (reads text said refl (subst (λ (k : Bytes). IsLogicalText k said) (sym is) says.0)) says.1
+
+-- A text that was not read as a schema says none, or memory was refused.
+pub kinds_tell : (kinds text : Bytes) (table : Table) (path : Bor (List ℕ)) (fault : LogicalFault)
+    → text ≡ kinds
+    → false ≡ (length text == 0)
+    → ((bytes : List ℕ) (said : logical.Logical) → Some text ≡ Some bytes → IsLogicalText bytes said → Reads said (Err fault))
+    → (kinds_fault path fault ≡ Run NoMemory) ⊎ ((kinds_fault path fault ≡ Unusable path BadKinds) × SaysNoSchema kinds table)
+kinds_tell kinds text table path (logical_fault.Source source.NoMemory) is some reads = inl refl
+kinds_tell kinds text table path (logical_fault.Source source.Read) is some reads = inl refl
+kinds_tell kinds text table path (logical_fault.Source source.TooLong) is some reads =
+    inr (refl, no_schema kinds text table (Err (logical_fault.Source source.TooLong)) is some reads (λ said never same. never))
+kinds_tell kinds text table path (logical_fault.Source source.BadHeader) is some reads =
+    inr (refl, no_schema kinds text table (Err (logical_fault.Source source.BadHeader)) is some reads (λ said never same. never))
+kinds_tell kinds text table path (logical_fault.BadRecord number why) is some reads =
+    inr (refl, no_schema kinds text table (Err (logical_fault.BadRecord number why)) is some reads (λ said never same. never))
+kinds_tell kinds text table path logical_fault.NoColumns is some reads =
+    inr (refl, no_schema kinds text table (Err logical_fault.NoColumns) is some reads (λ said never same. never))

@@ -1,16 +1,31 @@
 -- Row files that a survey has seen.
-use Rattle.std.proofs.Common.{◌≡◌, ◌+◌, ℕ, true, List, [], ◌∷◌, ◌++◌, Some, None, All, IfOk, IfSome, Result, Ok, Err, length, length-append, get_or, arith, refl, subst, ◌∙◌}
+use Rattle.std.proofs.Common.{◌≡◌, ◌+◌, ℕ, true, Bool, List, [], ◌∷◌, ◌++◌, Some, None, All, IfOk, IfSome, Result, Ok, Err, length, length-append, get_or, arith, refl, subst, sym, ap, ◌∙◌}
 use Rattle.std.specs.Prelude.{OnOk}
 use Rattle.std.proofs.lemmas.List.Elements.{All-nil, All-push}
 use Rattle.bsi_logical.specs.Logical.{Logical}
 use Rattle.bsi_store.specs.Surveyed.{HasSeen, HasSurveyed}
-use Rattle.bsi_survey.specs.Surveys.{FitsText, SeesText}
+use Rattle.bsi_survey.specs.Looking.{AreLookedFor}
+use Rattle.bsi_survey.specs.Surveys.{FitsText, LooksFor, SeesText}
+use Rattle.bsi_survey.specs.declared.options.SurveyOptions.{SurveyOptions}
 use Rattle.bsi_survey.specs.declared.survey.Survey.{Survey}
 use Rattle.bsi_syntax.specs.Bytes.{KnownBytes}
 
 if_some : (known : KnownBytes) (P Q : List ℕ → Type 0) → ((bytes : List ℕ) → P bytes → Q bytes) → IfSome known P → IfSome known Q
 if_some None P Q follows holds = tt
 if_some (Some bytes) P Q follows holds = follows bytes holds
+
+-- the columns of a survey by options
+pub looks_first : (options : SurveyOptions) (survey : Survey) → survey.dialect ≡ options.dialect
+    → AreLookedFor options.dialect.point options.texts.items survey.columns.items → LooksFor survey
+looks_first options survey same looked = record {
+  texts = options.texts.items;
+  each = subst (λ (p : ℕ). AreLookedFor p options.texts.items survey.columns.items) (sym (ap (λ d. d.point) same)) looked;
+}
+
+-- those of a survey that went over one more file
+pub looks_still : (old new : Survey) → LooksFor old
+    → ((texts : List Bool) → AreLookedFor old.dialect.point texts old.columns.items → AreLookedFor new.dialect.point texts new.columns.items) → LooksFor new
+looks_still old new looks still = record { texts = looks.texts; each = still looks.texts looks.each }
 
 module _ {S : Type 0} (rem : S → KnownBytes) where
   -- the first file

@@ -4,7 +4,7 @@ ghost use Rattle.std.specs.Prelude.{◌≡◌, ◌⊎◌, IfErr, IfOk, IfSome, N
 ghost use Rattle.bsi_storage.specs.Faults.{IsOpened};
 ghost use Rattle.bsi_answers.specs.declared.faults.FilesFault.TheVariants.{NoMemory};
 ghost use Rattle.bsi_store.specs.Asked.{IsAboutBytes, IsOpenedAs};
-ghost use Rattle.bsi_store.specs.Kinds.{SaysNoSchema, SaysSchema};
+ghost use Rattle.bsi_store.specs.Kinds.{kinds_fault, SaysNoSchema, SaysSchema};
 ghost use Rattle.bsi_store.specs.declared.fault.StoreFault.TheVariants.{Run, Unusable};
 ghost use Rattle.bsi_store.specs.declared.fault.FileFault.TheVariants.{BadKinds};
 ghost use Rattle.bsi_store.specs.Faults.{IsFileFault, IsOfFile, IsUnrecoverable, NamesPath};
@@ -75,14 +75,27 @@ pub(crate) fn read_table_schema<'a>(
     if saved.kinds.is_empty() {
         return Ok(TableSchema::Plain(saved.index.schema().copy()?));
     }
-    match read_logical(alloc, saved.kinds.as_slice()) {
-        Ok(logical) if logical.schema().is_same(saved.index.schema()) => {
-            Ok(TableSchema::Logical(LogicalFormat::new(alloc, logical)?))
+    let logical = match read_logical(alloc, saved.kinds.as_slice()) {
+        Ok(logical) => logical,
+        Err(fault) => return Err(kinds_fault(path, fault)),
+    };
+    if !logical.schema().is_same(saved.index.schema()) {
+        return Err(StoreFault::Unusable(path, FileFault::BadKinds));
+    }
+    Ok(TableSchema::Logical(LogicalFormat::new(alloc, logical)?))
+}
+
+/// Returns the fault of a file whose text of kinds was not read as a schema.
+fn kinds_fault<'a>(path: &'a str, fault: LogicalFault) -> StoreFault<'a>
+    ensures { result ≡ kinds_fault path.entry fault }
+{
+    match fault {
+        LogicalFault::Source(SourceFault::NoMemory | SourceFault::Read) => {
+            StoreFault::Run(FilesFault::NoMemory)
         }
-        Err(LogicalFault::Source(SourceFault::NoMemory | SourceFault::Read)) => {
-            Err(StoreFault::Run(FilesFault::NoMemory))
-        }
-        _ => Err(StoreFault::Unusable(path, FileFault::BadKinds)),
+        LogicalFault::Source(SourceFault::TooLong | SourceFault::BadHeader)
+        | LogicalFault::BadRecord(_, _)
+        | LogicalFault::NoColumns => StoreFault::Unusable(path, FileFault::BadKinds),
     }
 }
 

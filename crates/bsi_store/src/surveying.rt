@@ -63,15 +63,27 @@ pub fn survey_rows<'a, R: AllocGlobal + Files<File = S>, S: Read + OpenFile + Dr
     requires { 0 < length paths.now }
     ensures { IfOk result (HasSurveyed S.remaining (length paths.now)) }
 {
-    let survey = survey_all(rt, paths, options)?;
-    let refusal = match survey.make_schema(rt.alloc()) {
+    let refusal = match survey_once(rt, paths, options) {
         Ok(logical) => return Ok(logical),
-        Err(refusal) => refusal,
+        Err(SurveyFault::Refused(refusal)) => refusal,
+        Err(fault) => return Err(fault),
     };
-    let Some(options) = with_texts(rt.alloc(), options, &refusal)? else {
-        return Err(SurveyFault::Refused(refusal));
-    };
-    let survey = survey_all(rt, paths, &options)?;
+    match with_texts(rt.alloc(), options, &refusal)? {
+        Some(options) => survey_once(rt, paths, &options),
+        None => Err(SurveyFault::Refused(refusal)),
+    }
+}
+
+/// Makes a schema of kinds of row files by going over them once.
+fn survey_once<'a, R: AllocGlobal + Files<File = S>, S: Read + OpenFile + Drop>(
+    rt: &R,
+    paths: &[&'a str],
+    options: &SurveyOptions,
+) -> Result<LogicalSchema, SurveyFault<'a>>
+    requires { 0 < length paths.now }
+    ensures { IfOk result (HasSurveyed S.remaining (length paths.now)) }
+{
+    let survey = survey_all(rt, paths, options)?;
     Ok(survey.make_schema(rt.alloc())?)
 }
 
@@ -101,10 +113,12 @@ fn with_texts(
 
 /// Notes that column `c` has texts alone.
 fn set_texts(texts: &mut Vec<bool>, c: usize) -> Result<(), NoMemory> {
-    'columns: while texts.len() <= c {
-        texts.push(false)?;
+    if c < texts.len() {
+        texts[c] = true;
+    } else {
+        texts.resize(c, false)?;
+        texts.push(true)?;
     }
-    texts[c] = true;
     Ok(())
 }
 
@@ -156,7 +170,10 @@ fn survey_first<'a, R: AllocGlobal + Files<File = S>, S: Read + OpenFile + Drop>
     ensures looks { IfOk result LooksFor }
 {
     let file = open_regular(rt, path)?;
-    Survey::read(rt.alloc(), file, options).map_err(|fault| SurveyFault::Unread(path, fault))
+    match Survey::read(rt.alloc(), file, options) {
+        Ok(survey) => Ok(survey),
+        Err(fault) => Err(SurveyFault::Unread(path, fault)),
+    }
 }
 
 /// Opens a regular file, which can be read twice.

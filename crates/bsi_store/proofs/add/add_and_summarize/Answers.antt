@@ -132,3 +132,13 @@ returns-in_err-check_same_schema-clause-fault g c =
     ] in
     let met : IfErr c.from_residual-in_err-check_same_schema.result (λ (fault : StoreFault). fault ≡ reported) = search rules in
     if_err c.from_residual-in_err-check_same_schema.result (λ fault is. subst (IsAddFault rem so_far (length c.args.paths.now.rows.items)) (sym is) failed) met
+
+-- the file could not be read again
+pub returns-in_err-saved-2-clause-fault : goal.returns-in_err-saved-2-clause-fault
+returns-in_err-saved-2-clause-fault g c =
+    let rem = g.S.Read.remaining in
+    let so_far = c.args.paths.now.so_far in
+    let reported = c.in_err-saved-2.field-0.0 in
+    let failed : IsAddFault rem so_far (length c.args.paths.now.rows.items) reported = inl c.in_err-saved-2.ensures.fault in
+    let met : IfErr c.from_residual-in_err-saved-2.result (λ (fault : StoreFault). fault ≡ reported) = search rules in
+    if_err c.from_residual-in_err-saved-2.result (λ fault is. subst (IsAddFault rem so_far (length c.args.paths.now.rows.items)) (sym is) failed) met

@@ -17,6 +17,6 @@ returns-in_err-table-clause-fault g c =
     let files = map g.S.Read.remaining c.args.rows.items in
     let over : IsFaultOver g.G.Stopping.STOPS format saved.limit files run = subst (λ (n : ℕ). IsFaultOver g.G.Stopping.STOPS format n files run) c.limit.ensures.limit
     c.in_err-table.ensures.fault in
-    let met : IfErr c.from_residual-in_err-table.result (λ (fault : StoreFault). fault ≡ Run run) = search rules in
-    if_err c.from_residual-in_err-table.result
+    let met : IfErr c.from_residual.result (λ (fault : StoreFault). fault ≡ Run run) = search rules in
+    if_err c.from_residual.result
     (λ fault is. inr (inr (run, is, load_fault g.G.Stopping.STOPS format saved.limit files run c.requires.never c.in_err-table.ensures.counted c.in_err-table.ensures.follows_output over))) met

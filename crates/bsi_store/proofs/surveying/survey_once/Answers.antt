@@ -1,5 +1,5 @@
 use Rattle.bsi_store.proofs.Seen.{surveyed}
-use Rattle.bsi_store.proofs.surveying.survey_rows.Goals as goal
+use Rattle.bsi_store.proofs.surveying.survey_once.Goals as goal
 
 pub returns : goal.returns
 returns g c = surveyed g.S.Read.remaining _ c.in_ok-survey.survey c.in_ok-make_schema.field-0 c.in_ok-survey.ensures.seen c.in_ok-make_schema.ensures.fits
