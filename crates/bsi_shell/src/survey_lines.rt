@@ -21,12 +21,12 @@ pub(crate) fn write_survey_fault<F: Write>(
 ) -> Result<(), WriteFault>
     ensures { IsSomeTextWritten result (F.contents stderr.old) (F.contents stderr.new) }
 {
-    if let SurveyFault::Store(fault) = fault {
-        return write_store_fault(fault, stderr);
-    }
-    match make_lines(alloc, &fault) {
-        Ok(text) => write_bytes(stderr, text.as_slice()),
-        Err(NoMemory) => write_store_fault(StoreFault::Run(FilesFault::NoMemory), stderr),
+    match fault {
+        SurveyFault::Store(fault) => write_store_fault(fault, stderr),
+        fault => match make_lines(alloc, &fault) {
+            Ok(text) => write_bytes(stderr, text.as_slice()),
+            Err(NoMemory) => write_store_fault(StoreFault::Run(FilesFault::NoMemory), stderr),
+        },
     }
 }
 
