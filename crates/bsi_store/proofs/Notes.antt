@@ -1,5 +1,5 @@
 -- The notes and the text of kinds of a saved index.
-use Rattle.std.proofs.Common.{◌≡◌, ◌≤◌, ℕ, suc, arith, List, [], ◌∷◌, ◌++◌, length, subst, sym}
+use Rattle.std.proofs.Common.{◌≤◌, ℕ, suc, arith, List, [], ◌∷◌, ◌++◌, length, subst, sym}
 use Rattle.std.specs.Prelude.{All}
 use Rattle.bsi_rows.specs.Table.{Table}
 use Rattle.bsi_segments.specs.declared.version.Version.{Version}

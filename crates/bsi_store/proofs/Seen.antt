@@ -1,6 +1,5 @@
 -- Row files that a survey has seen.
-use Rattle.std.proofs.Common.{◌≡◌, ◌+◌, ℕ, true, Bool, List, [], ◌∷◌, ◌++◌, Some, None, All, IfOk, IfSome, Result, Ok, Err, length, length-append, get_or, arith, refl, subst, sym, ap, ◌∙◌}
-use Rattle.std.specs.Prelude.{OnOk}
+use Rattle.std.proofs.Common.{◌≡◌, ◌+◌, ℕ, Bool, List, [], ◌∷◌, ◌++◌, Some, None, IfSome, length-append, get_or, arith, refl, subst, sym, ap}
 use Rattle.std.proofs.lemmas.List.Elements.{All-nil, All-push}
 use Rattle.bsi_logical.specs.Logical.{Logical}
 use Rattle.bsi_store.specs.Surveyed.{HasSeen, HasSurveyed}

@@ -1,5 +1,4 @@
-use Rattle.std.proofs.Common.{◌≡◌, Some, arith, refl, rules}
-use Rattle.bsi_storage.specs.declared.fault.OpenFault.TheVariants.{OtherVersion}
+use Rattle.std.proofs.Common.{arith, refl, rules}
 use Rattle.bsi_store.proofs.Notes.{texts_few}
 use Rattle.bsi_store.proofs.add.read_to_add.Goals as goal
 use Rattle.bsi_table.specs.Index.{table_of}

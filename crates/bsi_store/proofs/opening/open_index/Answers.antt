@@ -1,13 +1,9 @@
 use Rattle.std.proofs.Common.{◌≡◌, inl, inr, refl, rules, subst, sym}
-use Rattle.std.specs.Prelude.{◌⊎◌, IfErr}
+use Rattle.std.specs.Prelude.{IfErr}
 use Rattle.bsi_answers.proofs.Passing.{if_err}
-use Rattle.bsi_answers.specs.declared.faults.FilesFault.TheVariants.{NoMemory}
 use Rattle.bsi_store.specs.Asked.{IsSavedIn}
 use Rattle.bsi_store.specs.Faults.{IsOfFile, NamesPath}
-use Rattle.bsi_store.specs.Kinds.{SaysNoSchema}
-use Rattle.bsi_store.specs.declared.fault.FileFault.TheVariants.{BadKinds}
 use Rattle.bsi_store.specs.declared.fault.StoreFault.{StoreFault}
-use Rattle.bsi_store.specs.declared.fault.StoreFault.TheVariants.{Run, Unusable}
 use Rattle.bsi_store.proofs.SaidKinds.{bad_kinds}
 use Rattle.bsi_store.proofs.Named.{file_is, file_named}
 use Rattle.bsi_store.proofs.opening.open_index.Goals as goal

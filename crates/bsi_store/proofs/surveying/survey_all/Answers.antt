@@ -1,4 +1,4 @@
-use Rattle.std.proofs.Common.{◌≡◌, ℕ, length, arith, refl, subst}
+use Rattle.std.proofs.Common.{◌≡◌, ℕ, length, arith, subst}
 use Rattle.bsi_store.specs.Surveyed.{HasSeen}
 use Rattle.bsi_store.proofs.Seen.{looks_still, seen_more}
 use Rattle.bsi_store.proofs.surveying.survey_all.Goals as goal
