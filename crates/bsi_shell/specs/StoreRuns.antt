@@ -2,7 +2,7 @@
 use Rattle.std.specs.Io.KnownBytes.{Keeps}
 use Rattle.std.specs.Borrow.{Bor}
 use Rattle.std.specs.List.{Contains}
-use Rattle.std.specs.Prelude.{◌≡◌, ◌⊎◌, ℕ, Bool, List, IfSome, IsOk, MatchOption, Result, Err, length}
+use Rattle.std.specs.Prelude.{◌≡◌, ◌⊎◌, ℕ, List, IfSome, IsOk, MatchOption, Result, Err, length}
 use Rattle.bsi_logical.specs.Logical.{Logical}
 use Rattle.bsi_store.specs.Saving.{HasAdded, HasSaved, HasSavedKinds, IsAddFault, IsSaveFault, IsSaveKindsFault, LeavesReported}
 use Rattle.bsi_store.specs.Surveyed.{HasSurveyed}
