@@ -39,18 +39,18 @@ MAX_SIZE = 12_288
 MAX_SIZES = {
     "README.md": 7_750,
     "CONTRIBUTING.md": 7_050,
-    "CHANGELOG.md": 8_000,
+    "CHANGELOG.md": 8_350,
     "docs/ARCHITECTURE.md": 14_400,
     "docs/C.md": 5_600,
-    "docs/DECISIONS.md": 11_800,
+    "docs/DECISIONS.md": 12_050,
     "docs/DESIGN.md": 8_850,
-    "docs/FORMATS.md": 18_350,
+    "docs/FORMATS.md": 20_700,
     "docs/GLOSSARY.md": 8_000,
-    "docs/GUIDE.md": 10_050,
+    "docs/GUIDE.md": 10_450,
     "docs/PERFORMANCE.md": 11_200,
-    "docs/PROMISES.md": 25_100,
+    "docs/PROMISES.md": 25_400,
     "docs/PYTHON.md": 10_650,
-    "docs/TOOLS.md": 5_400,
+    "docs/TOOLS.md": 5_600,
 }
 # What the program of the tarball finds on a machine without the kit.
 PATH = "/usr/local/bin:/usr/bin:/bin"
