@@ -34,18 +34,18 @@ by_state All texts column has = (has.kind, has.nulls)
 by_state Missing texts column is = absurd (cc)
 by_state TooMany texts column is = absurd (cc)
 
-words_none : (state : Gathering) (texts : List Field) (choice : Choice) (column : Column) → DecidesChoice state texts choice (DecidedColumn column)
+words_none : (state : Gathering) (texts nulls : List Field) (choice : Choice) (column : Column) → DecidesChoice state texts nulls choice (DecidedColumn column)
     → (own : List Field) → column.kind ≡ Text own → column.nulls.items ≡ []
-words_none state texts Nothing column decides own text = absurd decides
-words_none state texts (Decimals places span) column decides own text = let other = decides.0 in absurd (cc)
-words_none state texts (FormChoice form span) column decides own text = absurd (form_kind form own (subst (λ (k : Kind). IsOfForm form k) text decides.0))
-words_none state texts (Digits places) column is own text = absurd (cc)
-words_none state texts (Orders sign) column is own text = absurd (cc)
-words_none state texts Texts column decides own text = (by_state state texts column decides).1
+words_none state texts nulls Nothing column decides own text = absurd decides
+words_none state texts nulls (Decimals places span) column decides own text = let other = decides.0 in absurd (cc)
+words_none state texts nulls (FormChoice form span) column decides own text = absurd (form_kind form own (subst (λ (k : Kind). IsOfForm form k) text decides.0))
+words_none state texts nulls (Digits places) column is own text = absurd (cc)
+words_none state texts nulls (Orders sign) column is own text = absurd (cc)
+words_none state texts nulls Texts column decides own text = (by_state state texts column decides).1
 
 -- a column of texts has no null words
 pub no_words : (c : Candidates) (column : Column) (texts : List Field) → Decides c (DecidedColumn column) → column.kind ≡ Text texts → column.nulls.items ≡ []
-no_words c column texts decides text = words_none c.gathered.state c.gathered.texts (choice_of c.decimals c.forms.items) column decides texts text
+no_words c column texts decides text = words_none c.gathered.state c.gathered.texts c.nulls (choice_of c.decimals c.forms.items) column decides texts text
 
 -- ---- a column that may have texts alone
 
@@ -79,5 +79,5 @@ pub text_kind : (c : Candidates) (column : Column) → c.forms.items ≡ [] → 
 text_kind c column forms accepts decides =
     let choice = ap (choice_of c.decimals) forms ∙ texts_alone c.point c.decimals accepts in
     let by_texts : DecidesTexts c.gathered.state c.gathered.texts (DecidedColumn column) =
-    subst (λ (ch : Choice). DecidesChoice c.gathered.state c.gathered.texts ch (DecidedColumn column)) choice decides in
+    subst (λ (ch : Choice). DecidesChoice c.gathered.state c.gathered.texts c.nulls ch (DecidedColumn column)) choice decides in
     (by_state c.gathered.state c.gathered.texts column by_texts).0

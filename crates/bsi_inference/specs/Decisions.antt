@@ -77,15 +77,21 @@ DecidesTexts All texts decision = IsTextColumn texts decision
 DecidesTexts Missing texts decision = decision ≡ InDoubt TextsMissing
 DecidesTexts TooMany texts decision = decision ≡ InDoubt TooManyTexts
 
--- What is decided of a choice.
-abbrev pub DecidesChoice : Gathering → List Field → Choice → Decision → Type 0
-DecidesChoice state texts Nothing (Nulls words) = Unit {0}
-DecidesChoice state texts (Decimals places span) (DecidedColumn column) = (column.kind ≡ Decimal places) × (column.span ≡ span)
-DecidesChoice state texts (FormChoice form span) (DecidedColumn column) = IsOfForm form column.kind × (column.span ≡ span)
-DecidesChoice state texts (Digits places) decision = decision ≡ InDoubt (TooManyDigits places)
-DecidesChoice state texts (Orders sign) decision = decision ≡ InDoubt (TwoOrders sign)
-DecidesChoice state texts Texts decision = DecidesTexts state texts decision
-DecidesChoice state texts choice decision = ⊥
+-- The null words of a column are these, and no others.
+abbrev pub HasNulls : List Field → Column → Type 0
+HasNulls nulls column = map (λ w. w.items) column.nulls.items ≡ nulls
+
+-- What is decided of a choice. `nulls` are the null words that were met.
+abbrev pub DecidesChoice : Gathering → List Field → List Field → Choice → Decision → Type 0
+DecidesChoice state texts nulls Nothing (Nulls words) = map (λ w. w.items) words.items ≡ nulls
+DecidesChoice state texts nulls (Decimals places span) (DecidedColumn column) =
+    (column.kind ≡ Decimal places) × (column.span ≡ span) × HasNulls nulls column
+DecidesChoice state texts nulls (FormChoice form span) (DecidedColumn column) =
+    IsOfForm form column.kind × (column.span ≡ span) × HasNulls nulls column
+DecidesChoice state texts nulls (Digits places) decision = decision ≡ InDoubt (TooManyDigits places)
+DecidesChoice state texts nulls (Orders sign) decision = decision ≡ InDoubt (TwoOrders sign)
+DecidesChoice state texts nulls Texts decision = DecidesTexts state texts decision
+DecidesChoice state texts nulls choice decision = ⊥
 
 abbrev pub Decides : Candidates → Decision → Type 0
-Decides c decision = DecidesChoice c.gathered.state c.gathered.texts (choice_of c.decimals c.forms.items) decision
+Decides c decision = DecidesChoice c.gathered.state c.gathered.texts c.nulls (choice_of c.decimals c.forms.items) decision
