@@ -9,7 +9,7 @@ use Rattle.bsi_inference.specs.Decimals.{AcceptsDecimal}
 use Rattle.bsi_inference.specs.declared.candidate.Candidate.{Candidate}
 use Rattle.bsi_inference.specs.declared.candidates.Candidates.{Candidates}
 use Rattle.bsi_inference.specs.declared.decimals.Decimals.{Decimals}
-use Rattle.bsi_survey.specs.Looking.{AcceptMore, AcceptsRecord, AreGrown, AreLookedFor, AreSteps, HasObservedFields, IsGrown, IsLookedFor, IsStep, LooksForTexts}
+use Rattle.bsi_survey.specs.Looking.{AcceptMore, AcceptsRecord, AreGrown, AreLookedFor, AreSteps, HasJoined, HasObservedFields, IsGrown, IsLookedFor, IsStep, LooksForTexts}
 use Rattle.bsi_survey.specs.Surveys.{is_whole, AcceptsWhole}
 
 -- ---- one column
@@ -192,6 +192,7 @@ behind_none Done old = record { len = refl; done = λ k d high low. absurd (omeg
 pub record IsJoinedWith (others : List Candidates) (k : ℕ) (old new : Candidates) : Type 0 where
   pub grown : IsGrown old new
   pub joined : (d : Candidates) (f : Field) → Accepts (get_or others k d) f → Accepts new f
+  pub has : (d : Candidates) → HasJoined old (get_or others k d) new
 
 pub behind_weaker : {X : Type 0} (P Q : ℕ → X → X → Type 0) (old new : List X) (i : ℕ) → ((k : ℕ) (a b : X) → P k a b → Q k a b) → AreBehind P old new i → AreBehind Q old new i
 behind_weaker P Q old new i weaker behind = record {

@@ -1,6 +1,7 @@
 pub mod Distinct
 pub mod Good
 pub mod Growing
+pub mod Late
 pub mod Lists
 pub mod Moments
 pub mod Outcomes

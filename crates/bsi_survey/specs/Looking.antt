@@ -1,8 +1,8 @@
 -- What the candidates of a column look for, and what they are once they observed fields, one after another.
-use Rattle.std.specs.Prelude.{◌≡◌, ℕ, ◌<◌, Bool, true, false, List, [], ◌∷◌, length, get_or, slice_index_or, Option}
+use Rattle.std.specs.Prelude.{◌≡◌, ◌⊎◌, ℕ, ◌<◌, Bool, true, false, List, [], ◌∷◌, length, get_or, slice_index_or, Option}
 use Rattle.bsi_rows.specs.Fields.{Field}
 use Rattle.bsi_kinds.specs.declared.date.DateOrder.{DateOrder}
-use Rattle.bsi_inference.specs.ColumnCandidates.{is_null_field, Accepts, AddsOnlyField, GathersOn, HasNextKinds, HasSameKinds, HaveSameForms, IsNewColumn, IsNewTextColumn, LooksFor}
+use Rattle.bsi_inference.specs.ColumnCandidates.{is_null_field, Accepts, AddsOnlyField, AddsOnlyOther, GathersOn, HasJoinedKinds, HasNextKinds, HasSameKinds, HaveSameForms, IsNewColumn, IsNewTextColumn, LooksFor, MissesTexts}
 use Rattle.bsi_inference.specs.Decimals.{AcceptsDecimal}
 use Rattle.bsi_inference.specs.declared.candidates.Candidates.{Candidates}
 
@@ -88,6 +88,21 @@ pub record AcceptMore (first second : List Candidates) : Type 0 where
   pub len : length second ≡ length first
   pub each : (c : ℕ) → (d : Candidates) → c < length first → (f : Field) → Accepts (slice_index_or first c d) f
       → Accepts (slice_index_or second c d) f
+
+-- The candidates of a column before and after they joined others: what neither saw was added to none.
+pub record HasJoined (old other new : Candidates) : Type 0 where
+  -- The candidates have seen what both had, and no more.
+  pub kinds : HasJoinedKinds old other new
+  -- Texts are missing only if they were missing before.
+  pub missing : MissesTexts new → MissesTexts old ⊎ MissesTexts other
+  -- No other null words and no other texts were added.
+  pub only : AddsOnlyOther old other new
+
+-- The same of each column.
+pub record HaveJoined (old others new : List Candidates) : Type 0 where
+  pub len : length new ≡ length old
+  pub each : (c : ℕ) → (d : Candidates) → c < length old →
+      HasJoined (slice_index_or old c d) (slice_index_or others c d) (slice_index_or new c d)
 
 -- Each field of a record is accepted by the candidates of its column.
 abbrev pub AcceptsRecord : List Candidates → List Field → Type 0

@@ -1,6 +1,6 @@
 -- What a survey says of a text: its header, and that the candidates of each column have observed just the fields of the
 -- records as long as the header, and accept each of them (`Surveys`).
-use Rattle.std.specs.Prelude.{◌≡◌, ℕ, ◌+◌, ◌<◌, Bool, true, false, not, nat_eq, List, [], ◌∷◌, length, get_or, map, count_by, slice_index_or, All, IsSome, IsTrue}
+use Rattle.std.specs.Prelude.{◌≡◌, ℕ, ◌+◌, ◌^◌, ◌<◌, ◌≤◌, ◌⊎◌, Bool, true, false, not, nat_eq, List, [], ◌∷◌, length, get_or, map, count_by, slice_index_or, All, IsSome, IsTrue}
 use Rattle.std.specs.List.{filter}
 use Rattle.csv.specs.declared.reader.Reader.{Reader}
 use Rattle.bsi_rows.specs.Fields.{Field}
@@ -72,6 +72,10 @@ header_of survey = map (λ field. field.items) survey.header.items
 -- No record was counted.
 abbrev pub no_counts : Counts
 no_counts = record { good = 0; bad = 0 }
+
+-- 64 bits do not hold the counts of two texts.
+abbrev pub PassCounts : Counts → Counts → Type 0
+PassCounts counts other = (2 ^ 64 ≤ counts.good + other.good) ⊎ (2 ^ 64 ≤ counts.bad + other.bad)
 
 -- What a survey says of a text.
 pub record Surveys (options : SurveyOptions) (bytes : List ℕ) (survey : Survey) : Type 0 where

@@ -1,6 +1,7 @@
 //! The names of columns (`make_name`), made of their titles by bytes that a name may have.
 
-ghost use Rattle.std.specs.Prelude.{◌<◌, length};
+ghost use Rattle.std.specs.Prelude.{◌<◌, length, IfErr};
+ghost use Rattle.bsi_survey.specs.Made.{IsLateRefusal};
 
 use crate::NoMemory;
 use crate::numbered::numbered;
@@ -26,6 +27,7 @@ pub(crate) fn make_name(
     c: usize,
 ) -> Result<String, SchemaRefusal>
     requires { c < length titles.now }
+    ensures { IfErr result IsLateRefusal }
 {
     let stem = make_stem(alloc, titles[c].as_slice())?;
     'numbers: for number in 1..MAX_TRIES {

@@ -43,9 +43,12 @@ impl From<AllocError> for SchemaRefusal {
 }
 
 impl From<SchemaError> for SchemaRefusal {
+    ghost use Rattle.bsi_survey.specs.Made.{IsLateRefusal};
+
+    ghost from_gives = { λ _ e. IsLateRefusal e };
+
     fn from(error: SchemaError) -> SchemaRefusal {
         match error {
-            SchemaError::TooManyColumns => SchemaRefusal::TooManyColumns,
             SchemaError::NoMemory => SchemaRefusal::NoMemory,
             _ => SchemaRefusal::Undeclared(Refusal::BadTable),
         }
@@ -53,6 +56,10 @@ impl From<SchemaError> for SchemaRefusal {
 }
 
 impl From<DeclareError> for SchemaRefusal {
+    ghost use Rattle.bsi_survey.specs.Made.{IsLateRefusal};
+
+    ghost from_gives = { λ _ e. IsLateRefusal e };
+
     fn from(error: DeclareError) -> SchemaRefusal {
         match error {
             DeclareError::Refused(why) => SchemaRefusal::Undeclared(why),

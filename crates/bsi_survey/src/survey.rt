@@ -35,17 +35,17 @@ pub struct Survey {
 }
 
 impl Survey {
-    ghost use Rattle.std.specs.Prelude.{◌+◌, ◌<◌, ◌≤◌, ℕ, Bool, List, [], All, Err, slice_index_or, true, IfSome, IsSome, IsTrue, OnOk};
+    ghost use Rattle.std.specs.Prelude.{◌+◌, ◌<◌, ◌≤◌, ◌≢◌, ℕ, Bool, List, [], All, Err, slice_index_or, true, IfErr, IfSome, IsSome, IsTrue, OnErr, OnOk};
     ghost use Rattle.bsi_schema.specs.Columns.{max_columns};
     ghost use Rattle.bsi_rows.specs.Fields.{Field};
     ghost use Rattle.bsi_input.specs.Formats.{good_row};
     ghost use Rattle.bsi_logical.specs.LogicalRows.{has_titles, logical_format};
     ghost use Rattle.bsi_inference.specs.ColumnCandidates.{Accepts, LooksFor as LooksForKinds};
     ghost use Rattle.bsi_inference.specs.declared.candidates.Candidates.{Candidates};
-    ghost use Rattle.bsi_survey.specs.Made.{IsGoodField};
+    ghost use Rattle.bsi_survey.specs.Made.{IsGoodField, IsLateRefusal};
     ghost use Rattle.bsi_survey.specs.Titles.{AreDistinct, IsFirstRepeated};
-    ghost use Rattle.bsi_survey.specs.Looking.{AcceptMore, AcceptsRecord, AreLookedFor};
-    ghost use Rattle.bsi_survey.specs.Surveys.{header_of, FitsText, LookAlike, LooksFor, SeesText, Surveys};
+    ghost use Rattle.bsi_survey.specs.Looking.{AcceptMore, AcceptsRecord, AreLookedFor, HaveJoined};
+    ghost use Rattle.bsi_survey.specs.Surveys.{header_of, FitsText, LookAlike, LooksFor, PassCounts, SeesText, Surveys};
     ghost use Rattle.bsi_survey.specs.TextRecords.{AreTextRecords};
 
     /// Goes once over a text. Its first record is the header. Each further record of as many fields is shown to the
@@ -137,6 +137,12 @@ impl Survey {
         ensures joined { OnOk result (AcceptMore other.columns.items self.new.columns.items) }
         ensures good { OnOk result (self.new.counts.good ≡ self.old.counts.good + other.counts.good) }
         ensures bad { OnOk result (self.new.counts.bad ≡ self.old.counts.bad + other.counts.bad) }
+        ensures kinds { OnOk result
+            (HaveJoined self.old.columns.items other.columns.items self.new.columns.items) }
+        ensures other { result ≡ Err JoinError.OtherHeader → header_of other ≢ header_of self.old }
+        ensures long { result ≡ Err JoinError.TooLong → PassCounts self.old.counts other.counts }
+        ensures unchanged { IfErr result (λ why. why ≢ JoinError.NoMemory → self.new ≡ self.old) }
+        ensures kept { OnErr result (self.new.counts ≡ self.old.counts) }
     {
         if !are_same_fields(&self.header, &other.header) {
             return Err(JoinError::OtherHeader);
@@ -181,6 +187,9 @@ impl Survey {
         ensures many { max_columns < length (header_of self) → result ≡ Err SchemaRefusal.TooManyColumns }
         ensures repeated { (c : ℕ) → length (header_of self) ≤ max_columns →
             IsFirstRepeated (header_of self) c → result ≡ Err (SchemaRefusal.RepeatedField c) }
+        ensures only_many { result ≡ Err SchemaRefusal.TooManyColumns → max_columns < length (header_of self) }
+        ensures only_repeated { (c : ℕ) → result ≡ Err (SchemaRefusal.RepeatedField c) →
+            IsFirstRepeated (header_of self) c }
     {
         if self.header.len() > MAX_COLUMNS as usize {
             return Err(SchemaRefusal::TooManyColumns);
@@ -204,6 +213,7 @@ impl Survey {
         ensures columns { IfOk result (λ l. length l.schema.columns ≡ length self.columns.items) }
         ensures titles { IfOk result (λ l. l.titles ≡ header_of self) }
         ensures dialect { IfOk result (λ l. l.dialect ≡ self.dialect) }
+        ensures late { IfErr result IsLateRefusal }
     {
         let Survey {
             dialect,

@@ -1,10 +1,14 @@
-use Rattle.std.proofs.Common.{◌≡◌, ℕ, List, Vec, Global, Option, IfOk, IfSome, arith, ap, length, map, subst}
+use Rattle.std.proofs.Common.{◌≡◌, ℕ, List, Vec, Global, Option, IfOk, IfSome, arith, rules, ap, length, map, subst}
 use Rattle.std.proofs.lemmas.List.{length-map}
 use Rattle.bsi_inference.specs.declared.decision.Column.{Column}
 use Rattle.bsi_logical.specs.Logical.{Logical}
 use Rattle.bsi_survey.specs.Decided.{AreColumnsOf}
 use Rattle.bsi_survey.proofs.Schemas.{all_good, columns_len, kinds_valid, schema_len}
 use Rattle.bsi_survey.proofs.Whole.{header_accepted, whole_good}
+use Rattle.std.specs.Prelude.{IfErr}
+use Rattle.bsi_survey.specs.declared.schema_refusal.SchemaRefusal.{SchemaRefusal}
+use Rattle.bsi_survey.specs.declared.schema_refusal.SchemaRefusal.TheVariants.{NoMemory}
+use Rattle.bsi_survey.proofs.Late.{late_memory}
 use Rattle.bsi_survey.proofs.survey.Survey.make_titled.Goals as goal
 
 -- there is a column for each title
@@ -68,3 +72,18 @@ returns-clause-rows c =
     (all_good cands c.in_ok-decisions.decisions.items c.in-Some.columns.items c.in_ok-decisions.ensures listed c.args.self.dialect
     c.requires.looks.texts c.requires.looks.each
     c.make_logical.result c.make_logical.ensures.stored c.make_logical.ensures.dialect c.make_logical.ensures.kinds c.make_logical.ensures.nulls)
+
+pub returns-in_err-decisions-clause-late : goal.returns-in_err-decisions-clause-late
+returns-in_err-decisions-clause-late c =
+    let none : IfErr c.from_residual.result (λ (e : SchemaRefusal). e ≡ NoMemory) = search rules in
+    late_memory c.from_residual.result none
+
+pub returns-in_err-doubts-clause-late : goal.returns-in_err-doubts-clause-late
+returns-in_err-doubts-clause-late c =
+    let none : IfErr c.from_residual-in_err-doubts.result (λ (e : SchemaRefusal). e ≡ NoMemory) = search rules in
+    late_memory c.from_residual-in_err-doubts.result none
+
+pub returns-in_err-listed-clause-late : goal.returns-in_err-listed-clause-late
+returns-in_err-listed-clause-late c =
+    let none : IfErr c.from_residual-in_err-listed.result (λ (e : SchemaRefusal). e ≡ NoMemory) = search rules in
+    late_memory c.from_residual-in_err-listed.result none
