@@ -2,7 +2,7 @@
 use Rattle.std.specs.Io.KnownBytes.{Keeps}
 use Rattle.std.specs.Borrow.{Bor}
 use Rattle.std.specs.List.{Contains}
-use Rattle.std.specs.Prelude.{◌≡◌, ◌⊎◌, ℕ, List, IfSome, IsOk, MatchOption, Result, Err, length}
+use Rattle.std.specs.Prelude.{◌≡◌, ◌⊎◌, ℕ, false, List, IfSome, IsOk, MatchOption, Result, Err, length}
 use Rattle.bsi_logical.specs.Logical.{Logical}
 use Rattle.bsi_store.specs.Saving.{HasAdded, HasSaved, HasSavedKinds, IsAddFault, IsSaveFault, IsSaveKindsFault, LeavesReported}
 use Rattle.bsi_store.specs.Surveyed.{HasSurveyed}
@@ -12,8 +12,8 @@ use Rattle.bsi_store.specs.declared.save.SavePaths.{SavePaths}
 use Rattle.bsi_answers.specs.declared.faults.FilesFault.TheVariants.{NoMemory, Write}
 use Rattle.bsi_input.specs.declared.writing.WriteFault.{WriteFault}
 use Rattle.bsi_shell.specs.FaultLines.{IsLineWritten, IsSomeTextWritten}
-use Rattle.bsi_store.specs.Asked.{HasAsked, HasShown, LeavesAnswers, LeavesShown}
-use Rattle.bsi_store.specs.Faults.{store_fault_line, IsOfFile, NamesPath}
+use Rattle.bsi_store.specs.Asked.{HasAsked, HasShown, IsAskingFault, IsShowingFault, LeavesAnswers, LeavesShown}
+use Rattle.bsi_store.specs.Faults.{store_fault_line, IsOfFile, IsUnopened, NamesPath}
 use Rattle.bsi_store.specs.declared.ask.AskPaths.{AskPaths}
 use Rattle.bsi_store.specs.declared.fault.StoreFault.{StoreFault}
 use Rattle.bsi_store.specs.declared.fault.StoreFault.TheVariants.{Run}
@@ -103,14 +103,14 @@ pub record LeavesAdd {S : Type 0} (rem put : S → KnownBytes) (paths : AddPaths
 -- What a fault of `bsi ask` says and leaves, for the questions of an opened file or of the input.
 pub record LeavesAsk {S : Type 0} (rem : S → KnownBytes) (input : KnownBytes) (paths : AskPaths) (fault : StoreFault) (before after : KnownBytes) : Type 0 where
   pub named : NamesPath (λ named. (named ≡ paths.index) ⊎ IfSome paths.asks (λ asks. named ≡ asks)) fault
-  pub met : IsOfFile rem fault
-  pub partial : (after ≡ before) ⊎ (((asked : S) × LeavesAnswers rem paths.so_far (rem asked) before after fault)
+  pub met : IsOfFile rem paths.so_far IsAskingFault fault
+  pub partial : (IsUnopened fault × (after ≡ before)) ⊎ (((asked : S) × LeavesAnswers rem paths.so_far (rem asked) before after fault)
       ⊎ LeavesAnswers rem paths.so_far input before after fault)
 
 -- What a fault of `bsi show` says and leaves.
 pub record LeavesShow {S : Type 0} (rem : S → KnownBytes) (path : Bor (List ℕ)) (fault : StoreFault) (before after : KnownBytes) : Type 0 where
   pub named : NamesPath (λ named. named ≡ path) fault
-  pub met : IsOfFile rem fault
+  pub met : IsOfFile rem false IsShowingFault fault
   pub partial : LeavesShown rem fault before after
 
 -- A save by a schema that is to be found failed: no schema was found, and nothing was written to the output; or a schema

@@ -3,3 +3,4 @@ mod Named
 mod Notes
 mod SaidKinds
 mod Seen
+mod Unopened

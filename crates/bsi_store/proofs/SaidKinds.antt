@@ -1,11 +1,12 @@
--- A text of kinds that says no schema of a saved table is a fault of its file.
+-- A text of kinds that says no schema of a saved table is a fault of its file, also where the rows so far are enough.
 use Rattle.std.proofs.Common.{◌≡◌, ◌∙◌, ◌∷◌, Bool, List, [], inl, inr, length, refl, rules, subst, sym}
 use Rattle.std.specs.Bool.{◌==◌}
 use Rattle.std.specs.Borrow.{Bor}
 use Rattle.std.specs.Prelude.{ℕ, ◌⊎◌, Result, Err, Some, false}
 use Rattle.bsi_rows.specs.Table.{Table}
 use Rattle.bsi_store.specs.Asked.{IsSavedIn}
-use Rattle.bsi_store.specs.Faults.{IsFileFault}
+use Rattle.bsi_store.specs.Faults.{HasBadKinds, IsReadingFault}
+use Rattle.bsi_store.specs.Saving.{IsAddingFault}
 use Rattle.bsi_logical.specs.Logical as logical
 use Rattle.bsi_logical.specs.LogicalTexts.{IsLogicalText, Reads}
 use Rattle.bsi_logical.specs.TableSchemas.{format_of}
@@ -22,8 +23,8 @@ use Rattle.bsi_store.specs.declared.fault.StoreFault.TheVariants.{Run, Unusable}
 use Rattle.bsi_syntax.specs.Bytes.{Bytes, KnownBytes}
 
 pub bad_kinds : {S : Type 0} (rem : S → KnownBytes) (so_far : Bool) (table : Table) (saved : IsSavedIn rem so_far table) (kinds : Bytes) (path : Bor (List ℕ)) (fault : StoreFault)
-    → saved.kinds ≡ kinds → fault ≡ Unusable path BadKinds → SaysNoSchema kinds table → IsFileFault path (rem saved.file) fault
-bad_kinds rem so_far table saved kinds path fault same is none = inr (inr (record {
+    → saved.kinds ≡ kinds → fault ≡ Unusable path BadKinds → SaysNoSchema kinds table → HasBadKinds path (rem saved.file) fault
+bad_kinds rem so_far table saved kinds path fault same is none = record {
   after = saved.after;
   table = table;
   notes = saved.notes;
@@ -33,7 +34,13 @@ bad_kinds rem so_far table saved kinds path fault same is none = inr (inr (recor
   opened = saved.opened;
   bad = subst (λ (k : Bytes). SaysNoSchema k table) (sym same) none;
   reported_is = is;
-}))
+}
+
+pub bad_to_read : (so_far : Bool) (path : Bor (List ℕ)) (bytes : KnownBytes) (fault : StoreFault) → HasBadKinds path bytes fault → IsReadingFault so_far path bytes fault
+bad_to_read so_far path bytes fault bad = (inr (inr bad), λ yes. inr bad)
+
+pub bad_to_add : (so_far : Bool) (path : Bor (List ℕ)) (bytes : KnownBytes) (fault : StoreFault) → HasBadKinds path bytes fault → IsAddingFault so_far path bytes fault
+bad_to_add so_far path bytes fault bad = (inr (inr bad), λ yes. inr (inl bad))
 
 -- the columns of a schema that is said are those of the table
 pub says_schema : (kinds : Bytes) (table : Table) (schema : TableSchema) → SaysSchema kinds table schema → table.schema ≡ (format_of schema).schema

@@ -1,5 +1,5 @@
 -- What `bsi ask` and `bsi show` write of a saved index, in full or up to a fault (`HasAsked`, `HasShown`).
-use Rattle.std.specs.Prelude.{◌≡◌, ◌≢◌, ◌⊎◌, Bool, false, ℕ, Option, None, IfSome}
+use Rattle.std.specs.Prelude.{◌≡◌, ◌≢◌, ◌⊎◌, Bool, true, false, ℕ, Option, None, IfSome}
 use Rattle.std.specs.Io.KnownBytes.{Appends}
 use Rattle.bsi_input.specs.BufferedOutput.{AppendsPrefix}
 use Rattle.bsi_logical.specs.declared.table_schema.TableSchema.{TableSchema}
@@ -11,7 +11,9 @@ use Rattle.std.specs.List.{AllZip}
 use Rattle.bsi_answers.specs.Writing.{WritesAll, WritesFirst}
 use Rattle.bsi_store.specs.declared.fault.StoreFault.{StoreFault}
 use Rattle.bsi_store.specs.declared.fault.StoreFault.TheVariants.{Run}
-use Rattle.bsi_answers.specs.declared.faults.FilesFault.TheVariants.{Write}
+use Rattle.bsi_answers.specs.Faults.{may_follow_output}
+use Rattle.bsi_answers.specs.declared.faults.FilesFault.{FilesFault}
+use Rattle.bsi_answers.specs.declared.faults.FilesFault.TheVariants as run
 use Rattle.bsi_storage.specs.Faults.{IsOpened}
 use Rattle.bsi_storage.specs.declared.fault.OpenFault.{OpenFault}
 use Rattle.bsi_storage.specs.declared.fault.OpenFault.TheVariants.{Read, NoMemory}
@@ -54,10 +56,19 @@ pub record HasAsked {S : Type 0} (rem : S → KnownBytes) (so_far : Bool) (asks 
   pub opened : IsOpenedAs rem so_far table schema
   pub answered : IfSome asks (λ asked. WritesAll (AllZip (IsAnswer schema table)) asked before after)
 
--- What a fault leaves of the answers: nothing, or the first lines of the answers over a saved table.
+-- The fault of a run by which `bsi ask` ends: one of the questions or of the output, or memory was refused.
+abbrev pub IsAskingFault : FilesFault → Type 0
+IsAskingFault fault = may_follow_output fault ≡ true
+
+-- The fault of a run by which `bsi show` ends.
+abbrev pub IsShowingFault : FilesFault → Type 0
+IsShowingFault fault = (fault ≡ run.NoMemory) ⊎ (fault ≡ run.Write)
+
+-- What a fault leaves of the answers: the first lines of the answers over a saved table; or nothing, if no table was
+-- opened.
 abbrev pub LeavesAnswers : {S : Type 0} → (S → KnownBytes) → Bool → KnownBytes → KnownBytes → KnownBytes → StoreFault → Type 0
 LeavesAnswers rem so_far asks before after (Run fault) =
-    (after ≡ before) ⊎ ((table : Table) × (schema : TableSchema) × IsOpenedAs rem so_far table schema
+    ((fault ≡ run.NoMemory) × (after ≡ before)) ⊎ ((table : Table) × (schema : TableSchema) × IsOpenedAs rem so_far table schema
     × IfSome asks (λ asked. WritesFirst (AllZip (IsAnswer schema table)) asked fault before after))
 LeavesAnswers rem so_far asks before after fault = after ≡ before
 
@@ -93,4 +104,4 @@ pub record HasShownPrefix {S : Type 0} (rem : S → KnownBytes) (before after : 
 
 -- What a fault leaves of a description: nothing or, if the output can't be written, a prefix.
 abbrev pub LeavesShown : {S : Type 0} → (S → KnownBytes) → StoreFault → KnownBytes → KnownBytes → Type 0
-LeavesShown rem fault before after = (after ≡ before) ⊎ ((fault ≡ Run Write) × HasShownPrefix rem before after)
+LeavesShown rem fault before after = (after ≡ before) ⊎ ((fault ≡ Run run.Write) × HasShownPrefix rem before after)

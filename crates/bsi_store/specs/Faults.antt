@@ -1,7 +1,8 @@
 -- Why a command over a saved index ends early, and the line of each such fault (`store_fault_line`).
-use Rattle.std.specs.Prelude.{◌≡◌, ◌⊎◌, ℕ, List, ◌++◌, Option, Some, codes, decimal, length}
+use Rattle.std.specs.Prelude.{◌≡◌, ◌⊎◌, ℕ, Bool, true, List, ◌++◌, Option, Some, codes, decimal, length}
 use Rattle.std.specs.Borrow.{Bor}
 use Rattle.bsi_answers.specs.FaultTexts.{fault_text}
+use Rattle.bsi_answers.specs.declared.faults.FilesFault.{FilesFault}
 use Rattle.bsi_answers.specs.declared.faults.FilesFault.TheVariants.{NoMemory}
 use Rattle.bsi_storage.specs.declared.fault.OpenFault.{OpenFault}
 use Rattle.bsi_storage.specs.declared.fault.OpenFault.TheVariants as opening
@@ -93,7 +94,24 @@ IsFileFault path bytes reported =
 abbrev pub IsUnrecoverable : Bor (List ℕ) → KnownBytes → StoreFault → Type 0
 IsUnrecoverable path bytes reported = IsFirstFileFault path bytes reported ⊎ ((reported ≡ Unusable path Read) ⊎ (reported ≡ Run NoMemory))
 
--- A fault of a file is that of one which was opened.
-abbrev pub IsOfFile : {S : Type 0} → (S → KnownBytes) → StoreFault → Type 0
-IsOfFile {S} rem (Unusable path why) = (file : S) × IsFileFault path (rem file) (Unusable path why)
-IsOfFile rem fault = Unit {0}
+-- The fault of a file whose index is read. With `so_far`, what was opened before a fault of the segments is enough.
+abbrev pub IsReadingFault : Bool → Bor (List ℕ) → KnownBytes → StoreFault → Type 0
+IsReadingFault so_far path bytes reported =
+    IsFileFault path bytes reported × (so_far ≡ true → IsUnrecoverable path bytes reported ⊎ HasBadKinds path bytes reported)
+
+-- The fault of a command that writes no file: one can't be opened, or one that was opened has this fault; or the fault is
+-- one of a run, such that `IsOfRun` holds of it.
+abbrev pub IsOfFile : {S : Type 0} → (S → KnownBytes) → Bool → (FilesFault → Type 0) → StoreFault → Type 0
+IsOfFile rem so_far IsOfRun (CannotOpen path) = Unit {0}
+IsOfFile rem so_far IsOfRun (CannotWrite path) = ⊥
+IsOfFile {S} rem so_far IsOfRun (Unusable path why) = (file : S) × IsReadingFault so_far path (rem file) (Unusable path why)
+IsOfFile rem so_far IsOfRun (Run fault) = IsOfRun fault
+
+-- A file can't be opened.
+abbrev pub IsUnopened : StoreFault → Type 0
+IsUnopened (CannotOpen path) = Unit {0}
+IsUnopened fault = ⊥
+
+-- Memory was refused while an index was opened.
+abbrev pub IsOpeningFault : FilesFault → Type 0
+IsOpeningFault fault = fault ≡ NoMemory

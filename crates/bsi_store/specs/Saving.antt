@@ -1,6 +1,6 @@
 -- What `bsi save` and `bsi add` write to the index file and report (`HasSaved`, `HasAdded`), and their faults.
 use Rattle.std.specs.Borrow.{Bor}
-use Rattle.std.specs.Prelude.{◌≡◌, ◌≢◌, ◌⊎◌, ◌+◌, ◌<◌, ◌≤◌, ◌++◌, ℕ, Bool, false, List, [], Some, IfSome, codes, length, map}
+use Rattle.std.specs.Prelude.{◌≡◌, ◌≢◌, ◌⊎◌, ◌+◌, ◌<◌, ◌≤◌, ◌++◌, ℕ, Bool, true, false, List, [], Some, IfSome, codes, length, map}
 use Rattle.std.specs.Io.KnownBytes.{Appends}
 use Rattle.std.specs.List.{concat}
 use Rattle.bsi_rows.specs.Rows.{SourcedRow}
@@ -24,7 +24,7 @@ use Rattle.bsi_segments.specs.declared.version.Version.TheVariants.{Two}
 use Rattle.bsi_storage.specs.Saved.{head_segment, MayBeSaved}
 use Rattle.bsi_storage.specs.declared.fault.OpenFault.TheVariants.{OtherVersion}
 use Rattle.bsi_store.specs.Asked.{IsSavedIn}
-use Rattle.bsi_store.specs.Faults.{IsFileFault}
+use Rattle.bsi_store.specs.Faults.{HasBadKinds, IsFileFault, IsUnrecoverable}
 use Rattle.bsi_store.specs.declared.fault.FileFault.TheVariants as file
 use Rattle.bsi_store.specs.declared.fault.FileFault.TheVariants.{InUse, LongKinds}
 use Rattle.bsi_store.specs.declared.fault.StoreFault.{StoreFault}
@@ -141,6 +141,18 @@ IsNotAboutBytes fault = Unit {0}
 abbrev pub IsMet : {S : Type 0} → (S → KnownBytes) → StoreFault → Type 0
 IsMet {S} rem fault = IsNotAboutBytes fault ⊎ ((path : Bor (List ℕ)) × (file : S) × IsFileFault path (rem file) fault)
 
+-- A fault of the index file to which rows are added. With `so_far`, what was opened before a fault of the segments is
+-- enough, unless a segment of another version follows.
+abbrev pub IsAddingFault : Bool → Bor (List ℕ) → KnownBytes → StoreFault → Type 0
+IsAddingFault so_far path bytes reported =
+    IsFileFault path bytes reported
+    × (so_far ≡ true → IsUnrecoverable path bytes reported ⊎ (HasBadKinds path bytes reported ⊎ (reported ≡ Unusable path file.OtherVersion)))
+
+-- If the fault says something about the bytes of the index file, one with this fault was opened.
+abbrev pub IsMetToAdd : {S : Type 0} → (S → KnownBytes) → Bool → StoreFault → Type 0
+IsMetToAdd {S} rem so_far fault =
+    IsNotAboutBytes fault ⊎ ((path : Bor (List ℕ)) × (file : S) × IsAddingFault so_far path (rem file) fault)
+
 -- ---- of saving
 
 -- Row files could not be loaded by a schema file.
@@ -245,7 +257,7 @@ pub record ExceedLimit {S : Type 0} (rem : S → KnownBytes) (so_far : Bool) (co
 -- The fault of a command that adds no rows.
 abbrev pub IsAddFault : {S : Type 0} → (S → KnownBytes) → Bool → ℕ → StoreFault → Type 0
 IsAddFault rem so_far count fault =
-    IsMet rem fault ⊎ (IsTooMany rem so_far count fault ⊎ (((fault ≡ Run IndexFull) × ExceedLimit rem so_far count)
+    IsMetToAdd rem so_far fault ⊎ (IsTooMany rem so_far count fault ⊎ (((fault ≡ Run IndexFull) × ExceedLimit rem so_far count)
     ⊎ HasFailedLoad rem so_far count fault))
 
 -- ---- what is reported

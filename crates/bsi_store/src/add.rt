@@ -8,9 +8,9 @@ ghost use Rattle.bsi_logical.specs.TableSchemas.{format_of};
 ghost use Rattle.bsi_rows.specs.Table.{max_feeders, no_rows, with_rows};
 ghost use Rattle.bsi_storage.specs.Faults.{AcceptsRowsOf};
 ghost use Rattle.bsi_storage.specs.Saved.{head_segment, max_kinds, max_notes, MayBeSaved};
-ghost use Rattle.bsi_store.specs.Saving.{HasAdded, IsAddFault, IsMet, IsNotAboutBytes, IsReadOf, IsRunFaultOver, LeavesReported, ReportsOn};
+ghost use Rattle.bsi_store.specs.Saving.{HasAdded, IsAddFault, IsAddingFault, IsMetToAdd, IsNotAboutBytes, IsReadOf, IsRunFaultOver, LeavesReported, ReportsOn};
 ghost use Rattle.std.specs.List.{Contains};
-ghost use Rattle.bsi_store.specs.Faults.{IsFileFault, NamesPath};
+ghost use Rattle.bsi_store.specs.Faults.{NamesPath};
 ghost use Rattle.bsi_store.specs.Kinds.{SaysNoSchema, SaysSchema};
 ghost use Rattle.bsi_table.specs.Index.{table_of};
 
@@ -111,7 +111,7 @@ fn read_to_add<'a, S: Read>(
         opened.notes.items opened.kinds.items (S.remaining file.new)) }
     ensures few { IfOk result (λ opened. (length opened.notes.items ≤ max_notes)
         × (length opened.kinds.items ≤ max_kinds)) }
-    ensures fault { IfErr result (IsFileFault path.entry (S.remaining file.old)) }
+    ensures fault { IfErr result (IsAddingFault so_far path.entry (S.remaining file.old)) }
     ensures named { IfErr result (NamesPath (λ named. named ≡ path.entry)) }
 {
     let saved = read_saved(alloc, path, file, so_far)?;
@@ -139,7 +139,7 @@ fn reread_if_changed<'a, S: Read + OpenFile + LockFile>(
     ensures few { (length saved.notes.items ≤ max_notes) × (length saved.kinds.items ≤ max_kinds) →
         IfOk result (λ opened. (length opened.notes.items ≤ max_notes)
         × (length opened.kinds.items ≤ max_kinds)) }
-    ensures fault { IfErr result (IsMet S.remaining) }
+    ensures fault { IfErr result (IsMetToAdd S.remaining so_far) }
     ensures named { IfErr result (NamesPath (λ named. named ≡ path.entry)) }
 {
     let Ok(metadata) = file.metadata() else {

@@ -1,8 +1,8 @@
 //! Answers questions over the rows of a saved index.
 
 ghost use Rattle.std.specs.Prelude.{◌≡◌, ◌⊎◌, IfErr, OnOk};
-ghost use Rattle.bsi_store.specs.Asked.{HasAsked, LeavesAnswers};
-ghost use Rattle.bsi_store.specs.Faults.{IsOfFile, NamesPath};
+ghost use Rattle.bsi_store.specs.Asked.{HasAsked, IsAskingFault, LeavesAnswers};
+ghost use Rattle.bsi_store.specs.Faults.{IsOfFile, IsUnopened, NamesPath};
 
 use crate::StoreFault;
 use crate::lock::LockFile;
@@ -32,12 +32,12 @@ pub fn ask_over<
 >(rt: &R, paths: &AskPaths<'a>, asks: &'a str, output: &mut O) -> Result<(), StoreFault<'a>>
     ensures asked { OnOk result ((asked : S) × HasAsked S.remaining paths.now.so_far (S.remaining asked)
         (O.contents output.old) (O.contents output.new)) }
-    ensures prefix { IfErr result (λ fault. (O.contents output.new ≡ O.contents output.old)
-        ⊎ ((asked : S) × LeavesAnswers S.remaining paths.now.so_far (S.remaining asked)
+    ensures prefix { IfErr result (λ fault.
+        (IsUnopened fault × (O.contents output.new ≡ O.contents output.old)) ⊎ ((asked : S) × LeavesAnswers S.remaining paths.now.so_far (S.remaining asked)
         (O.contents output.old) (O.contents output.new) fault)) }
     ensures named { IfErr result
         (NamesPath (λ named. (named ≡ paths.now.index) ⊎ (named ≡ asks.entry))) }
-    ensures fault { IfErr result (IsOfFile S.remaining) }
+    ensures fault { IfErr result (IsOfFile S.remaining paths.now.so_far IsAskingFault) }
 {
     let asks = open_file(rt, asks)?;
     ask_input(rt, paths, asks, output)
@@ -56,7 +56,7 @@ pub fn ask_input<
     ensures prefix { IfErr result (LeavesAnswers S.remaining paths.now.so_far (I.remaining asks)
         (O.contents output.old) (O.contents output.new)) }
     ensures named { IfErr result (NamesPath (λ named. named ≡ paths.now.index)) }
-    ensures fault { IfErr result (IsOfFile S.remaining) }
+    ensures fault { IfErr result (IsOfFile S.remaining paths.now.so_far IsAskingFault) }
 {
     let opened = open_index(rt, paths.index, paths.so_far)?;
     answer_asks(

@@ -7,7 +7,7 @@ ghost use Rattle.bsi_store.specs.Asked.{IsAboutBytes, IsOpenedAs};
 ghost use Rattle.bsi_store.specs.Kinds.{kinds_fault, SaysNoSchema, SaysSchema};
 ghost use Rattle.bsi_store.specs.declared.fault.StoreFault.TheVariants.{Run, Unusable};
 ghost use Rattle.bsi_store.specs.declared.fault.FileFault.TheVariants.{BadKinds};
-ghost use Rattle.bsi_store.specs.Faults.{IsFileFault, IsOfFile, IsUnrecoverable, NamesPath};
+ghost use Rattle.bsi_store.specs.Faults.{IsFileFault, IsOfFile, IsOpeningFault, IsUnrecoverable, NamesPath};
 ghost use Rattle.bsi_table.specs.Index.{table_of};
 
 use crate::lock::LockFile;
@@ -50,7 +50,7 @@ pub(crate) fn open_index<'a, R: AllocGlobal + Files<File = S>, S: Read + LockFil
     ensures opened { IfOk result
         (λ opened. IsOpenedAs S.remaining so_far (table_of opened.saved.index) opened.schema) }
     ensures named { IfErr result (NamesPath (λ named. named ≡ path.entry)) }
-    ensures fault { IfErr result (IsOfFile S.remaining) }
+    ensures fault { IfErr result (IsOfFile S.remaining so_far IsOpeningFault) }
 {
     let mut file = open_file(rt, path)?;
     // A file that can't be locked, as a pipe, is read as it is.

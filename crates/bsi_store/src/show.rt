@@ -1,8 +1,8 @@
 //! Shows what a saved index has: its columns, rows and sizes.
 
-ghost use Rattle.std.specs.Prelude.{◌≡◌, ◌<◌, ◌++◌, IfErr, IfOk, length, OnOk};
+ghost use Rattle.std.specs.Prelude.{◌≡◌, ◌<◌, ◌++◌, false, IfErr, IfOk, length, OnOk};
 ghost use Rattle.bsi_schema.specs.Columns.{column_at};
-ghost use Rattle.bsi_store.specs.Asked.{HasShown, LeavesShown};
+ghost use Rattle.bsi_store.specs.Asked.{HasShown, IsShowingFault, LeavesShown};
 ghost use Rattle.bsi_store.specs.Faults.{IsOfFile, NamesPath};
 ghost use Rattle.bsi_store.specs.Lines.{bitmap_bytes, size_lines, AreRecordsOf, IsShownText};
 ghost use Rattle.bsi_table.specs.Index.{table_of};
@@ -28,7 +28,7 @@ pub fn show_index<'a, R: AllocGlobal + Files<File = S>, S: Read + LockFile + Dro
     ensures shown { OnOk result
         (HasShown S.remaining (O.contents output.old) (O.contents output.new)) }
     ensures named { IfErr result (NamesPath (λ named. named ≡ path.entry)) }
-    ensures fault { IfErr result (IsOfFile S.remaining) }
+    ensures fault { IfErr result (IsOfFile S.remaining false IsShowingFault) }
     ensures prefix { IfErr result (λ fault. LeavesShown S.remaining fault
         (O.contents output.old) (O.contents output.new)) }
 {

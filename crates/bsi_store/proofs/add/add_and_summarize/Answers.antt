@@ -9,7 +9,7 @@ use Rattle.bsi_segments.specs.declared.version.Version.TheVariants.{Two}
 use Rattle.bsi_storage.specs.Saved.{head_segment, MayBeSaved}
 use Rattle.bsi_logical.specs.TableSchemas.{format_of}
 use Rattle.bsi_store.specs.Kinds.{SaysSchema}
-use Rattle.bsi_store.proofs.SaidKinds.{bad_kinds, says_schema}
+use Rattle.bsi_store.proofs.SaidKinds.{bad_kinds, bad_to_add, says_schema}
 use Rattle.bsi_store.specs.declared.fault.StoreFault.{StoreFault}
 use Rattle.bsi_store.specs.Saving.{IsAddFault, IsNotAboutBytes, IsReadOf}
 use Rattle.bsi_store.proofs.Failing.{not_loaded}
@@ -113,7 +113,7 @@ returns-in_err-schema-clause-fault g c =
     let read = c.in_ok-saved.ensures.read in
     let failed : IsAddFault rem so_far (length c.args.paths.now.rows.items) reported = elim c.in_err-schema.ensures.fault [
       | inl none ↦ inl (inl (subst IsNotAboutBytes (sym none) tt))
-      | inr bad ↦ inl (inr (c.args.paths.now.index, read.saved.file, bad_kinds rem so_far (table_of c.in_ok-saved.saved.index) read.saved c.in_ok-saved.saved.kinds.items c.args.paths.now.index reported read.kinds_are bad.0 bad.1))
+      | inr bad ↦ inl (inr (c.args.paths.now.index, read.saved.file, bad_to_add so_far c.args.paths.now.index (rem read.saved.file) reported (bad_kinds rem so_far (table_of c.in_ok-saved.saved.index) read.saved c.in_ok-saved.saved.kinds.items c.args.paths.now.index reported read.kinds_are bad.0 bad.1)))
     ] in
     let met : IfErr c.from_residual-in_err-schema.result (λ (fault : StoreFault). fault ≡ reported) = search rules in
     if_err c.from_residual-in_err-schema.result (λ fault is. subst (IsAddFault rem so_far (length c.args.paths.now.rows.items)) (sym is) failed) met
@@ -128,7 +128,7 @@ returns-in_err-check_same_schema-clause-fault g c =
     let read : IsReadOf rem so_far (table_of saved.index) saved.notes.items saved.kinds.items (rem c.reread_if_changed.new.file) = c.in_ok-saved-2.ensures.read c.in_ok-saved.ensures.read in
     let failed : IsAddFault rem so_far (length c.args.paths.now.rows.items) reported = elim c.in_err-check_same_schema.ensures.fault [
       | inl none ↦ inl (inl none)
-      | inr bad ↦ inl (inr (c.args.paths.now.index, read.saved.file, bad_kinds rem so_far (table_of saved.index) read.saved saved.kinds.items c.args.paths.now.index reported read.kinds_are bad.0 bad.1))
+      | inr bad ↦ inl (inr (c.args.paths.now.index, read.saved.file, bad_to_add so_far c.args.paths.now.index (rem read.saved.file) reported (bad_kinds rem so_far (table_of saved.index) read.saved saved.kinds.items c.args.paths.now.index reported read.kinds_are bad.0 bad.1)))
     ] in
     let met : IfErr c.from_residual-in_err-check_same_schema.result (λ (fault : StoreFault). fault ≡ reported) = search rules in
     if_err c.from_residual-in_err-check_same_schema.result (λ fault is. subst (IsAddFault rem so_far (length c.args.paths.now.rows.items)) (sym is) failed) met
