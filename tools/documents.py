@@ -37,7 +37,7 @@ VERSION = re.compile(r"\d+\.\d+\.\d+")
 # How many bytes a page may have, and how many those may have that are named.
 MAX_SIZE = 12_288
 MAX_SIZES = {
-    "README.md": 7_750,
+    "README.md": 7_900,
     "CONTRIBUTING.md": 7_050,
     "CHANGELOG.md": 8_350,
     "docs/ARCHITECTURE.md": 14_400,
@@ -47,7 +47,7 @@ MAX_SIZES = {
     "docs/FORMATS.md": 20_700,
     "docs/GLOSSARY.md": 8_000,
     "docs/GUIDE.md": 10_450,
-    "docs/PERFORMANCE.md": 11_200,
+    "docs/PERFORMANCE.md": 11_700,
     "docs/PROMISES.md": 25_400,
     "docs/PYTHON.md": 10_650,
     "docs/TOOLS.md": 5_600,
