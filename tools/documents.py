@@ -48,7 +48,7 @@ MAX_SIZES = {
     "docs/GLOSSARY.md": 8_000,
     "docs/GUIDE.md": 10_450,
     "docs/PERFORMANCE.md": 11_700,
-    "docs/PROMISES.md": 25_400,
+    "docs/PROMISES.md": 25_700,
     "docs/PYTHON.md": 10_650,
     "docs/TOOLS.md": 5_600,
 }
