@@ -109,7 +109,7 @@ enum {
     BSI_BAD_COLUMNS = 7,    /* another number of columns than the schema has, lengths that differ, or a short bitmap */
     BSI_BAD_ROW = 8,        /* a row has a number that its column does not accept */
     BSI_INDEX_FULL = 9,     /* there would be more rows than the limit */
-    BSI_SHARED = 10,        /* a shared index accepts no rows */
+    BSI_SHARED = 10,        /* a shared index accepts no rows and no kinds */
     BSI_BAD_QUERY = 11,     /* the fields are no query or no predicate, or the predicate has over 1,000; or there is no
                                column of a name that was passed */
     BSI_NO_ROOM = 12,       /* there is too little room */
@@ -119,7 +119,7 @@ enum {
     BSI_OTHER_VERSION = 16, /* they are of another version of the format */
     BSI_CUT_SHORT = 17,     /* they end within a segment */
     BSI_DAMAGED = 18,       /* a segment is not as it was written */
-    BSI_HAS_KINDS = 19      /* they have a text of kinds, which the library does not store */
+    BSI_BAD_KINDS = 19      /* a text of kinds is of other columns, or has more than BSI_MAX_KINDS bytes */
 };
 
 /* Opens a closed handle, with no rows. The schema is the text of a schema file, as docs/FORMATS.md says: the records
@@ -148,6 +148,13 @@ uint32_t bsi_reserve(bsi_index *index, uint64_t rows);
  * many places are needed. */
 uint32_t bsi_ask(bsi_index *index, const bsi_text *fields, size_t fields_len, bsi_answer *answer, bsi_place *places,
                  size_t places_len);
+
+/* Answers the fields of a record of questions by the line that `bsi ask` writes for it, with its line end: {"sum", "Amount",
+ * "Day", ">=", "2026-01-31"} by "sum 12.50\n". Columns have their titles too, and constants and numbers are values of the kinds of
+ * the index; without kinds they are whole numbers. A record that asks nothing is answered by "bad\n". *size is the number of
+ * bytes, at BSI_NO_ROOM too. */
+uint32_t bsi_answer_line(bsi_index *index, const bsi_text *fields, size_t fields_len, uint8_t *line, size_t room,
+                         size_t *size);
 
 /* Answers a query over each group of the rows that it selects: those with the same entry in the column of a name, given as
  * its bytes. The groups come in order of their numbers, that of the null rows last. *count is how many they are; at
@@ -201,17 +208,28 @@ uint32_t bsi_memory(bsi_index *index, uint64_t *bytes);
  * of bytes, at BSI_NO_ROOM too. */
 uint32_t bsi_schema(bsi_index *index, uint8_t *text, size_t room, size_t *size);
 
+/* The most bytes of a text of kinds. */
+#define BSI_MAX_KINDS 67108864
+
+/* Gives an index a text of kinds in place of its own: what the numbers of its columns stand for, as docs/FORMATS.md says. It
+ * declares the same columns as the schema, in the same order; no bytes mean whole numbers. The other calls speak of numbers
+ * as before; bsi_save saves the text. The index has a copy of it. */
+uint32_t bsi_set_kinds(bsi_index *index, const uint8_t *text, size_t len);
+
+/* Writes the text of kinds that was set, or that the saved bytes had. *size is its number of bytes, at BSI_NO_ROOM too. */
+uint32_t bsi_kinds(bsi_index *index, uint8_t *text, size_t room, size_t *size);
+
 /* The most bytes of notes, which a caller stores with an index. */
 #define BSI_MAX_NOTES 67108864
 
-/* Writes the index and the caller's notes as bytes: a file of one segment, as docs/FORMATS.md says. *size is their number,
- * at BSI_NO_ROOM too, so a call with no room asks for it. The call needs memory for twice these bytes or more. */
+/* Writes the index, its kinds and the caller's notes as bytes: a file of one segment, as docs/FORMATS.md says. *size is their
+ * number, at BSI_NO_ROOM too, so a call with no room asks for it. The call needs memory for twice these bytes or more. */
 uint32_t bsi_save(bsi_index *index, const uint8_t *notes, size_t notes_len, uint8_t *bytes, size_t room, size_t *size);
 
 /* Opens a closed handle with the index that all these bytes are, and writes the notes of the last segment; room for
  * BSI_MAX_NOTES is enough, and so is room for len. *notes_len is their number, at BSI_NO_ROOM too, which leaves the handle
  * closed. The bytes are not used after the call. *whole is how many of the first bytes are an index: all at BSI_OK,
- * BSI_NO_ROOM and BSI_HAS_KINDS; at BSI_NOT_KEPT, BSI_OTHER_VERSION, BSI_CUT_SHORT, BSI_DAMAGED and BSI_NO_MEMORY those
+ * BSI_NO_ROOM and BSI_BAD_KINDS; at BSI_NOT_KEPT, BSI_OTHER_VERSION, BSI_CUT_SHORT, BSI_DAMAGED and BSI_NO_MEMORY those
  * before the fault, which may be opened instead, or 0; 0 at BSI_OPEN. */
 uint32_t bsi_open_kept(bsi_index *index, const uint8_t *bytes, size_t len, uint8_t *notes, size_t notes_room,
                        size_t *notes_len, uint64_t *whole);

@@ -39,18 +39,18 @@ MAX_SIZE = 12_288
 MAX_SIZES = {
     "README.md": 7_900,
     "CONTRIBUTING.md": 7_050,
-    "CHANGELOG.md": 8_350,
+    "CHANGELOG.md": 8_650,
     "docs/ARCHITECTURE.md": 14_400,
-    "docs/C.md": 5_600,
-    "docs/DECISIONS.md": 12_050,
+    "docs/C.md": 5_900,
+    "docs/DECISIONS.md": 12_450,
     "docs/DESIGN.md": 8_850,
-    "docs/FORMATS.md": 20_700,
+    "docs/FORMATS.md": 22_500,
     "docs/GLOSSARY.md": 8_000,
-    "docs/GUIDE.md": 10_450,
+    "docs/GUIDE.md": 9_750,
     "docs/PERFORMANCE.md": 11_700,
-    "docs/PROMISES.md": 25_700,
+    "docs/PROMISES.md": 25_000,
     "docs/PYTHON.md": 10_650,
-    "docs/TOOLS.md": 5_600,
+    "docs/TOOLS.md": 5_700,
 }
 # What the program of the tarball finds on a machine without the kit.
 PATH = "/usr/local/bin:/usr/bin:/bin"

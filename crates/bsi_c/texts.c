@@ -21,7 +21,7 @@ static const char *const texts[] = {
     "a kept index of another version",
     "a kept index that is cut short",
     "a kept index that is damaged",
-    "a kept index with a text of kinds",
+    "kinds of other columns",
 };
 
 const char *bsi_status_text(uint32_t status) {

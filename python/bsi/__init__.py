@@ -15,6 +15,7 @@ of a cluster.
 from .errors import (
     BadColumns,
     BadFeeder,
+    BadKinds,
     BadNotes,
     BadQuery,
     BadRow,
@@ -24,7 +25,6 @@ from .errors import (
     CutShort,
     Damaged,
     Error,
-    HasKinds,
     IndexFull,
     KeptError,
     LongNotes,
@@ -52,6 +52,7 @@ from .version import __version__
 __all__ = [
     "BadColumns",
     "BadFeeder",
+    "BadKinds",
     "BadNotes",
     "BadQuery",
     "BadRow",
@@ -66,7 +67,6 @@ __all__ = [
     "Error",
     "Flags",
     "Form",
-    "HasKinds",
     "Index",
     "IndexFull",
     "KeptError",

@@ -94,9 +94,9 @@ class KeptPart:
         """Makes a call of the index."""
         return getattr(self._kept.handle, name)(*arguments)
 
-    def forms(self) -> Dict[str, Form]:
-        """Returns the columns."""
-        return self._kept.forms
+    def columns(self) -> Tuple[Dict[str, Form], Dict[str, bytes]]:
+        """Returns the columns, and the names that the library has for them."""
+        return self._kept.forms, self._kept.within
 
 
 class _Actor(NamedTuple):
@@ -204,13 +204,14 @@ def open_parts(paths: Iterable[Path], client: Optional[Client] = None) -> Worker
     futures = [client.submit(KeptPart, name, workers=[place], **how) for name, place in zip(names, places)]
     _wait(client, futures, workers)
     actors = [_Actor(place, future.result()) for place, future in zip(places, futures)]
-    forms = [actor.proxy.forms().result() for actor in actors]
-    for name, found in zip(names, forms):
-        if found != forms[0]:
+    columns = [actor.proxy.columns().result() for actor in actors]
+    for name, found in zip(names, columns):
+        if found != columns[0]:
             raise BadSchema(f"{name} has other columns than {names[0]}")
     store = _Actors(client, actors)
     store.runs = list(enumerate(store._each("rows")))
-    return Workers(forms[0], MAX_ROWS, store)
+    forms, within = columns[0]
+    return Workers(forms, MAX_ROWS, store, within)
 
 
 def _refuse(answers: Sequence[Any], rows: Sequence[int]) -> None:

@@ -166,10 +166,10 @@ class Damaged(KeptError):
     status, why = 18, "it is damaged"
 
 
-class HasKinds(KeptError):
-    """A saved index with a text of kinds, which says what its numbers represent."""
+class BadKinds(KeptError):
+    """A saved index whose text of kinds, which says what numbers represent, is of other columns."""
 
-    status, why = 19, "it has a text of kinds, which this package does not read"
+    status, why = 19, "its text of kinds is of other columns"
 
 
 class BadNotes(KeptError):
@@ -208,6 +208,6 @@ class Skipped(List[Error]):
 
 _KINDS: Tuple[Type[Error], ...] = (
     Closed, Open, NoMemory, BadSchema, NoColumns, BadFeeder, BadColumns, BadRow, IndexFull, Shared, BadQuery, NoRoom,
-    BadText, LongNotes, NotKept, OtherVersion, CutShort, Damaged, HasKinds,
+    BadText, LongNotes, NotKept, OtherVersion, CutShort, Damaged, BadKinds,
 )  # fmt: skip
 BY_STATUS: Dict[Optional[int], Type[Error]] = {kind.status: kind for kind in _KINDS}

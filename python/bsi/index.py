@@ -6,7 +6,7 @@ from typing import Any, Iterable, Mapping, Optional, Union
 
 from .choosing import chosen_of
 from .forms import Form
-from .kept import Kept, Path, kept_bytes, opened_bytes, opened_file, replace
+from .kept import Kept, Path, kept_bytes, opened_bytes, opened_file, replace, say_kinds
 from .kinds import Kind
 from .progress import Progress
 from .table import MAX_ROWS, Table, opened
@@ -60,8 +60,10 @@ class Index(Table):
     def share(self) -> "Index":
         """Opens the index once more, for another thread: both can be asked at the same time, and from then on neither
         accepts rows."""
+        # (a shared handle takes no kinds, so one that is to be saved has them before)
+        say_kinds(self._store, self._forms)
         other = object.__new__(type(self))
-        Table.__init__(other, self._forms, self._limit, self._store.share())
+        Table.__init__(other, self._forms, self._limit, self._store.share(), self._within)
         return other
 
     def save(self, path: Path) -> None:
@@ -80,7 +82,7 @@ class Index(Table):
 def _of(cls: type, kept: Kept) -> Any:
     """Returns an index of what was opened."""
     index = object.__new__(cls)
-    Table.__init__(index, kept.forms, kept.limit, kept.handle)
+    Table.__init__(index, kept.forms, kept.limit, kept.handle, kept.within)
     return index
 
 
@@ -93,6 +95,6 @@ def open(path: Path, *, so_far: bool = False) -> Index:
     """Opens the index in a file that `save` or the command `bsi save` wrote. Rows that are appended to it are written
     to the file only by another `save`.
 
-    A file that is cut short or damaged is refused; with `so_far` the rows before the fault are opened. A file of the
-    command does not say what its numbers mean: it has whole numbers."""
+    A file that is cut short or damaged is refused; with `so_far` the rows before the fault are opened. Columns have the
+    titles and kinds that the file says; else they are whole numbers."""
     return _of(Index, opened_file(path, so_far))

@@ -1,7 +1,7 @@
-"""An index that is kept in a file: what its columns mean as notes beside its rows, and a file that is replaced at once.
+"""An index that is kept in a file, with what its columns mean, and a file that is replaced at once.
 
-The library makes the bytes of the file and opens an index from them. Its notes are packed JSON: of each column the name
-and the kind, which the schema of the library does not say. A file without notes has whole numbers.
+The library makes the bytes of the file and opens an index from them. What the schema of the library does not say of a
+column, its title and its kind, the text of kinds says, or else notes in packed JSON. A file without both has whole numbers.
 """
 
 from __future__ import annotations
@@ -19,7 +19,8 @@ from typing import IO, Any, Dict, Iterable, Iterator, Mapping, NamedTuple, Optio
 
 import numpy as np
 
-from .errors import BadNotes, Error, HasKinds, KeptError, LongNotes, NotKept
+from . import kinds_text
+from .errors import BadKinds, BadNotes, Error, KeptError, LongNotes, NotKept, Shared
 from .forms import Form
 from .kinds import Decimals, Flags, Kind, Texts, Times, Whole
 from .native import MAX_NOTES, Handle
@@ -42,9 +43,11 @@ class Meaning(NamedTuple):
 
 
 class Kept(NamedTuple):
-    """An index that was opened: its columns, its limit, its handle, and what its notes say besides."""
+    """An index that was opened: its columns, the names that the library has for them, its limit, its handle, and what its
+    notes say besides."""
 
     forms: Dict[str, Form]
+    within: Dict[str, bytes]
     limit: int
     handle: Handle
     more: Dict[str, Any]
@@ -163,6 +166,16 @@ def _named(forms: Dict[str, Form], notes: bytes) -> Tuple[Dict[str, Form], Dict[
     return {name: form.of(kind) for (name, kind), form in zip(kinds.items(), forms.values())}, more
 
 
+def _said(forms: Dict[str, Form], text: bytes, notes: bytes) -> Tuple[Dict[str, Form], Dict[str, Any]]:
+    """Returns the same of a text of kinds, beside which notes may say more."""
+    said = kinds_text.read(text)
+    try:
+        more = meaning_of(notes).more if notes else {}
+    except (ValueError, KeyError, TypeError, AttributeError, RecursionError):
+        more = {}  # (they are another program's)
+    return {said[name].title: form.of(said[name].kind) for name, form in forms.items()}, more
+
+
 def _refuse_unknown(handle: Handle, within: Iterable[str], forms: Mapping[str, Form]) -> None:
     """Raises ValueError where a column has a number that represents no text, or is neither true nor false."""
     for name, (column, form) in zip(within, forms.items()):
@@ -176,9 +189,23 @@ def _refuse_unknown(handle: Handle, within: Iterable[str], forms: Mapping[str, F
 # ---- Bytes ----
 
 
+def say_kinds(handle: Handle, forms: Mapping[str, Form]) -> bool:
+    """Gives an index the text of kinds that says what its columns mean, where one can and there is need of it. Returns
+    whether notes need not say it."""
+    if handle.kinds():
+        return True
+    text = kinds_text.written(handle.schema().decode(), forms)
+    if not text:
+        return text is not None
+    try:
+        return handle.set_kinds(text)
+    except Shared:
+        return bool(handle.kinds())  # (another thread has just given it kinds)
+
+
 def kept_bytes(handle: Handle, forms: Mapping[str, Form], **more: Any) -> np.ndarray:
     """Returns the bytes that keep an index, or raises LongNotes. Of these bytes the library makes a copy besides."""
-    notes = notes_of(forms, **more)
+    notes = b"" if not more and say_kinds(handle, forms) else notes_of(forms, **more)
     bitmaps = sum(1 + form.places for form in forms.values())
     return handle.save(notes, 8 * bitmaps * (handle.rows() // 64 + 2) + len(notes) + SPARE)
 
@@ -189,7 +216,7 @@ def opened_bytes(data: Any, path: Optional[str] = None, so_far: bool = False) ->
     given = np.frombuffer(data, np.uint8)
     try:
         handle, notes = _handle_of(given, path)
-    except HasKinds:
+    except BadKinds:
         raise
     except KeptError as why:
         # (what stands whole is opened, to tell how many rows it has)
@@ -198,21 +225,24 @@ def opened_bytes(data: Any, path: Optional[str] = None, so_far: bool = False) ->
             rows = before[0].rows() if before else 0
             raise type(why)(None, path, rows, why.whole) from None
         handle, notes = before
-    within, limit = read_schema(handle.schema().decode())
+    found, limit = read_schema(handle.schema().decode())
+    text = handle.kinds()
     try:
-        forms, more = _named(within, notes)
-        _refuse_unknown(handle, within, forms)
+        forms, more = _said(found, text, notes) if text else _named(found, notes)
+        _refuse_unknown(handle, found, forms)
     except (ValueError, KeyError, TypeError, AttributeError, RecursionError) as why:
-        raise BadNotes(f"its notes can't be read: {_reason(why)}", path, handle.rows()) from None
-    return Kept(forms, limit, handle, more)
+        what = "text of kinds" if text else "notes"
+        raise BadNotes(f"its {what} can't be read: {_reason(why)}", path, handle.rows()) from None
+    within = {title: name.encode() for title, name in zip(forms, found)}
+    return Kept(forms, within, limit, handle, more)
 
 
 def _handle_of(given: np.ndarray, path: Optional[str]) -> Tuple[Handle, bytes]:
-    """Opens the index that all these bytes keep. Where they have a text of kinds, nothing of them can be opened."""
+    """Opens the index that all these bytes keep. Where their text of kinds is bad, nothing of them can be opened."""
     try:
         return Handle.of_kept(given)
-    except HasKinds:
-        raise HasKinds(None, path) from None
+    except BadKinds:
+        raise BadKinds(None, path) from None
 
 
 def _reason(why: BaseException) -> str:

@@ -21,7 +21,7 @@ from . import errors
 from .predicates import MAX_FIELDS
 from .taking import Found, Moments, kept_of, numbers_of
 
-OK, BAD_SCHEMA, BAD_ROW, INDEX_FULL, NO_ROOM, NO_MEMORY = 0, 4, 8, 9, 12, 3
+OK, BAD_SCHEMA, BAD_ROW, INDEX_FULL, NO_ROOM, NO_MEMORY, BAD_KINDS = 0, 4, 8, 9, 12, 3, 19
 MAX_NOTES = 1 << 26
 # Of how many numbers that a column may take the library counts each in one pass.
 MAX_TALLIES = 1 << 16
@@ -87,6 +87,8 @@ _CALLS: Dict[str, List[Any]] = {
     "bsi_rows": [POINTER(c_uint64)],
     "bsi_memory": [POINTER(c_uint64)],
     "bsi_schema": [c_void_p, c_size_t, POINTER(c_size_t)],
+    "bsi_set_kinds": [c_void_p, c_size_t],
+    "bsi_kinds": [c_void_p, c_size_t, POINTER(c_size_t)],
     "bsi_save": [c_void_p, c_size_t, c_void_p, c_size_t, POINTER(c_size_t)],
     "bsi_open_kept": [c_void_p, c_size_t, c_void_p, c_size_t, POINTER(c_size_t), POINTER(c_uint64)],
     "bsi_share": [POINTER(_Index)],
@@ -338,13 +340,30 @@ class Handle:
 
     def schema(self) -> bytes:
         """Returns the records of the schema."""
+        return self._text("bsi_schema")
+
+    def kinds(self) -> bytes:
+        """Returns the text of kinds, which is empty if the numbers are whole numbers."""
+        return self._text("bsi_kinds")
+
+    def _text(self, name: str) -> bytes:
+        """Returns the text that a call writes."""
         size = c_size_t()
         status, text = NO_ROOM, np.empty(0, np.uint8)
         while status == NO_ROOM:
             text = np.empty(size.value, np.uint8)
-            status = self._call("bsi_schema", _address(text), len(text), byref(size))
+            status = self._call(name, _address(text), len(text), byref(size))
         check(status)
         return text[: size.value].tobytes()
+
+    def set_kinds(self, text: bytes) -> bool:
+        """Gives the index a text of kinds, and returns whether it says something of its columns."""
+        given = np.frombuffer(text, np.uint8)
+        status = self._call("bsi_set_kinds", _address(given), len(given))
+        if status == BAD_KINDS:
+            return False
+        check(status)
+        return True
 
     def save(self, notes: bytes, room: int) -> np.ndarray:
         """Returns the bytes that keep the index and these notes, where a guess of how many they are spares a call."""

@@ -209,14 +209,14 @@ def _of(cls: type, each: List[Kept], paths: Sequence[str]) -> Any:
     """Returns parts of what was opened, whose rows keep their order where one call saved them all."""
     first = each[0]
     for path, kept in zip(paths, each):
-        if kept.forms != first.forms:
+        if kept.forms != first.forms or kept.within != first.within:
             raise BadSchema(f"{path} has other columns than {paths[0]}")
     try:
         runs, limit = _placed(each)
     except (ValueError, KeyError, TypeError, AttributeError) as why:
         raise BadNotes(f"it is not one of these parts: {why}", paths[0], first.handle.rows()) from None
     parts, store = object.__new__(cls), _Threads([kept.handle for kept in each], limit, runs)
-    Table.__init__(parts, first.forms, limit, store)
+    Table.__init__(parts, first.forms, limit, store, first.within)
     return parts
 
 

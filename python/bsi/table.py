@@ -105,15 +105,20 @@ def schema_of(columns: Mapping[str, Form], limit: Optional[int]) -> bytes:
     return "".join(f"{record}\n" for record in records).encode()
 
 
+def _own_names(columns: Iterable[str]) -> Dict[str, bytes]:
+    return {name: within.encode() for name, within in names_within(list(columns)).items()}
+
+
 class Table:
     """Rows of named columns, and answers to questions about them. Any thread may ask; questions to one store are asked
     one at a time."""
 
-    def __init__(self, columns: Mapping[str, Form], limit: int, store: Any):
+    def __init__(self, columns: Mapping[str, Form], limit: int, store: Any, within: Optional[Mapping[str, bytes]] = None):
         self._forms, self._limit, self._store = dict(columns), limit, store
         # (rows that read_csv left out)
         self.skipped = Skipped()
-        self._within = {name: within.encode() for name, within in names_within(list(columns)).items()}
+        # (the names that the store has for them)
+        self._within = dict(within or _own_names(columns))
 
     # ---- What it is ----
 

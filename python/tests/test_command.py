@@ -115,8 +115,10 @@ def test_the_command_adds_to_a_file_of_the_package(tmp_path):
     with bsi.Index(tenths) as index:
         index.append({"day": [1], "temp": [Decimal("-1.5")], "rain": [3], "wind": [None]})
         index.save(path)
-    assert command("add", path, "hill.csv") == ["added 1094"]
+    rows = tmp_path / "rows.csv"
+    rows.write_text("wind,day,temp,rain\n7,2,12.4,\n,3,0.55,1\n,4,-40.0,2\n")
+    # (the second record has too many places)
+    assert command("add", path, rows) == ["added 2"]
     with bsi.open(path) as index:
-        assert index.forms == tenths and len(index) == 1095
-        (total,) = command("ask", path, asks="sum,temp,all\n")
-        assert index.sum("temp") * 10 == int(total.split()[1])
+        assert index.forms == tenths and len(index) == 3 and index.sum("temp") == Decimal("-29.1")
+        assert command("ask", path, asks="sum,temp,all\n") == ["sum -29.1"]

@@ -21,7 +21,7 @@ import pytest
 import bsi
 import kept_format
 import model
-from bsi import kept
+from bsi import kept, kinds_text
 
 KEPT = os.path.join(os.path.dirname(os.path.abspath(__file__)), "..", "..", "tests", "kept")
 
@@ -168,12 +168,21 @@ def test_a_file_is_as_its_page_says():
         table = model.Table(rng)
         with bsi.Index(table.forms(), limit=1000) as index:
             index.append(table.data())
-            limit, feeders, columns, notes = kept_format.read(index._kept().tobytes())
-            assert (limit, feeders, list(kept.meaning_of(notes).kinds)) == (1000, [0] * table.rows, index.columns)
+            data = index._kept().tobytes()
+            limit, feeders, columns, notes = kept_format.read(data)
+            assert (limit, feeders, titles_in(data, notes)) == (1000, [0] * table.rows, index.columns)
         for ((_, word, sizes, offset), entries), (form, numbers, there, _) in zip(columns.items(), table.columns.values()):
             sizes = (len(sizes),) if word == "slices" else sizes[::-1]
             assert (word, sizes, offset) == (form.word, form.sizes, form.offset)
             assert entries == [int(one) if is_there else None for one, is_there in zip(numbers, there)]
+
+
+def titles_in(data, notes):
+    """Returns the titles of the columns, as the text of kinds or the notes say them."""
+    (segment,) = kept_format.segments(data)
+    if notes:
+        return list(kept.meaning_of(notes).kinds)
+    return [one.title for one in kinds_text.read(segment.kinds).values()] or [column.name for column in segment.columns]
 
 
 @pytest.mark.parametrize("version", [1, 2])
@@ -258,14 +267,14 @@ def test_another_version(path):
         bsi.open(path)
 
 
-def test_a_text_of_kinds_is_not_dropped(path):
+def test_a_bad_text_of_kinds(path):
     (segment,) = kept_format.segments(small()._kept().tobytes())
-    data = kept_format.encode(segment._replace(kinds=b"kind,price,decimal 2\n"))
+    data = kept_format.encode(segment._replace(kinds=segment.kinds.replace(b"decimal,2", b"decimal,19")))
     for end in (len(data), len(data) + 8):
         with open(path, "wb") as file:
             file.write((data + data)[:end])
         for so_far in (False, True):
-            with pytest.raises(bsi.HasKinds, match="small.bsi: .* text of kinds") as refused:
+            with pytest.raises(bsi.BadKinds, match="small.bsi: .* text of kinds") as refused:
                 bsi.open(path, so_far=so_far)
             assert refused.value.status == 19 and refused.value.rows == 0
 
@@ -317,7 +326,7 @@ def test_notes_that_take_too_much_are_not_unpacked(monkeypatch):
 def long_texts():
     """Returns an index whose texts take 240,000 bytes, and half as many when packed."""
     rng = np.random.default_rng(3)
-    return bsi.Index({"x": bsi.slices(12, kind=bsi.Texts([rng.bytes(40).hex() for _ in range(3000)]))})
+    return bsi.Index({"x": bsi.slices(12, kind=bsi.Texts([rng.bytes(40).hex() for _ in range(3000)], ordered=True))})
 
 
 def test_long_texts_are_kept(path):

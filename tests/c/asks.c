@@ -1,4 +1,6 @@
-/* Opens the file of a saved index that its word names, and answers the questions of its input as `bsi ask` does. */
+/* Opens the file of a saved index that its first word names, and answers the questions of its input as `bsi ask` does: of an
+ * index of whole numbers by bsi_ask, or, with a second word, by bsi_answer_line. Then it saves the index in the file that the
+ * second word names. */
 #include "check.h"
 
 static uint8_t notes[BSI_MAX_NOTES];
@@ -57,15 +59,42 @@ static void answer_all(bsi_index *index) {
     free(places);
 }
 
+static void write_lines(bsi_index *index) {
+    static char record[1000], line[1 << 20];
+    while (fgets(record, sizeof record, stdin)) {
+        size_t size = 0;
+        record[strcspn(record, "\n")] = 0;
+        for (char *at = record; *at; at++) *at = *at == ',' ? ' ' : *at;
+        uint32_t status = answer_line(index, record, line, sizeof line, &size);
+        if (status == BSI_OK) fwrite(line, 1, size, stdout);
+        if (status != BSI_OK) puts(bsi_status_text(status));
+    }
+}
+
+/* Saves the index in a file. */
+static bool save_file(bsi_index *index, const char *path) {
+    size_t size = 0;
+    bsi_save(index, NULL, 0, NULL, 0, &size);
+    uint8_t *bytes = malloc(size);
+    FILE *to = fopen(path, "wb");
+    bool is_saved = bytes && to && bsi_save(index, NULL, 0, bytes, size, &size) == BSI_OK && fwrite(bytes, 1, size, to) == size;
+    free(bytes);
+    return to && fclose(to) == 0 && is_saved;
+}
+
 int main(int count, char **words) {
-    if (count != 2) return 2;
+    if (count < 2) return 2;
     bsi_index index = {0};
     size_t len = 0, notes_len = 0;
     uint64_t whole = 0;
     uint8_t *bytes = read_file(words[1], &len);
     uint32_t status = bsi_open_kept(&index, bytes, len, notes, sizeof notes, &notes_len, &whole);
     free(bytes);
-    if (status == BSI_OK) answer_all(&index);
+    if (status == BSI_OK && count == 2) answer_all(&index);
+    if (status == BSI_OK && count > 2) {
+        write_lines(&index);
+        status = save_file(&index, words[2]) ? BSI_OK : BSI_NO_MEMORY;
+    }
     if (status != BSI_OK) puts(bsi_status_text(status));
     bsi_close(&index);
     return status != BSI_OK;

@@ -36,6 +36,11 @@ static inline uint32_t ask(bsi_index *index, const char *text, bsi_answer *answe
     return bsi_ask(index, of.at, of.len, answer, places, room);
 }
 
+static inline uint32_t answer_line(bsi_index *index, const char *text, char *line, size_t room, size_t *size) {
+    fields of = fields_of(text);
+    return bsi_answer_line(index, of.at, of.len, (uint8_t *)line, room, size);
+}
+
 static inline uint32_t group_by(bsi_index *index, const char *text, const char *name, bsi_group *groups, size_t room, size_t *count) {
     fields of = fields_of(text);
     return bsi_group_by(index, of.at, of.len, (const uint8_t *)name, strlen(name), groups, room, count);

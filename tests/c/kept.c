@@ -167,7 +167,7 @@ static uint64_t word_at(const uint8_t *at) {
     return word;
 }
 
-/* A file with a text of kinds, which docs/FORMATS.md says how to write: the handle would lose it. */
+/* A file whose text of kinds, which docs/FORMATS.md says how to write, is none. */
 static void of_kinds(void) {
     uint64_t head = word_at(file + 8), sum = head + 1, whole = 0;
     size_t kinds = 16 + 8 * (4 + (sizeof notes + 7) / 8), behind = 16 + 8 * head;
@@ -183,7 +183,7 @@ static void of_kinds(void) {
     put_word(bytes + behind + 8, sum);
     bsi_index index = {0};
     check(word_at(file + kinds) == 0, "open: no text of kinds was written");
-    check(open_bytes(&index, bytes, size + 8, &whole) == BSI_HAS_KINDS && whole == size + 8 && !index.at, "open: a text of kinds");
+    check(open_bytes(&index, bytes, size + 8, &whole) == BSI_BAD_KINDS && whole == size + 8 && !index.at, "open: a bad text of kinds");
     bytes[behind + 8] ^= 1;
     check(open_bytes(&index, bytes, size + 8, &whole) == BSI_DAMAGED && whole == 0, "open: another checksum of the head");
 }

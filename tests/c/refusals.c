@@ -188,6 +188,27 @@ static uint32_t open_two(bsi_index *index) {
     return status;
 }
 
+/* Asks for the groups of b in kinds. */
+static void groups_in_kinds(bsi_index *index, uint64_t rows) {
+    char line[1 << 12];
+    size_t size = 0;
+    uint32_t status = answer_line(index, "by b sum a all", line, sizeof line, &size);
+    wrong += !is_fair(status);
+    if (is_to_repeat(status)) wrong += (status = answer_line(index, "by b sum a all", line, sizeof line, &size)) != BSI_OK;
+    wrong += !status && (memcmp(line, "groups", 6) || (rows && !memchr(line, '.', size)));
+}
+
+/* Gives the index kinds of its columns. */
+static uint32_t set_kinds(bsi_index *index) {
+    static const char text[] = "column,a,slices,8\ncolumn,b,range,10 10\nkind,a,decimal,1\nkind,b,text\ntext,b,Hill\n";
+    uint8_t told[sizeof text];
+    size_t size = 0;
+    uint32_t status = bsi_set_kinds(index, (const uint8_t *)text, sizeof text - 1);
+    wrong += !is_fair(status) || bsi_kinds(index, told, sizeof told, &size) != BSI_OK;
+    wrong += size != (status ? 0 : sizeof text - 1) || memcmp(told, text, size);
+    return status;
+}
+
 static uint32_t share(bsi_index *index, bsi_index *other, uint64_t rows) {
     uint64_t found;
     uint32_t status = bsi_share(index, other);
@@ -236,6 +257,9 @@ static void use(void) {
     status = reserve(&index, rows);
     if (is_to_repeat(status)) wrong += (status = reserve(&index, rows)) != BSI_OK;
     question(&index, rows);
+    status = set_kinds(&index);
+    if (is_to_repeat(status)) wrong += (status = set_kinds(&index)) != BSI_OK;
+    if (!status) groups_in_kinds(&index, rows);
     keep(&index, rows);
     status = share(&index, &other, rows);
     if (is_to_repeat(status)) wrong += (status = share(&index, &other, rows)) != BSI_OK;

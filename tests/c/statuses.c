@@ -330,7 +330,7 @@ static void of_texts(void) {
         {BSI_OTHER_VERSION, "a kept index of another version"},
         {BSI_CUT_SHORT, "a kept index that is cut short"},
         {BSI_DAMAGED, "a kept index that is damaged"},
-        {BSI_HAS_KINDS, "a kept index with a text of kinds"},
+        {BSI_BAD_KINDS, "kinds of other columns"},
         {20, "no status of bsi"},
         {UINT32_MAX, "no status of bsi"},
     };

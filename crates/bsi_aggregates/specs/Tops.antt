@@ -1,4 +1,5 @@
--- The selected rows with the greatest or the least numbers in a column.
+-- The selected rows with the greatest or the least numbers in a column, in order (`AreTop`); and what the search for them
+-- goes through: more rows than asked for, in any order (`AreFirst`), the rank of a bound, and blocks of entries.
 use Rattle.std.specs.Prelude.{◌≡◌, ◌≢◌, ◌⊎◌, ◌&&◌, ◌||◌, ◌≤◌, ◌+◌, ◌/◌, ◌%◌, ℕ, ℤ, pos, Bool, true, false, List, Option, Some, None, All, AllPairs, Contains, IfSome, IsSome, IsTrue, count_by, length, map, nat_lt, slice_index_or, unwrap_or}
 use Rattle.std.specs.Ordering.{int_eq}
 use Rattle.std.specs.Simd.Lanes.{zip2}

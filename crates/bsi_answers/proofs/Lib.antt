@@ -8,6 +8,7 @@ pub mod Ordered
 pub mod Passing
 mod Perms
 mod Places
+mod Recorded
 mod Replies
 mod Selecting
 pub mod Showing

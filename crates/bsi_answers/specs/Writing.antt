@@ -1,4 +1,5 @@
--- Which lines of answers are in the output: all (`WritesAll`) or, after a fault, some first ones (`Leaves`).
+-- Which lines of answers are in the output: all (`WritesAll`) or, after a fault of any kind, those of some first records of
+-- the asks file (`Leaves`); and what holds where the bytes of all files are known (`WhereKnown`).
 use Rattle.std.specs.Prelude.{◌≡◌, ◌≤◌, ◌⊎◌, ℕ, List, Some, length, map, take}
 use Rattle.std.specs.List.{concat}
 use Rattle.std.specs.Io.KnownBytes.{Appends}

@@ -231,7 +231,7 @@ fn reply_to<R: AllocGlobal>(
 }
 
 /// Returns whether memory was refused to a reply.
-fn found_no_memory(reply: &QuestionReply) -> bool {
+pub(crate) fn found_no_memory(reply: &QuestionReply) -> bool {
     matches!(
         reply,
         QuestionReply::Total(Err(AskError::NoMemory))

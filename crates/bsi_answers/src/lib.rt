@@ -2,6 +2,7 @@
 //! a run ends early.
 #![tactic(auto)]
 
+mod alone;
 mod answering;
 mod batches;
 mod faults;
@@ -11,6 +12,7 @@ pub mod laws;
 mod parallel;
 mod reply_lines;
 
+pub use alone::write_answer_line;
 pub use answering::{answer_all, answer_asks, answer_plain_asks};
 pub use bsi_syntax::Grammar;
 pub use faults::{FaultText, FilesFault, MAX_FAULT_TEXT, Which};

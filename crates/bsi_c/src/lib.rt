@@ -3,8 +3,9 @@
 #![tactic(auto)]
 
 ghost use Rattle.std.specs.Prelude.{◌≡◌, ◌≢◌, Err, None, drop, length, map};
-ghost use Rattle.bsi_ffi.specs.Calls.{IsAppending, IsAsking, IsClosing, IsCounting, IsDescribing, IsOpening, IsReopening, IsReserving, IsSaving, IsSelecting, IsSharing, LeavesRest, LeavesWords};
+ghost use Rattle.bsi_ffi.specs.Calls.{IsAppending, IsAsking, IsClosing, IsCounting, IsDescribing, IsOpening, IsReopening, IsReserving, IsSaving, IsSelecting, IsSettingKinds, IsSharing, IsTellingKinds, LeavesRest, LeavesWords};
 ghost use Rattle.bsi_ffi.specs.Groups.{IsGrouping};
+ghost use Rattle.bsi_ffi.specs.Lines.{IsAnsweringByLine};
 ghost use Rattle.bsi_ffi.specs.Memory.{IsMeasuring};
 ghost use Rattle.bsi_ffi.specs.Pairs.{IsGroupingByTwo};
 ghost use Rattle.bsi_ffi.specs.Numbers.{IsCountingDistinct, IsFindingQuantile, IsRanking};
@@ -14,9 +15,10 @@ ghost use Rattle.bsi_ffi.specs.Tops.{extreme_of, IsListingTop};
 ghost use Rattle.bsi_ffi.specs.declared.refusal.Refusal.TheVariants.{BufferTooSmall, NoMemory};
 
 use bsi_ffi::{
-    ColumnInput, FlatAnswer, FlatEntry, FlatGroup, FlatPair, FlatRow, Handle, Origin, append, ask,
-    close, count, count_distinct, describe, first_rows, group, group_pairs, memory_bytes, open,
-    open_saved, quantile, ranked, reserve, save, select, share, status_of,
+    ColumnInput, FlatAnswer, FlatEntry, FlatGroup, FlatPair, FlatRow, Handle, Origin, answer_line,
+    append, ask, close, count, count_distinct, describe, first_rows, group, group_pairs,
+    memory_bytes, open, open_saved, quantile, ranked, reserve, save, select, set_kinds, share,
+    status_of, tell_kinds,
 };
 use std::alloc::Global;
 
@@ -83,6 +85,26 @@ pub extern "C" fn bsi_ask(
     ensures rest_unchanged { result ≡ 0 → LeavesRest answer.new origins.old origins.new }
 {
     status_of(ask(alloc, index, fields, answer, origins))
+}
+
+/// Writes the line by which `bsi ask` answers a record of these fields over a file of the index, if the buffer is large
+/// enough, and its length.
+#[unsafe(no_mangle)]
+pub extern "C" fn bsi_answer_line(
+    alloc: Global,
+    index: &mut Handle,
+    fields: &[&[u8]],
+    line: &mut [u8],
+    size: &mut usize,
+) -> u32
+    ensures status { ReturnsStatus result (IsAnsweringByLine (opened_in index.old.pointer.value)
+        (map (λ f. f.now) fields.now) line.new size.new) }
+    ensures unchanged { index.new.pointer.value ≡ index.old.pointer.value }
+    ensures size_unchanged { result ≢ 0 → result ≢ status_of (Err BufferTooSmall) → size.new ≡ size.old }
+    ensures line_unchanged { result ≢ 0 → line.new ≡ line.old }
+    ensures rest_unchanged { result ≡ 0 → drop size.new line.new ≡ drop size.new line.old }
+{
+    status_of(answer_line(alloc, index, fields, line, size))
 }
 
 /// Puts the rows that the query of the fields selects in groups by their entry in the column of this name. It writes the
@@ -264,6 +286,34 @@ pub extern "C" fn bsi_schema(
     ensures rest_unchanged { result ≡ 0 → drop size.new text.new ≡ drop size.new text.old }
 {
     status_of(describe(alloc, index, text, size))
+}
+
+/// Gives the index this text of kinds in place of its own.
+#[unsafe(no_mangle)]
+pub extern "C" fn bsi_set_kinds(alloc: Global, index: &mut Handle, kinds: &[u8]) -> u32
+    ensures status { ReturnsStatus result
+        (IsSettingKinds index.old.pointer.value kinds.now index.new.pointer.value) }
+    ensures unchanged { result ≢ 0 → index.new.pointer.value ≡ index.old.pointer.value }
+{
+    status_of(set_kinds(alloc, index, kinds))
+}
+
+/// Writes the text of kinds, if the buffer is large enough, and its length.
+#[unsafe(no_mangle)]
+pub extern "C" fn bsi_kinds(
+    alloc: Global,
+    index: &mut Handle,
+    text: &mut [u8],
+    size: &mut usize,
+) -> u32
+    ensures status { ReturnsStatus result
+        (IsTellingKinds (opened_in index.old.pointer.value) text.new size.new) }
+    ensures unchanged { index.new.pointer.value ≡ index.old.pointer.value }
+    ensures size_unchanged { result ≢ 0 → result ≢ status_of (Err BufferTooSmall) → size.new ≡ size.old }
+    ensures text_unchanged { result ≢ 0 → text.new ≡ text.old }
+    ensures rest_unchanged { result ≡ 0 → drop size.new text.new ≡ drop size.new text.old }
+{
+    status_of(tell_kinds(alloc, index, text, size))
 }
 
 /// Writes the file of the index with these notes, if the buffer is large enough, and how many they are.

@@ -1,18 +1,15 @@
 -- The records of a row file, good ones and bad ones, one after another.
 use Rattle.std.proofs.Common.{◌≡◌, ℕ, ◌+◌, ◌<◌, ◌≤◌, true, false, List, [], ◌∷◌, ◌++◌, Option, Some, None, IfSome, is_some, option_map, refl, sym, ap₂, subst, arith}
-use Rattle.csv.specs.Reading.{ReadRecord, default_config, source_of, strip_bom}
-use Rattle.csv.specs.declared.parser.Config.{Config}
+use Rattle.csv.specs.Reading.{ReadRecord, source_of, strip_bom}
 use Rattle.csv.specs.declared.reader.Reader.{Reader}
 use Rattle.bsi_rows.specs.Rows.{Entries}
 use Rattle.bsi_syntax.specs.Bytes.{KnownBytes}
 use Rattle.bsi_rows.specs.Fields.{Field}
-use Rattle.bsi_schema.specs.Columns.{Declared}
-use Rattle.bsi_input.specs.Formats.{good_row, max_records}
-use Rattle.bsi_input.specs.RowFiles.{is_header}
-use Rattle.bsi_input.specs.Sources.{counts_of, Counts, HasReadRows, HasNextBy, HasReadBy, IsAfterHeader, IsReaderBy, Layout}
+use Rattle.bsi_input.specs.Formats.{good_row, Format}
+use Rattle.bsi_input.specs.Sources.{counts_of, Counts, HasReadRows, IsAfterHeader, IsReaderBy, Layout}
 use Rattle.bsi_input.proofs.Joining.{is_whole, taken_both}
 use Rattle.bsi_input.proofs.Taking.{has_more, is_over, of_text, taken_bad, taken_good, taken_none, AreTaken}
-use Rattle.bsi_check.specs.Checks.{layout_of, HasCounted, HasTooManyRecords, IsCountedFile}
+use Rattle.bsi_check.specs.Checks.{layout_of, HasCounted, HasMoreRecords, IsCountedFile}
 use Rattle.bsi_check.specs.declared.finding.FileCounts.{FileCounts}
 
 -- where the count of records stands between two of them
@@ -82,31 +79,32 @@ module _ {R : Type 0} (rem : R → KnownBytes) (layout : Layout) (old b : Reader
     rows = are.rows;
     read_so_far = subst (λ (cs : Counts). HasReadRows rem layout old b (counts_of 0 0) cs are.rows) (ap₂ (λ m n. counts_of m n) (sym many) (sym others)) are.read_so_far;
     over = is_over rem old b c fields are.plain.config none;
+    few = omega (arith, many, are.few);
   }
 
   -- the most records were read, and there is one more
-  pub counted_long : (c : Reader R) (fields : List Field) → layout.format.config ≡ default_config → layout.format.most ≡ max_records → max_records ≤ records → ReadRecord rem b c true fields
-      → HasTooManyRecords rem old
-  counted_long c fields config plain most next = record {
+  pub counted_long : (c : Reader R) (fields : List Field) → layout.format.most ≤ records → ReadRecord rem b c true fields
+      → HasMoreRecords rem layout.format old
+  counted_long c fields most next = record {
     at = b;
     records = are.read_so_far.records;
-    read = subst (λ (by : Config). HasReadBy by rem old b are.read_so_far.records) config are.read_so_far.read;
-    many = omega (arith, are.read_so_far.read_so_far, are.few, plain, most);
-    more = subst (λ (by : Config). HasNextBy by rem b) config (has_more rem old b c fields are.plain.config next);
+    read = are.read_so_far.read;
+    many = omega (arith, are.read_so_far.read_so_far, are.few, most);
+    more = has_more rem old b c fields are.plain.config next;
   }
 
 -- a file whose header was read, and then its records
-pub counted_text : {R : Type 0} (rem : R → KnownBytes) (schema : Declared) (header : List Field) (a b : Reader R) (counts : FileCounts) (known : KnownBytes)
-    → is_header schema header ≡ true → source_of rem a ≡ option_map strip_bom known → IfSome (source_of rem a) (IsAfterHeader rem (layout_of schema header) b)
-    → HasCounted rem (layout_of schema header) b counts → IfSome known (IsCountedFile schema counts)
-counted_text rem schema header a b counts known named is stands counted =
-    by known (of_text (λ text. IsAfterHeader rem (layout_of schema header) b text) known (source_of rem a) is stands)
+pub counted_text : {R : Type 0} (rem : R → KnownBytes) (format : Format) (header : List Field) (a b : Reader R) (counts : FileCounts) (known : KnownBytes)
+    → format.is_header header ≡ true → source_of rem a ≡ option_map strip_bom known → IfSome (source_of rem a) (IsAfterHeader rem (layout_of format header) b)
+    → HasCounted rem (layout_of format header) b counts → IfSome known (IsCountedFile format counts)
+counted_text rem format header a b counts known named is stands counted =
+    by known (of_text (λ text. IsAfterHeader rem (layout_of format header) b text) known (source_of rem a) is stands)
   where
-    by : (o : KnownBytes) → IfSome o (λ bytes. IsAfterHeader rem (layout_of schema header) b (strip_bom bytes)) → IfSome o (IsCountedFile schema counts)
+    by : (o : KnownBytes) → IfSome o (λ bytes. IsAfterHeader rem (layout_of format header) b (strip_bom bytes)) → IfSome o (IsCountedFile format counts)
     by None after = tt
     by (Some bytes) after = record {
       header = header;
       rows = counted.rows;
       named = named;
-      whole = is_whole rem (layout_of schema header) b counted.at (strip_bom bytes) (counts_of 0 0) (counts_of counts.records counts.bad) counted.rows after counted.read_so_far counted.over;
+      whole = is_whole rem (layout_of format header) b counted.at (strip_bom bytes) (counts_of 0 0) (counts_of counts.records counts.bad) counted.rows after counted.read_so_far counted.over;
     }

@@ -2,7 +2,7 @@
 use Rattle.std.proofs.Common.{◌≡◌, ℕ, suc, List, [], ◌∷◌, ◌++◌, length, refl, ap, sym, ◌∙◌, subst}
 use Rattle.std.specs.List.{list_all}
 use Rattle.std.proofs.lemmas.List.{append-nil, append_assoc}
-use Rattle.bsi_schema.specs.Columns.{Declared}
+use Rattle.bsi_input.specs.Formats.{Format}
 use Rattle.bsi_check.specs.Checks.{is_clean}
 use Rattle.bsi_check.specs.Reasons.{AddsReasonsUnless}
 use Rattle.bsi_check.specs.Reports.{AreAdded, IsFileChecked}
@@ -46,10 +46,10 @@ added_long Adds (x ∷ xs) [] a b are = absurd are
 added_long Adds (x ∷ xs) (y ∷ ys) a b are = ap (λ n. suc n) (added_long Adds xs ys are.0 b are.2)
 
 -- reasons are written just where a row file is not good
-pub files_reported : {S : Type 0} (rem : S → KnownBytes) (schema : Declared) (rows : List (NamedFile S)) (files : List FileFinding) (a b : List ℕ)
-    → AreAdded (IsFileChecked rem schema) rows files a b → AddsReasonsUnless (list_all is_clean files) a b
-files_reported rem schema [] [] a b are = are
-files_reported rem schema [] (file ∷ files) a b are = absurd are
-files_reported rem schema (named ∷ rows) [] a b are = absurd are
-files_reported rem schema (named ∷ rows) (file ∷ files) a b are =
-    tells_both (is_clean file) (list_all is_clean files) a are.0 b (file_reported named.path.now file a are.0 are.1.1) (files_reported rem schema rows files are.0 b are.2)
+pub files_reported : {S : Type 0} (rem : S → KnownBytes) (format : Format) (rows : List (NamedFile S)) (files : List FileFinding) (a b : List ℕ)
+    → AreAdded (IsFileChecked rem format) rows files a b → AddsReasonsUnless (list_all is_clean files) a b
+files_reported rem format [] [] a b are = are
+files_reported rem format [] (file ∷ files) a b are = absurd are
+files_reported rem format (named ∷ rows) [] a b are = absurd are
+files_reported rem format (named ∷ rows) (file ∷ files) a b are =
+    tells_both (is_clean file) (list_all is_clean files) a are.0 b (file_reported named.path.now file a are.0 are.1.2) (files_reported rem format rows files are.0 b are.2)

@@ -1,6 +1,9 @@
 mod Asking
 mod Counting
 mod Joined
+mod Judging
 mod OneLine
+mod RecordReasons
 mod Telling
 mod Unread
+mod Written

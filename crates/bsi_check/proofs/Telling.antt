@@ -14,11 +14,14 @@ use Rattle.bsi_check.specs.declared.finding.AsksFinding.{AsksFinding}
 use Rattle.bsi_check.specs.declared.finding.AsksFinding.TheVariants as asks
 use Rattle.bsi_check.specs.declared.finding.FileFinding.{FileFinding}
 use Rattle.bsi_check.specs.declared.finding.FileFinding.TheVariants.{Counted, NoHeader, Unread}
-use Rattle.bsi_schema.specs.Columns.{Declared}
+use Rattle.bsi_rows.specs.Fields.{Field}
+use Rattle.bsi_logical.specs.declared.table_schema.TableSchema.{TableSchema}
+use Rattle.bsi_input.specs.Formats.{Format}
+use Rattle.bsi_check.specs.Judges.{Judge}
 use Rattle.bsi_check.specs.Reports.{AreAsksChecked}
 use Rattle.bsi_check.specs.declared.named.NamedFile.{NamedFile}
 use Rattle.bsi_check.specs.Checks.{has_good_asks, is_clean}
-use Rattle.bsi_check.specs.Reasons.{fault_why, reason_count, is_line_end, max_reasons, more_why, more_whys, one_line, reason_line, AddsAsksReasons, AddsBadRecordReasons, AddsFileReasons, AddsFirstReasons, AddsOneReason, AddsOneReasonUnless, AddsReasons, AddsReasonsUnless, AddsSomeReasons, AddsUnreadReason, IsOneLine}
+use Rattle.bsi_check.specs.Reasons.{fault_why, line_why, reason_count, is_line_end, max_reasons, more_why, more_whys, one_line, reason_line, AddsAsksReasons, AddsBadRecordReasons, AddsFileReasons, AddsFirstReasons, AddsOneReason, AddsOneReasonUnless, AddsReasons, AddsReasonsUnless, AddsRecordReason, AddsSomeReasons, AddsUnreadReason, IsOneLine}
 use Rattle.bsi_syntax.specs.Bytes.{KnownBytes}
 
 -- ---- of one file
@@ -49,6 +52,10 @@ pub reported_one : {T E : Type 0} (r : Result T E) (path why a b : List ℕ) →
 reported_one (Ok x) path why a b is =
     (all_one (one_line why) (one_line_is why), is ∙ ap (λ xs. a ++ xs) (sym (append-nil (reason_line path (one_line why)))))
 reported_one (Err e) path why a b is = tt
+
+-- a reason of a record is one reason
+pub one_told : {format : Format} {judge : Judge} {header fields : List Field} {path a b : List ℕ} → AddsRecordReason format judge header fields path a b → AddsOneReason path a b
+one_told told = (one_line (line_why told.line told.text), told.added)
 
 pub reported_none : (path bytes : List ℕ) → AddsReasons path [] bytes bytes
 reported_none path bytes = ((λ k d lt. absurd (omega arith)), sym (append-nil bytes))
@@ -179,7 +186,7 @@ pub unless_reported : (path : List ℕ) (good : Bool) (a b : List ℕ) → AddsO
 unless_reported path true a b reported = reported
 unless_reported path false a b reported = one_more path a b reported
 
-pub given_reported : {S : Type 0} (rem : S → KnownBytes) (schema : Declared) (asked : Option (NamedFile S)) (finding : AsksFinding) (a b : List ℕ)
+pub given_reported : {S : Type 0} (rem : S → KnownBytes) (schema : TableSchema) (asked : Option (NamedFile S)) (finding : AsksFinding) (a b : List ℕ)
     → AreAsksChecked rem schema asked finding a b → AddsReasonsUnless (has_good_asks finding) a b
 given_reported rem schema None finding a b are = subst (λ (f : AsksFinding). AddsReasonsUnless (has_good_asks f) a b) (sym are.0) are.1
 given_reported rem schema (Some file) finding a b are = asks_reported file.path.now finding a b are.1

@@ -1,6 +1,8 @@
 -- What a check finds in the row files (`IsFileFinding`) and in the asks (`IsAsksFinding`) of a run.
-use Rattle.std.specs.Prelude.{◌≡◌, ⊤, ◌⊎◌, ℕ, ◌+◌, ◌≤◌, Bool, true, false, nat_eq, List, [], ◌∷◌, length}
+use Rattle.std.specs.Prelude.{◌≡◌, ⊤, ◌⊎◌, ℕ, ◌+◌, ◌≤◌, Bool, true, false, nat_eq, List, [], ◌∷◌, length, IsSome}
+use Rattle.csv.specs.Machine.{next_record}
 use Rattle.csv.specs.Reading.{strip_bom}
+use Rattle.csv.specs.declared.parser.Config.{Config}
 use Rattle.csv.specs.declared.parser.State.{State}
 use Rattle.csv.specs.declared.reader.Reader.{Reader}
 use Rattle.bsi_syntax.specs.Bytes.{Bytes, KnownBytes}
@@ -8,11 +10,15 @@ use Rattle.bsi_syntax.specs.Events.{IsQuery}
 use Rattle.bsi_rows.specs.Fields.{Field}
 use Rattle.bsi_rows.specs.Rows.{Entries}
 use Rattle.bsi_rows.specs.declared.query.Query.{Query}
-use Rattle.bsi_schema.specs.Columns.{Declared}
-use Rattle.bsi_input.specs.Formats.{max_records}
-use Rattle.bsi_input.specs.RowFiles.{is_header, plain_format}
-use Rattle.bsi_input.specs.Sources.{counts_of, HasNext, HasNoHeader, HasReadRecords, HasReadRows, IsOverBy, IsWholeFile, Layout}
-use Rattle.bsi_input.specs.Texts.{AreAllRecords, AreFirstRecords, AreTooMany}
+use Rattle.bsi_rows.specs.declared.question.Question.{Question}
+use Rattle.bsi_syntax.specs.Questions.{IsQuestion}
+use Rattle.bsi_syntax.specs.declared.grammar.Grammar.TheVariants.{Index}
+use Rattle.bsi_logical.specs.Meanings.{logical_vocabulary}
+use Rattle.bsi_logical.specs.declared.table_schema.TableSchema.{TableSchema}
+use Rattle.bsi_logical.specs.declared.table_schema.TableSchema.TheVariants.{Logical, Plain}
+use Rattle.bsi_input.specs.Formats.{max_records, Format}
+use Rattle.bsi_input.specs.Sources.{counts_of, HasNextBy, HasNoHeader, HasReadBy, HasReadRows, IsOverBy, IsWholeFile, Layout}
+use Rattle.bsi_input.specs.Texts.{AreAllRecords, AreFirstRecords, AreFirstRecordsBy, AreTooMany}
 use Rattle.bsi_input.specs.declared.rows.SourceFault.TheVariants as source
 use Rattle.bsi_check.specs.declared.finding.AsksFinding.{AsksFinding}
 use Rattle.bsi_check.specs.declared.finding.AsksFinding.TheVariants as asks
@@ -22,8 +28,8 @@ use Rattle.bsi_check.specs.declared.finding.FileFinding.TheVariants.{Counted, No
 
 -- ---- a row file
 
-abbrev pub layout_of : Declared → List Field → Layout
-layout_of schema header = record { format = plain_format schema; header = header }
+abbrev pub layout_of : Format → List Field → Layout
+layout_of format header = record { format = format; header = header }
 
 -- The records that a reader had left were counted.
 pub record HasCounted {R : Type 0} (rem : R → KnownBytes) (layout : Layout) (input : Reader R)
@@ -36,34 +42,41 @@ pub record HasCounted {R : Type 0} (rem : R → KnownBytes) (layout : Layout) (i
   pub read_so_far : HasReadRows rem layout input at (counts_of 0 0) (counts_of counts.records counts.bad) rows
   -- No record is left.
   pub over : IsOverBy layout.format.config rem at
+  -- The records are no more than the format has at most.
+  pub few : counts.records ≤ layout.format.most
 
--- More than 1,000,000 records can be read from the input.
-pub record HasTooManyRecords {R : Type 0} (rem : R → KnownBytes) (input : Reader R) : Type 0 where
-  -- The reader after the first million records.
+-- More records than the format has at most can be read from the input.
+pub record HasMoreRecords {R : Type 0} (rem : R → KnownBytes) (format : Format) (input : Reader R) : Type 0 where
+  -- The reader after the first of the records.
   pub at : Reader R
-  -- The first million records.
+  -- The first of the records.
   pub records : List (List Field)
   -- These records were read from the input, up to `at`.
-  pub read : HasReadRecords rem input at records
-  -- The records are 1,000,000.
-  pub many : length records ≡ max_records
+  pub read : HasReadBy format.config rem input at records
+  -- They are as many as the format has at most.
+  pub many : length records ≡ format.most
   -- One more record follows.
-  pub more : HasNext rem at
+  pub more : HasNextBy format.config rem at
 
--- The text is a row file of the schema, with these counts.
-pub record IsCountedFile (schema : Declared) (counts : FileCounts) (text : Bytes) : Type 0 where
+-- The text is a row file of the format, with these counts.
+pub record IsCountedFile (format : Format) (counts : FileCounts) (text : Bytes) : Type 0 where
   -- The fields of the header.
   pub header : List Field
   -- The rows of the good records.
   pub rows : List Entries
-  -- The fields of the header are the names of the columns, each once, in any order.
-  pub named : is_header schema header ≡ true
+  -- The format accepts the header.
+  pub named : format.is_header header ≡ true
   -- After the header, all records and the bad ones are counted, and the good ones have the rows.
-  pub whole : IsWholeFile (layout_of schema header) (strip_bom text) (counts_of 0 0)
+  pub whole : IsWholeFile (layout_of format header) (strip_bom text) (counts_of 0 0)
       (counts_of counts.records counts.bad) rows
 
--- The text is a row file of the schema that is too long.
-pub record IsTooLongRowFile (schema : Declared) (text : Bytes) : Type 0 where
+-- There are `most` records, which are written so, and the text has one more.
+abbrev pub AreMoreThan : Config → ℕ → List (List Field) → State → List ℕ → Type 0
+AreMoreThan config most records state rest =
+    (length records ≡ most) × IsSome (next_record config state [] [] rest)
+
+-- The text is a row file of the format that is too long.
+pub record IsTooLongRowFile (format : Format) (text : Bytes) : Type 0 where
   -- The fields of the header.
   pub header : List Field
   -- The first records after the header.
@@ -72,20 +85,26 @@ pub record IsTooLongRowFile (schema : Declared) (text : Bytes) : Type 0 where
   pub state : State
   -- The bytes after the records.
   pub rest : List ℕ
-  -- The fields of the header are the names of the columns, each once, in any order.
-  pub named : is_header schema header ≡ true
+  -- The format accepts the header.
+  pub named : format.is_header header ≡ true
   -- The text begins with the header and the records, and goes on with the rest.
-  pub first : AreFirstRecords text (header ∷ records) state rest
-  -- The records are 1,000,000, and one more follows.
-  pub too_long : AreTooMany records state rest
+  pub first : AreFirstRecordsBy format.config text (header ∷ records) state rest
+  -- The records are as many as the format has at most, and one more follows.
+  pub too_long : AreMoreThan format.config format.most records state rest
 
 -- The finding that a check has for a row file with this text. A fault of the reader says nothing of the text.
-abbrev pub IsFileFinding : Declared → FileFinding → List ℕ → Type 0
-IsFileFinding schema (Counted counts) text = IsCountedFile schema counts text
-IsFileFinding schema NoHeader text = HasNoHeader (plain_format schema) (strip_bom text)
-IsFileFinding schema (Unread source.TooLong) text = IsTooLongRowFile schema text
-IsFileFinding schema (Unread source.Read) text = ⊤
-IsFileFinding schema (Unread fault) text = ⊥
+abbrev pub IsFileFinding : Format → FileFinding → List ℕ → Type 0
+IsFileFinding format (Counted counts) text = IsCountedFile format counts text
+IsFileFinding format NoHeader text = HasNoHeader format (strip_bom text)
+IsFileFinding format (Unread source.TooLong) text = IsTooLongRowFile format text
+IsFileFinding format (Unread source.Read) text = ⊤
+IsFileFinding format (Unread fault) text = ⊥
+
+-- The records that were counted, if they were, are at most so many.
+abbrev pub HasAtMost : ℕ → FileFinding → Type 0
+HasAtMost most (Counted counts) = counts.records ≤ most
+HasAtMost most NoHeader = ⊤
+HasAtMost most (Unread fault) = ⊤
 
 -- All records of the file are good.
 abbrev pub is_clean : FileFinding → Bool
@@ -95,35 +114,36 @@ is_clean (Unread fault) = false
 
 -- ---- the asks
 
--- The record asks a query.
-abbrev pub AsksQuery : Declared → List Field → Type 0
-AsksQuery schema fields = (query : Query) × IsQuery schema fields query
+-- The record asks a question: a query over whole numbers, or over kinds any question of an index.
+abbrev pub Asks : TableSchema → List Field → Type 0
+Asks (Plain schema) fields = (query : Query) × IsQuery schema fields query
+Asks (Logical logical) fields = (question : Question) × IsQuestion Index (logical_vocabulary logical) fields question
 
--- The record asks no query.
-abbrev pub AsksNoQuery : Declared → List Field → Type 0
-AsksNoQuery schema fields = (query : Query) → IsQuery schema fields query → ⊥
+-- The record asks no question.
+abbrev pub AsksNothing : TableSchema → List Field → Type 0
+AsksNothing schema fields = Asks schema fields → ⊥
 
--- The verdict on a record: true if it asks a query, and false if it asks none.
-abbrev pub IsAskVerdict : Declared → List Field → Bool → Type 0
-IsAskVerdict schema fields true = AsksQuery schema fields
-IsAskVerdict schema fields false = AsksNoQuery schema fields
+-- The verdict on a record: true if it asks a question, and false if it asks none.
+abbrev pub IsAskVerdict : TableSchema → List Field → Bool → Type 0
+IsAskVerdict schema fields true = Asks schema fields
+IsAskVerdict schema fields false = AsksNothing schema fields
 
--- `bad` of the records ask no query, and each of the others asks one.
-unfoldable pub HaveBadAsks : Declared → List (List Field) → ℕ → Type 0
+-- `bad` of the records ask no question, and each of the others asks one.
+unfoldable pub HaveBadAsks : TableSchema → List (List Field) → ℕ → Type 0
 HaveBadAsks schema [] bad = bad ≡ 0
 HaveBadAsks schema (fields ∷ records) bad =
-    (AsksQuery schema fields × HaveBadAsks schema records bad)
-    ⊎ (AsksNoQuery schema fields × (others : ℕ) × (bad ≡ others + 1) × HaveBadAsks schema records others)
+    (Asks schema fields × HaveBadAsks schema records bad)
+    ⊎ (AsksNothing schema fields × (others : ℕ) × (bad ≡ others + 1) × HaveBadAsks schema records others)
 
 -- The text is an asks file with `bad` bad records.
-pub record AreCountedAsks (schema : Declared) (bad : ℕ) (text : Bytes) : Type 0 where
+pub record AreCountedAsks (schema : TableSchema) (bad : ℕ) (text : Bytes) : Type 0 where
   -- The records of the text.
   pub records : List (List Field)
   -- The text has these records and no others.
   pub all : AreAllRecords text records
   -- There are at most 1,000,000 records.
   pub few : length records ≤ max_records
-  -- `bad` of the records ask no query, and each of the others asks one.
+  -- `bad` of the records ask no question, and each of the others asks one.
   pub asked : HaveBadAsks schema records bad
 
 -- The text is an asks file that is too long.
@@ -140,7 +160,7 @@ pub record AreTooManyAsks (text : Bytes) : Type 0 where
   pub too_long : AreTooMany records state rest
 
 -- The finding that a check has for asks with this text. A fault of the reader says nothing of the text.
-abbrev pub IsAsksFinding : Declared → AsksFinding → List ℕ → Type 0
+abbrev pub IsAsksFinding : TableSchema → AsksFinding → List ℕ → Type 0
 IsAsksFinding schema (asks.Counted bad) text = AreCountedAsks schema bad text
 IsAsksFinding schema (asks.Unread source.TooLong) text = AreTooManyAsks text
 IsAsksFinding schema (asks.Unread source.Read) text = ⊤

@@ -1,3 +1,4 @@
 pub mod Checks
+pub mod Judges
 pub mod Reasons
 pub mod Reports

@@ -1,14 +1,17 @@
 -- The reasons that a check writes, a line each.
 use Rattle.std.specs.Prelude.{◌≡◌, ◌≢◌, ℕ, ◌<◌, ◌-◌, Bool, true, false, if◌then◌else◌, ◌||◌, nat_eq, nat_le, All, List, [], ◌∷◌, ◌++◌, length, map, Option, None, Some, IfSome, codes, decimal}
 use Rattle.std.specs.List.{concat}
+use Rattle.bsi_rows.specs.Fields.{Field}
 use Rattle.bsi_syntax.specs.Bytes.{KnownBytes}
-use Rattle.bsi_syntax.specs.declared.setups.DeclaredTable.{DeclaredTable}
 use Rattle.bsi_input.specs.FaultTexts.{source_fault_text}
-use Rattle.bsi_input.specs.SchemaTexts.{IsSchemaFault, IsSchemaText}
+use Rattle.bsi_input.specs.Formats.{Format}
 use Rattle.bsi_input.specs.declared.rows.SourceFault.{SourceFault}
 use Rattle.bsi_input.specs.declared.rows.SourceFault.TheVariants as source
-use Rattle.bsi_input.specs.declared.schema_text.SchemaFault.{SchemaFault}
-use Rattle.bsi_input.specs.declared.schema_text.SchemaFault.TheVariants.{BadRecord, NoColumns, Source}
+use Rattle.bsi_logical.specs.SchemaFiles.{DeclaresSchema, IsSchemaFileFault}
+use Rattle.bsi_logical.specs.declared.logical_text.LogicalFault.{LogicalFault}
+use Rattle.bsi_logical.specs.declared.logical_text.LogicalFault.TheVariants.{BadRecord, NoColumns, Source}
+use Rattle.bsi_logical.specs.declared.schema_file.DeclaredSchema.{DeclaredSchema}
+use Rattle.bsi_check.specs.Judges.{IsReason, Judge}
 use Rattle.bsi_check.specs.declared.finding.AsksFinding.{AsksFinding}
 use Rattle.bsi_check.specs.declared.finding.AsksFinding.TheVariants as asks
 use Rattle.bsi_check.specs.declared.finding.FileFinding.{FileFinding}
@@ -29,6 +32,10 @@ one_line text = map (λ byte. if is_line_end byte then 32 else byte) text
 -- The line of a reason: the path of the file, a colon, and what is wrong.
 abbrev pub reason_line : List ℕ → List ℕ → List ℕ
 reason_line path why = path ++ codes ":" ++ why ++ codes "\n"
+
+-- What is wrong with a record, behind the line at which it begins.
+abbrev pub line_why : ℕ → List ℕ → List ℕ
+line_why line text = decimal line ++ (codes ": " ++ text)
 
 -- The reasons `whys` of one file, a line each, were appended to a text.
 abbrev pub AddsReasons : List ℕ → List (List ℕ) → List ℕ → List ℕ → Type 0
@@ -74,6 +81,16 @@ abbrev pub AddsBadRecordReasons : List ℕ → ℕ → List ℕ → List ℕ →
 AddsBadRecordReasons path bad before after =
     (whys : List (List ℕ)) × (length whys ≡ reason_count bad) × AddsReasons path (whys ++ more_whys bad) before after
 
+-- One reason was appended, of a record of a row file: it tells the line, and why the record is bad.
+pub record AddsRecordReason (format : Format) (judge : Judge) (header fields : List Field) (path before after : List ℕ)
+    : Type 0 where
+  -- The line.
+  pub line : ℕ
+  -- Why the record is bad.
+  pub text : List ℕ
+  pub tells : IsReason format judge header fields text
+  pub added : AddsReasons path (one_line (line_why line text) ∷ []) before after
+
 -- ---- the reasons of a file
 
 -- What is wrong with a file that was not read to its end.
@@ -97,19 +114,19 @@ AddsAsksReasons path (asks.Counted bad) before after = AddsBadRecordReasons path
 AddsAsksReasons path (asks.Unread fault) before after = AddsUnreadReason path fault before after
 
 -- The reason of a schema file with this fault, which declares no schema, was appended.
-abbrev pub AddsSchemaReason : List ℕ → SchemaFault → List ℕ → List ℕ → Type 0
-AddsSchemaReason path (BadRecord number) before after = AddsOneReason path before after
+abbrev pub AddsSchemaReason : List ℕ → LogicalFault → List ℕ → List ℕ → Type 0
+AddsSchemaReason path (BadRecord number why) before after = AddsOneReason path before after
 AddsSchemaReason path NoColumns before after = AddsReasons path (codes " declares no column" ∷ []) before after
 AddsSchemaReason path (Source fault) before after =
     (fault ≢ source.NoMemory) × AddsReasons path (fault_why fault ∷ []) before after
 
--- The check of a schema file: the table that it declares and no reason, or none and the reasons.
+-- The check of a schema file: the schema that it declares and no reason, or none and the reasons.
 -- `known` are the bytes of the file, if they are known.
-abbrev pub IsSchemaChecked : List ℕ → KnownBytes → Option DeclaredTable → List ℕ → List ℕ → Type 0
-IsSchemaChecked path known (Some table) before after =
-    IfSome known (λ text. IsSchemaText text table.schema table.limit) × (after ≡ before)
+abbrev pub IsSchemaChecked : List ℕ → KnownBytes → Option DeclaredSchema → List ℕ → List ℕ → Type 0
+IsSchemaChecked path known (Some file) before after =
+    IfSome known (λ text. DeclaresSchema text file.schema file.limit) × (after ≡ before)
 IsSchemaChecked path known None before after =
-    (fault : SchemaFault) × IfSome known (λ text. IsSchemaFault text fault) × AddsSchemaReason path fault before after
+    (fault : LogicalFault) × IfSome known (λ text. IsSchemaFileFault text fault) × AddsSchemaReason path fault before after
 
 -- ---- all of them
 

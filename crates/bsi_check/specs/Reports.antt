@@ -5,12 +5,14 @@ use Rattle.std.specs.Prelude.{◌≡◌, ◌⊎◌, ℕ, suc, ◌-◌, ◌<◌, 
 use Rattle.std.specs.List.{list_all}
 use Rattle.bsi_syntax.specs.Bytes.{KnownBytes}
 use Rattle.bsi_syntax.specs.Lines.{fed_line}
-use Rattle.bsi_syntax.specs.declared.setups.DeclaredTable.{DeclaredTable}
-use Rattle.bsi_input.specs.SchemaTexts.{IsSchemaText}
+use Rattle.bsi_input.specs.Formats.{Format}
 use Rattle.bsi_input.specs.BufferedOutput.{AppendsPrefix}
 use Rattle.bsi_rows.specs.Table.{max_feeders}
-use Rattle.bsi_schema.specs.Columns.{Declared}
-use Rattle.bsi_check.specs.Checks.{has_good_asks, is_clean, IsAsksFinding, IsFileFinding}
+use Rattle.bsi_logical.specs.SchemaFiles.{DeclaresSchema}
+use Rattle.bsi_logical.specs.TableSchemas.{format_of}
+use Rattle.bsi_logical.specs.declared.schema_file.DeclaredSchema.{DeclaredSchema}
+use Rattle.bsi_logical.specs.declared.table_schema.TableSchema.{TableSchema}
+use Rattle.bsi_check.specs.Checks.{has_good_asks, is_clean, HasAtMost, IsAsksFinding, IsFileFinding}
 use Rattle.bsi_check.specs.Reasons.{AddsAsksReasons, AddsFileReasons, AddsOneReasonUnless, AddsReasons, AddsReasonsUnless, IsSchemaChecked}
 use Rattle.bsi_check.specs.declared.named.NamedFile.{NamedFile}
 use Rattle.bsi_check.specs.declared.finding.AsksFinding.{AsksFinding}
@@ -44,15 +46,23 @@ fed_text n (file ∷ files) = line_of n file ++ fed_text (suc n) files
 abbrev pub are_good : ℕ → List FileFinding → AsksFinding → Bool
 are_good limit files asks = list_all is_clean files && (nat_le (sum (map good_count files)) limit && has_good_asks asks)
 
+-- There are too many row files. That is the only reason, and there are no lines `fed`.
+pub record HasTooManyFiles {S : Type 0} (rows : List (NamedFile S)) (reasons fed : List ℕ) : Type 0 where
+  pub many : max_feeders < length rows
+  pub why : AddsReasons (codes "bsi") (codes " more than 64 files" ∷ []) [] reasons
+  pub none : fed ≡ []
+
 -- Files to be checked are open under their paths. `rem` gives the bytes of each, if they are known.
 module _ {S : Type 0} (rem : S → KnownBytes) where
-  -- A row file has this finding, and its reasons were appended.
-  abbrev pub IsFileChecked : Declared → NamedFile S → FileFinding → List ℕ → List ℕ → Type 0
-  IsFileChecked schema file finding before after =
-      IfSome (rem file.reader) (IsFileFinding schema finding) × AddsFileReasons file.path.now finding before after
+  -- A row file has this finding, no more records were counted than the format has at most, and its reasons were
+  -- appended.
+  abbrev pub IsFileChecked : Format → NamedFile S → FileFinding → List ℕ → List ℕ → Type 0
+  IsFileChecked format file finding before after =
+      IfSome (rem file.reader) (IsFileFinding format finding) × HasAtMost format.most finding
+      × AddsFileReasons file.path.now finding before after
 
   -- The asks have this finding, and their reasons were appended. Without asks, none is bad.
-  abbrev pub AreAsksChecked : Declared → Option (NamedFile S) → AsksFinding → List ℕ → List ℕ → Type 0
+  abbrev pub AreAsksChecked : TableSchema → Option (NamedFile S) → AsksFinding → List ℕ → List ℕ → Type 0
   AreAsksChecked schema None finding before after = (finding ≡ asks.Counted 0) × (after ≡ before)
   AreAsksChecked schema (Some file) finding before after =
       IfSome (rem file.reader) (IsAsksFinding schema finding) × AddsAsksReasons file.path.now finding before after
@@ -61,7 +71,7 @@ module _ {S : Type 0} (rem : S → KnownBytes) where
   pub record IsJudged (schema : NamedFile S) (rows : List (NamedFile S)) (asked : Option (NamedFile S))
       (reasons fed : List ℕ) : Type 0 where
     -- The schema and the limit that the schema file declares.
-    pub table : DeclaredTable
+    pub table : DeclaredSchema
     -- The finding on each row file.
     pub files : List FileFinding
     -- The finding on the asks.
@@ -71,9 +81,9 @@ module _ {S : Type 0} (rem : S → KnownBytes) where
     -- The reasons of the row files and of the limit.
     pub of_limit : List ℕ
     -- The text of the schema file, if known, declares the schema and the limit.
-    pub schema_is : IfSome (rem schema.reader) (λ text. IsSchemaText text table.schema table.limit)
+    pub schema_is : IfSome (rem schema.reader) (λ text. DeclaresSchema text table.schema table.limit)
     -- Each row file has its finding, and the reasons of the row files are appended in order.
-    pub files_are : AreAdded (IsFileChecked table.schema) rows files [] of_files
+    pub files_are : AreAdded (IsFileChecked (format_of table.schema)) rows files [] of_files
     -- Good rows beyond the limit are a reason of the schema file.
     pub limit_is : AddsOneReasonUnless (nat_le (sum (map good_count files)) table.limit) schema.path.now of_files of_limit
     -- The asks have the finding, and the reasons of the asks come last.
@@ -119,3 +129,43 @@ module _ {S : Type 0} (rem : S → KnownBytes) where
     pub report : IsReport schema rows asked reasons fed
     -- A prefix of the reasons and the lines `fed` was appended to the output.
     pub cut : AppendsPrefix before after (reasons ++ fed)
+
+  -- A check of row files by a format, and the limit of a schema file under a path.
+  pub record AreJudged (format : Format) (limit : ℕ) (path : List ℕ) (rows : List (NamedFile S)) (reasons fed : List ℕ)
+      : Type 0 where
+    -- The finding on each row file.
+    pub files : List FileFinding
+    -- The reasons of the row files.
+    pub of_files : List ℕ
+    -- Each row file has its finding, and the reasons of the row files are appended in order.
+    pub files_are : AreAdded (IsFileChecked format) rows files [] of_files
+    -- Good rows beyond the limit are a reason of the schema file.
+    pub limit_is : AddsOneReasonUnless (nat_le (sum (map good_count files)) limit) path of_files reasons
+    -- There are reasons exactly if a file is not good or the good rows exceed the limit.
+    pub reported : AddsReasonsUnless (list_all is_clean files && nat_le (sum (map good_count files)) limit) [] reasons
+    -- The lines `fed` are those of the row files.
+    pub fed_is : fed ≡ fed_text 0 files
+
+  -- The report of a check of row files. If there are too many, that is the only reason, and there are no lines `fed`.
+  abbrev pub IsRowReport : Format → ℕ → List ℕ → List (NamedFile S) → List ℕ → List ℕ → Type 0
+  IsRowReport format limit path rows reasons fed = HasTooManyFiles rows reasons fed ⊎ AreJudged format limit path rows reasons fed
+
+-- Reasons and lines `fed` were appended to an output. The result says whether there is no reason.
+pub record IsWritten (before after : KnownBytes) (reasons fed : List ℕ) (good : Bool) : Type 0 where
+  pub good_is : good ≡ nat_eq (length reasons) 0
+  pub written : Appends before after (reasons ++ fed)
+
+-- A text and lines `fed` were written, of which `Is` says what they are. The result says whether the text is empty.
+pub record HasWritten (Is : List ℕ → List ℕ → Type 0) (before after : KnownBytes) (good : Bool) : Type 0 where
+  pub reasons : List ℕ
+  pub fed : List ℕ
+  pub report : Is reasons fed
+  pub good_is : good ≡ nat_eq (length reasons) 0
+  pub written : Appends before after (reasons ++ fed)
+
+-- A prefix of them was written.
+pub record HasBegunWriting (Is : List ℕ → List ℕ → Type 0) (before after : KnownBytes) : Type 0 where
+  pub reasons : List ℕ
+  pub fed : List ℕ
+  pub report : Is reasons fed
+  pub cut : AppendsPrefix before after (reasons ++ fed)

@@ -1,5 +1,4 @@
-//! Checks a file of queries (`check_asks`): counts the records that are no queries, and adds the reasons of the first
-//! 100.
+//! Checks a file of questions (`check_asks`): counts the records that are none, and adds the reasons of the first 100.
 
 ghost use Rattle.std.specs.Prelude.{◌≡◌, ◌≢◌, IfErr, IfOk, IfSome, OnOk};
 ghost use Rattle.csv.specs.Reading.{reader_state, source_of};
@@ -11,22 +10,23 @@ ghost use Rattle.bsi_check.specs.Checks.{AreCountedAsks, AreTooManyAsks, IsAskVe
 ghost use Rattle.bsi_check.specs.Reasons.{AddsAsksReasons, AddsBadRecordReasons, AddsFirstReasons, AddsOneReason, AddsSomeReasons};
 
 use crate::NoMemory;
-use crate::diagnostics::why_no_query;
+use crate::diagnostics::why_no_ask;
 use crate::finding::AsksFinding;
 use crate::lines::{Lines, MAX_REASONS, add_more_bad, add_reason_at};
 use crate::rows::add_unread;
 use bsi_input::{MAX_RECORDS, SourceFault, plain_reader, read_next};
+use bsi_logical::{LogicalSchema, TableSchema};
 use bsi_schema::Schema;
-use bsi_syntax::read_query;
+use bsi_syntax::{Grammar, QuestionError, lend_fields, read_query, read_question};
 use csv::{ByteRecord, Reader};
 use std::alloc::Global;
 use std::io::Read;
 
-/// Reads the asks to their end, and adds the reason of each that is no query to `reasons`, at most 100 of them. It
+/// Reads the asks to their end, and adds the reason of each that is no question to `reasons`, at most 100 of them. It
 /// returns how many are none, or, with the reason added, why the asks were not read to their end.
 pub(crate) fn check_asks<A: Read + Drop>(
     alloc: Global,
-    schema: &Schema,
+    schema: &TableSchema,
     path: &str,
     asks: A,
     reasons: &mut Vec<u8>,
@@ -46,11 +46,11 @@ pub(crate) fn check_asks<A: Read + Drop>(
     }
 }
 
-/// Reads the asks of a text of which no record was read, adds the reason of each that is no query, at most 100 of them,
+/// Reads the asks of a text of which no record was read, adds the reason of each that is no question, at most 100 of them,
 /// and how many more there are, and returns how many are none.
 fn check_each_ask<A: Read + Drop>(
     alloc: Global,
-    schema: &Schema,
+    schema: &TableSchema,
     path: &str,
     input: &mut Reader<A>,
     reasons: &mut Vec<u8>,
@@ -74,11 +74,11 @@ fn check_each_ask<A: Read + Drop>(
     Ok(bad)
 }
 
-/// Reads the asks of a text of which no record was read, adds the reason of each of the first 100 that are no queries,
+/// Reads the asks of a text of which no record was read, adds the reason of each of the first 100 that are no questions,
 /// and returns how many are none.
 fn count_asks<A: Read + Drop>(
     alloc: Global,
-    schema: &Schema,
+    schema: &TableSchema,
     path: &str,
     input: &mut Reader<A>,
     reasons: &mut Vec<u8>,
@@ -103,7 +103,7 @@ fn count_asks<A: Read + Drop>(
             return Ok(bad);
         }
         lines.advance(&fields, input.position());
-        let asks = is_query(alloc, schema, &fields)?;
+        let asks = is_ask(alloc, schema, &fields)?;
         records += 1;
         if asks {
             continue;
@@ -111,7 +111,7 @@ fn count_asks<A: Read + Drop>(
         bad += 1;
         if bad <= MAX_REASONS {
             let line = lines.line_of(&fields, input.position());
-            add_no_query(alloc, schema, path, line, &fields, reasons)?;
+            add_no_ask(alloc, schema, path, line, &fields, reasons)?;
         }
     }
     if read_next(input, &mut fields)? {
@@ -120,10 +120,10 @@ fn count_asks<A: Read + Drop>(
     Ok(bad)
 }
 
-/// Adds the reason why a record is no query.
-fn add_no_query(
+/// Adds the reason why a record is no question.
+fn add_no_ask(
     alloc: Global,
-    schema: &Schema,
+    schema: &TableSchema,
     path: &str,
     line: u64,
     fields: &ByteRecord,
@@ -131,14 +131,40 @@ fn add_no_query(
 ) -> Result<(), NoMemory>
     ensures { OnOk result (AddsOneReason path.now reasons.old.items reasons.new.items) }
 {
-    let why = why_no_query(alloc, schema, fields, line)?;
+    let why = why_no_ask(alloc, schema, fields, line)?;
     add_reason_at(alloc, reasons, path, line, why.as_str())
 }
 
-/// Returns whether a record is a query.
-fn is_query(alloc: Global, schema: &Schema, fields: &ByteRecord) -> Result<bool, NoMemory>
+/// Returns whether a record is a question over the table.
+fn is_ask(alloc: Global, schema: &TableSchema, fields: &ByteRecord) -> Result<bool, NoMemory>
     ensures { IfOk result (IsAskVerdict schema.now (fields_of fields.now)) }
+{
+    match schema {
+        TableSchema::Plain(schema) => is_query(alloc, schema, fields),
+        TableSchema::Logical(format) => is_question(alloc, format.logical(), fields),
+    }
+}
+
+/// Returns whether a record is a query over whole numbers.
+fn is_query(alloc: Global, schema: &Schema, fields: &ByteRecord) -> Result<bool, NoMemory>
+    ensures { IfOk result (IsAskVerdict (TableSchema.Plain schema.now) (fields_of fields.now)) }
 {
     let query = read_query(alloc, schema, fields)?;
     Ok(query.is_some())
+}
+
+/// Returns whether a record is a question over kinds, as `bsi ask` reads it.
+fn is_question(
+    alloc: Global,
+    logical: &LogicalSchema,
+    fields: &ByteRecord,
+) -> Result<bool, NoMemory>
+    ensures { IfOk result (IsAskVerdict (TableSchema.Logical logical.now) (fields_of fields.now)) }
+{
+    let lent = lend_fields(alloc, fields)?;
+    match read_question(alloc, logical, Grammar::Index, &lent) {
+        Ok(_) => Ok(true),
+        Err(QuestionError::Stopped(_)) => Ok(false),
+        Err(QuestionError::NoMemory) => Err(NoMemory),
+    }
 }

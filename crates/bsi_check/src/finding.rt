@@ -1,18 +1,16 @@
 //! What a check finds: of a row file, and of a file of questions.
 ghost use Rattle.std.specs.Prelude.{◌≤◌};
-ghost use Rattle.bsi_input.specs.Formats.{max_records};
 
 use bsi_input::SourceFault;
 
 /// How many records follow the header of a row file, and how many of them are bad.
 #[derive(Clone, Copy, Debug)]
 pub struct FileCounts {
-    /// All records, at most 1,000,000.
+    /// All records, at most as many as the format of the file has.
     pub records: u64,
     /// The bad ones among them.
     pub bad: u64,
     ghost fewer: { bad ≤ records },
-    ghost few: { records ≤ max_records },
 }
 
 /// What a check finds of a row file.
@@ -22,7 +20,7 @@ pub enum FileFinding {
     Counted(FileCounts),
     /// Its first record is no header, or there is none.
     NoHeader,
-    /// It can't be read, or has more than 1,000,000 records after its header.
+    /// It can't be read, or has more records after its header than its format has at most.
     Unread(SourceFault),
 }
 
@@ -32,8 +30,7 @@ impl FileFinding {
 
     /// Returns how many good records there are.
     pub(crate) fn good_count(&self) -> u64
-        ensures rows { result ≡ good_count self.now }
-        ensures few { result ≤ max_records }
+        ensures { result ≡ good_count self.now }
     {
         match self {
             FileFinding::Counted(counts) => counts.records - counts.bad,

@@ -1,6 +1,6 @@
 //! Writes the reasons of a check, a line each, and finds the line at which a record begins (`Lines`).
 ghost use Rattle.std.specs.Prelude.{◌≡◌, ◌-◌, ◌∷◌, ◌++◌, [], codes, if◌then◌else◌, OnOk};
-ghost use Rattle.bsi_check.specs.Reasons.{is_line_end, max_reasons, more_why, one_line, reason_line, AddsOneReason, AddsReasons};
+ghost use Rattle.bsi_check.specs.Reasons.{is_line_end, line_why, max_reasons, more_why, one_line, reason_line, AddsOneReason, AddsReasons};
 
 use crate::NoMemory;
 use crate::diagnostics::{count_line_feeds, count_lone_returns};
@@ -72,7 +72,9 @@ pub(crate) fn add_reason_at(
     at: u64,
     text: &str,
 ) -> Result<(), NoMemory>
-    ensures { OnOk result (AddsOneReason path.now reasons.old.items reasons.new.items) }
+    ensures exact { OnOk result (AddsReasons path.now (one_line (line_why at text.now) ∷ [])
+        reasons.old.items reasons.new.items) }
+    ensures one { OnOk result (AddsOneReason path.now reasons.old.items reasons.new.items) }
 {
     let why = format!(in alloc; "{at}: {text}")?;
     add_reason_line(reasons, path, why.as_str())

@@ -1,13 +1,15 @@
-//! Checks a schema file (`check_schema`): reads what it declares, or adds the reason why a run would not accept it.
+//! Checks a schema file (`check_schema`): reads the schema that it declares, of whole numbers or of kinds, or adds the
+//! reason why it declares none.
 
 ghost use Rattle.std.specs.Prelude.{IfOk, OnOk};
 ghost use Rattle.bsi_check.specs.Reasons.{AddsOneReason, IsSchemaChecked};
 
 use crate::NoMemory;
-use crate::diagnostics::why_bad_setup;
+use crate::diagnostics::{why_bad_setup, why_refused_setup};
 use crate::lines::{Lines, add_reason, add_reason_at};
 use crate::rows::add_unread;
-use bsi_input::{DeclaredTable, SchemaFault, SourceFault, plain_reader, read_next, read_schema};
+use bsi_input::{DeclaredTable, SourceFault, plain_reader, read_next};
+use bsi_logical::{DeclaredSchema, LogicalFault, Refusal, read_schema_file};
 use bsi_syntax::read_setup;
 use csv::ByteRecord;
 use std::alloc::Global;
@@ -20,7 +22,7 @@ pub(crate) fn check_schema<S: Read + Drop>(
     path: &str,
     mut file: S,
     reasons: &mut Vec<u8>,
-) -> Result<Option<DeclaredTable>, NoMemory>
+) -> Result<Option<DeclaredSchema>, NoMemory>
     ensures { IfOk result (λ finding. IsSchemaChecked path.now (S.remaining file) finding
         reasons.old.items reasons.new.items) }
 {
@@ -32,18 +34,18 @@ pub(crate) fn check_schema<S: Read + Drop>(
         add_unread(alloc, path, SourceFault::Read, reasons)?;
         return Ok(None);
     }
-    match read_schema(alloc, text.as_slice()) {
-        Ok(table) => Ok(Some(table)),
-        Err(SchemaFault::Source(fault)) => {
+    match read_schema_file(alloc, text.as_slice()) {
+        Ok(file) => Ok(Some(file)),
+        Err(LogicalFault::Source(fault)) => {
             add_unread(alloc, path, fault, reasons)?;
             Ok(None)
         }
-        Err(SchemaFault::NoColumns) => {
+        Err(LogicalFault::NoColumns) => {
             add_reason(alloc, reasons, path, "declares no column")?;
             Ok(None)
         }
-        Err(SchemaFault::BadRecord(number)) => {
-            add_bad_record(alloc, path, text.as_slice(), number, reasons)?;
+        Err(LogicalFault::BadRecord(number, why)) => {
+            add_bad_record(alloc, path, text.as_slice(), number, why, reasons)?;
             Ok(None)
         }
     }
@@ -55,28 +57,42 @@ fn add_bad_record(
     path: &str,
     text: &[u8],
     number: u64,
+    why: Refusal,
     reasons: &mut Vec<u8>,
 ) -> Result<(), NoMemory>
     ensures { OnOk result (AddsOneReason path.now reasons.old.items reasons.new.items) }
 {
     let mut fields = ByteRecord::new(alloc);
     let mut table = DeclaredTable::new(alloc);
-    let line = read_up_to(alloc, text, number, &mut fields, &mut table)?;
-    let why = why_bad_setup(alloc, &mut table.schema, &fields, line)?;
+    let (line, plain) = read_up_to(alloc, text, number, &mut fields, &mut table)?;
+    let why = if plain && is_plain(why) {
+        why_bad_setup(alloc, &mut table.schema, &fields, line)?
+    } else {
+        why_refused_setup(alloc, &fields, line, why)?
+    };
     add_reason_at(alloc, reasons, path, line, why.as_str())
 }
 
-/// Reads a schema up to its record of this number, from 1, carries out those before it, and returns the line of the
-/// record.
+/// Returns whether a record that is refused for this reason, behind records of columns and limits, is bad in a schema of
+/// whole numbers too, and says nothing of kinds.
+fn is_plain(why: Refusal) -> bool {
+    matches!(
+        why,
+        Refusal::UnknownWord | Refusal::BadTable | Refusal::NameTaken
+    )
+}
+
+/// Reads a schema up to its record of this number, from 1, carries out those before it that declare columns and limits,
+/// and returns the line of the record, and whether all before it were such.
 fn read_up_to(
     alloc: Global,
     text: &[u8],
     number: u64,
     fields: &mut ByteRecord,
     table: &mut DeclaredTable,
-) -> Result<u64, NoMemory> {
+) -> Result<(u64, bool), NoMemory> {
     let mut input = plain_reader(alloc, text);
-    let mut line = 0;
+    let (mut line, mut plain) = (0, true);
     let mut lines = Lines::new();
     'records: for before in 0..number {
         match read_next(&mut input, fields) {
@@ -89,8 +105,8 @@ fn read_up_to(
         lines.advance(fields, after);
         line = lines.line_of(fields, after);
         if before + 1 < number {
-            let _ = read_setup(alloc, &mut table.schema, &mut table.limit, fields)?;
+            plain &= read_setup(alloc, &mut table.schema, &mut table.limit, fields)?;
         }
     }
-    Ok(line)
+    Ok((line, plain))
 }

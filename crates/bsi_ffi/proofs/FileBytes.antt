@@ -1,5 +1,5 @@
 -- What the bytes in memory keep, of which a reader reported what it had.
-use Rattle.std.proofs.Common.{◌≡◌, inl, inr, ℕ, ◌<◌, ◌≤◌, List, [], ◌∷◌, ◌++◌, Option, None, Some, length, take, refl, sym, ap, subst, ◌∙◌, arith, length-append}
+use Rattle.std.proofs.Common.{◌≡◌, inl, inr, ℕ, ◌≤◌, List, [], ◌++◌, Option, None, Some, length, take, refl, sym, ap, subst, ◌∙◌, arith, length-append}
 use Rattle.std.specs.Prelude.{IfErr, Result, Ok, Err}
 use Rattle.std.specs.Io.KnownBytes.{Consumes}
 use Rattle.std.proofs.lemmas.List.{append-nil, take_at}
@@ -8,7 +8,9 @@ use Rattle.bsi_storage.specs.Faults.{EndsBy, IsFirstSegmentFault, IsOpened}
 use Rattle.bsi_storage.specs.declared.fault.OpenFault.{OpenFault}
 use Rattle.bsi_storage.specs.declared.fault.OpenFault.TheVariants.{CutShort, Damaged, NoMemory, NotAnIndex, OtherVersion, Read}
 use Rattle.bsi_storage.specs.Saved.{IsFileOf}
-use Rattle.bsi_ffi.specs.Calls.{file_refusal, BeginsWithFile, IsFileRefusal, IsFileWithKinds}
+use Rattle.bsi_ffi.specs.Calls.{file_refusal, BeginsWithFile, IsFileRefusal, SetsKinds}
+use Rattle.bsi_ffi.specs.Kinds.{IsKindsRefusal}
+use Rattle.bsi_ffi.specs.OpenIndex.{OpenIndex}
 use Rattle.bsi_ffi.specs.declared.refusal.Refusal.{Refusal}
 use Rattle.bsi_ffi.specs.declared.refusal.Refusal.TheVariants as refusal
 use Rattle.bsi_syntax.specs.Bytes.{KnownBytes}
@@ -60,20 +62,45 @@ module _ (bytes : List ℕ) (after : KnownBytes) (t : Table) (notes kinds : List
   refused_behind Read opened = begins_with_file (Some Read) opened
   refused_behind NoMemory opened = begins_with_file (Some NoMemory) opened
 
--- where nothing stands behind it, a text of kinds is refused
-pub refused_kinds : (bytes : List ℕ) (after : KnownBytes) (t : Table) (notes kinds : List ℕ) (size : ℕ) (met : Option OpenFault)
-    → met ≡ None → IsOpened (Some bytes) after t notes kinds size met → 0 < length kinds → IsFileWithKinds bytes size
-refused_kinds bytes after t notes kinds size met is opened some =
-    let all = all_are_file bytes after t notes kinds size (subst (λ (f : Option OpenFault). IsOpened (Some bytes) after t notes kinds size f) is opened) in
-    (t, notes, kinds, all.0, some, all.1)
+-- where nothing stands behind it, all bytes are a file
+pub whole_read : (bytes : List ℕ) (after : KnownBytes) (t : Table) (notes kinds : List ℕ) (size : ℕ) (met : Option OpenFault)
+    → met ≡ None → IsOpened (Some bytes) after t notes kinds size met → IsFileOf bytes t notes kinds × (size ≡ length bytes)
+whole_read bytes after t notes kinds size met is opened =
+    all_are_file bytes after t notes kinds size (subst (λ (f : Option OpenFault). IsOpened (Some bytes) after t notes kinds size f) is opened)
 
--- and the rest is a file without such a text
-pub plain_file : (bytes : List ℕ) (after : KnownBytes) (t : Table) (notes kinds : List ℕ) (size : ℕ) (met : Option OpenFault)
-    → met ≡ None → IsOpened (Some bytes) after t notes kinds size met → length kinds ≡ 0 → IsFileOf bytes t notes []
-plain_file bytes after t notes [] size met is opened none =
-    let all = all_are_file bytes after t notes [] size (subst (λ (f : Option OpenFault). IsOpened (Some bytes) after t notes [] size f) is opened) in
-    all.0
-plain_file bytes after t notes (byte ∷ kinds) size met is opened none = absurd (omega (arith, none))
+-- and its text of kinds is refused, or memory was
+pub refused_kinds : (bytes : List ℕ) (after : KnownBytes) (t : Table) (notes kinds : List ℕ) (size : ℕ) (met : Option OpenFault) (why : Refusal)
+    → met ≡ None → IsOpened (Some bytes) after t notes kinds size met → IsKindsRefusal kinds t.schema why → IsFileRefusal bytes size why
+refused_kinds bytes after t notes kinds size met refusal.BadKinds is opened bad =
+    let all = whole_read bytes after t notes kinds size met is opened in
+    (t, notes, kinds, all.0, bad, all.1)
+refused_kinds bytes after t notes kinds size met refusal.NoMemory is opened bad = begins_with_file bytes after t notes kinds size met opened
+refused_kinds bytes after t notes kinds size met refusal.Closed is opened bad = absurd bad
+refused_kinds bytes after t notes kinds size met refusal.Open is opened bad = absurd bad
+refused_kinds bytes after t notes kinds size met refusal.BadSchema is opened bad = absurd bad
+refused_kinds bytes after t notes kinds size met refusal.NoColumns is opened bad = absurd bad
+refused_kinds bytes after t notes kinds size met refusal.BadFeeder is opened bad = absurd bad
+refused_kinds bytes after t notes kinds size met refusal.BadColumns is opened bad = absurd bad
+refused_kinds bytes after t notes kinds size met refusal.BadRow is opened bad = absurd bad
+refused_kinds bytes after t notes kinds size met refusal.IndexFull is opened bad = absurd bad
+refused_kinds bytes after t notes kinds size met refusal.Shared is opened bad = absurd bad
+refused_kinds bytes after t notes kinds size met refusal.BadQuery is opened bad = absurd bad
+refused_kinds bytes after t notes kinds size met refusal.BufferTooSmall is opened bad = absurd bad
+refused_kinds bytes after t notes kinds size met refusal.BadText is opened bad = absurd bad
+refused_kinds bytes after t notes kinds size met refusal.LongNotes is opened bad = absurd bad
+refused_kinds bytes after t notes kinds size met refusal.NotAnIndex is opened bad = absurd bad
+refused_kinds bytes after t notes kinds size met refusal.OtherVersion is opened bad = absurd bad
+refused_kinds bytes after t notes kinds size met refusal.CutShort is opened bad = absurd bad
+refused_kinds bytes after t notes kinds size met refusal.Damaged is opened bad = absurd bad
+
+-- as what the index that was read is refused for
+pub refused_setting : {T : Type 0} (r : Result T Refusal) (bytes : List ℕ) (after : KnownBytes) (t : Table) (notes kinds : List ℕ) (size : ℕ) (met : Option OpenFault)
+    (before other : OpenIndex) (why : Refusal) → IfErr r (λ w. w ≡ why) → met ≡ None → IsOpened (Some bytes) after t notes kinds size met → before.table ≡ t
+    → SetsKinds before kinds other (Err why) → IfErr r (IsFileRefusal bytes size)
+refused_setting (Ok x) bytes after t notes kinds size met before other why same none opened is sets = tt
+refused_setting (Err w) bytes after t notes kinds size met before other why same none opened is sets =
+    subst (λ (w : Refusal). IsFileRefusal bytes size w) (sym same)
+    (refused_kinds bytes after t notes kinds size met why none opened (subst (λ (s : Table). IsKindsRefusal kinds s.schema why) is sets.0))
 
 -- the first byte's fault is the refusal's
 pub refused_first : (bytes : List ℕ) (after : KnownBytes) (fault : OpenFault) → IsFirstSegmentFault (Some bytes) after fault → IsFileRefusal bytes 0 (file_refusal fault)

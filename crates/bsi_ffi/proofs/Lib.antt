@@ -2,10 +2,12 @@ pub mod AsBox
 pub mod AskedOn
 pub mod Flat
 pub mod ColumnInputs
+pub mod CopiedLines
 pub mod InputRows
 pub mod FileBytes
 pub mod NotNullWords
 pub mod RowsByColumn
+pub mod SaidKinds
 pub mod Steps
 pub mod Statuses
 pub mod Zips

@@ -3,7 +3,7 @@ use Rattle.std.proofs.Common.{◌≡◌, ◌≢◌, ◌<◌, ℕ, ap, ◌∙◌,
 use Rattle.std.specs.Prelude.{Ok, Err, IfErr, OnErr, OnOk}
 use Rattle.bsi_ffi.specs.Statuses.{status_of, Ending}
 use Rattle.bsi_ffi.specs.declared.refusal.Refusal.{Refusal}
-use Rattle.bsi_ffi.specs.declared.refusal.Refusal.TheVariants.{BadColumns, BadFeeder, BadQuery, BadRow, BadSchema, BadText, BufferTooSmall, Closed, CutShort, Damaged, HasKinds, IndexFull, LongNotes, NoColumns, NoMemory, NotAnIndex, Open, OtherVersion, Shared}
+use Rattle.bsi_ffi.specs.declared.refusal.Refusal.TheVariants.{BadColumns, BadFeeder, BadKinds, BadQuery, BadRow, BadSchema, BadText, BufferTooSmall, Closed, CutShort, Damaged, IndexFull, LongNotes, NoColumns, NoMemory, NotAnIndex, Open, OtherVersion, Shared}
 
 -- where the status is not 0, the call was refused
 pub where_refused : (P : Type 0) (ending : Ending) (status : ℕ) → status ≡ status_of ending → OnErr ending P → status ≢ 0 → P
@@ -37,7 +37,7 @@ not_done NotAnIndex = omega arith
 not_done OtherVersion = omega arith
 not_done CutShort = omega arith
 not_done Damaged = omega arith
-not_done HasKinds = omega arith
+not_done BadKinds = omega arith
 
 -- where the status is 0, the call was done
 pub where_done : (P : Type 0) (ending : Ending) (status : ℕ) → status ≡ status_of ending → OnOk ending P → status ≡ 0 → P

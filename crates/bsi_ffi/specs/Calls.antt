@@ -20,29 +20,32 @@ use Rattle.bsi_rows.specs.declared.query.Pred.{Pred}
 use Rattle.bsi_rows.specs.declared.query.Query.{Query}
 use Rattle.bsi_input.specs.SchemaTexts.{DeclaresNoColumn, DeclaresTooLong, IsBadDeclaration, IsSchemaText}
 use Rattle.bsi_storage.specs.Faults.{IsFirstSegmentFault, IsOpened}
+use Rattle.bsi_logical.specs.Logical.{Logical}
 use Rattle.bsi_segments.specs.declared.version.Version.TheVariants.{Two}
-use Rattle.bsi_storage.specs.Saved.{head_segment, max_notes, IsFileOf, MayBeSaved}
+use Rattle.bsi_storage.specs.Saved.{head_segment, max_kinds, max_notes, IsFileOf, MayBeSaved}
 use Rattle.bsi_storage.specs.declared.fault.OpenFault.{OpenFault}
 use Rattle.bsi_storage.specs.declared.fault.OpenFault.TheVariants as open_fault
 use Rattle.bsi_ffi.specs.Columns.{are_columns, first_unlike, input_rows, row_count, row_of, AreAccepted, IsFirstMisfit, IsFirstRefusing}
-use Rattle.bsi_ffi.specs.OpenIndex.{OpenIndex}
+use Rattle.bsi_ffi.specs.Kinds.{AreBadKinds, IsKindsRefusal, SaysKinds}
+use Rattle.bsi_ffi.specs.OpenIndex.{IsOpenIndex, OpenIndex}
 use Rattle.bsi_ffi.specs.States.{is_shared, opened_in}
 use Rattle.bsi_ffi.specs.Statuses.{Ending}
 use Rattle.bsi_ffi.specs.declared.answers.FlatAnswer.{FlatAnswer}
 use Rattle.bsi_ffi.specs.declared.answers.Origin.{Origin}
 use Rattle.bsi_ffi.specs.declared.columns.ColumnInput.{ColumnInput}
 use Rattle.bsi_ffi.specs.declared.refusal.Refusal.{Refusal}
-use Rattle.bsi_ffi.specs.declared.refusal.Refusal.TheVariants.{BadColumns, BadFeeder, BadQuery, BadRow, BadSchema, BadText, BufferTooSmall, Closed, CutShort, Damaged, HasKinds, IndexFull, LongNotes, NoColumns, NoMemory, NotAnIndex, Open, OtherVersion, Shared}
+use Rattle.bsi_ffi.specs.declared.refusal.Refusal.TheVariants.{BadColumns, BadFeeder, BadKinds, BadQuery, BadRow, BadSchema, BadText, BufferTooSmall, Closed, CutShort, Damaged, IndexFull, LongNotes, NoColumns, NoMemory, NotAnIndex, Open, OtherVersion, Shared}
 use Rattle.bsi_ffi.specs.declared.state.HandleState.{HandleState}
 use Rattle.bsi_ffi.specs.declared.state.HandleState.TheVariants.{Moved, Owned, Shared as shared_state}
 
 -- ---- opening
 
--- An index without rows, of the schema and the limit that the text declares.
+-- An index without rows, of the schema and the limit that the text declares, of whole numbers.
 pub record IsNewIndex (text : Bytes) (feeders : ℕ) (opened : OpenIndex) : Type 0 where
   pub text_is : opened.text ≡ text
   pub declared : IsSchemaText text opened.table.schema opened.table.limit
   pub empty : opened.table ≡ no_rows opened.table.schema feeders opened.table.limit
+  pub whole : (opened.kinds ≡ []) × (opened.logical ≡ None)
 
 -- The text is refused. `number` is that of a bad record, else 0.
 abbrev pub IsTextRefusal : List ℕ → ℕ → Refusal → Type 0
@@ -256,16 +259,49 @@ IsDescribed opened bytes size (Err why) = ⊥
 abbrev pub IsDescribing : Option OpenIndex → List ℕ → ℕ → Ending → Type 0
 IsDescribing index bytes size ending = WhereOpen index (λ opened ending. IsDescribed opened bytes size ending) ending
 
+-- ---- kinds
+
+-- The index with another text of kinds.
+abbrev pub with_kinds : OpenIndex → Bytes → Option Logical → OpenIndex
+with_kinds opened kinds logical = record opened { kinds = kinds; logical = logical }
+
+-- The index gets this text of kinds, which says a logical schema of its columns, or none if it is empty.
+abbrev pub SetsKinds : OpenIndex → Bytes → OpenIndex → Ending → Type 0
+SetsKinds before kinds after (Ok done) =
+    (logical : Option Logical) × SaysKinds kinds before.table.schema logical × (length kinds ≤ max_kinds)
+    × (after ≡ with_kinds before kinds logical)
+SetsKinds before kinds after (Err why) = IsKindsRefusal kinds before.table.schema why × (after ≡ before)
+
+-- A handle gets a text of kinds if it alone owns an index.
+abbrev pub IsSettingKinds : Option HandleState → Bytes → Option HandleState → Ending → Type 0
+IsSettingKinds None kinds after ending = (ending ≡ Err Closed) × (after ≡ None)
+IsSettingKinds (Some (Owned opened)) kinds after ending =
+    (other : OpenIndex) × (after ≡ Some (Owned other)) × SetsKinds opened kinds other ending
+IsSettingKinds (Some (shared_state opened)) kinds after ending =
+    (ending ≡ Err Shared) × (after ≡ Some (shared_state opened))
+IsSettingKinds (Some Moved) kinds after ending = (ending ≡ Err Closed) × (after ≡ Some Moved)
+
+-- The first bytes are the text of kinds of the index, and say the logical schema of its columns, or none.
+abbrev pub TellsKinds : OpenIndex → List ℕ → ℕ → Ending → Type 0
+TellsKinds opened bytes size (Ok done) =
+    (size ≡ length opened.kinds) × (take size bytes ≡ opened.kinds)
+    × SaysKinds (take size bytes) opened.table.schema opened.logical
+TellsKinds opened bytes size (Err BufferTooSmall) = (size ≡ length opened.kinds) × (length bytes < size)
+TellsKinds opened bytes size (Err why) = ⊥
+
+abbrev pub IsTellingKinds : Option OpenIndex → List ℕ → ℕ → Ending → Type 0
+IsTellingKinds index bytes size ending = WhereOpen index (λ opened ending. TellsKinds opened bytes size ending) ending
+
 -- ---- saving
 
--- The first bytes are a file of the index with these notes, and no text of kinds.
+-- The first bytes are a file of the index with these notes and its text of kinds.
 abbrev pub IsSerialized : OpenIndex → List ℕ → List ℕ → ℕ → Ending → Type 0
 IsSerialized opened notes bytes size (Ok done) =
-    (length notes ≤ max_notes) × (size ≡ length (head_segment opened.table notes []))
-    × (take size bytes ≡ head_segment opened.table notes []) × MayBeSaved Two opened.table notes []
+    (length notes ≤ max_notes) × (size ≡ length (head_segment opened.table notes opened.kinds))
+    × (take size bytes ≡ head_segment opened.table notes opened.kinds) × MayBeSaved Two opened.table notes opened.kinds
 IsSerialized opened notes bytes size (Err LongNotes) = max_notes < length notes
 IsSerialized opened notes bytes size (Err BufferTooSmall) =
-    (length notes ≤ max_notes) × (size ≡ length (head_segment opened.table notes [])) × (length bytes < size)
+    (length notes ≤ max_notes) × (size ≡ length (head_segment opened.table notes opened.kinds)) × (length bytes < size)
 IsSerialized opened notes bytes size (Err NoMemory) = Unit {0}
 IsSerialized opened notes bytes size (Err why) = ⊥
 
@@ -294,10 +330,10 @@ abbrev pub BeginsWithFile : List ℕ → ℕ → Type 0
 BeginsWithFile bytes whole =
     (whole ≡ 0) ⊎ ((whole ≤ length bytes) × (t : Table) × (notes kinds : Bytes) × IsFileOf (take whole bytes) t notes kinds)
 
--- All bytes are a file, and it has a text of kinds.
-abbrev pub IsFileWithKinds : List ℕ → ℕ → Type 0
-IsFileWithKinds bytes whole =
-    (t : Table) × (notes kinds : Bytes) × IsFileOf bytes t notes kinds × (0 < length kinds) × (whole ≡ length bytes)
+-- All bytes are a file, whose text of kinds says nothing of its columns.
+abbrev pub HasBadKinds : List ℕ → ℕ → Type 0
+HasBadKinds bytes whole =
+    (t : Table) × (notes kinds : Bytes) × IsFileOf bytes t notes kinds × AreBadKinds kinds t.schema × (whole ≡ length bytes)
 
 -- The bytes are refused. The first `whole` bytes are a file, or there are none.
 abbrev pub IsFileRefusal : List ℕ → ℕ → Refusal → Type 0
@@ -306,18 +342,18 @@ IsFileRefusal bytes whole OtherVersion = MeetsFaultAfter bytes whole open_fault.
 IsFileRefusal bytes whole CutShort = MeetsFaultAfter bytes whole open_fault.CutShort
 IsFileRefusal bytes whole Damaged = MeetsFaultAfter bytes whole open_fault.Damaged
 IsFileRefusal bytes whole NoMemory = BeginsWithFile bytes whole
-IsFileRefusal bytes whole HasKinds = IsFileWithKinds bytes whole
+IsFileRefusal bytes whole BadKinds = HasBadKinds bytes whole
 IsFileRefusal bytes whole why = ⊥
 
--- The bytes are a file of the index without a text of kinds. The index's text declares its schema and limit.
+-- The bytes are a file of the index, with its text of kinds, and the index's texts speak of its columns.
 pub record IsIndexOfFile (bytes notes : Bytes) (opened : OpenIndex) : Type 0 where
-  pub file : IsFileOf bytes opened.table notes []
-  pub declared : IsSchemaText opened.text opened.table.schema opened.table.limit
+  pub file : IsFileOf bytes opened.table notes opened.kinds
+  pub describes : IsOpenIndex opened
 
--- The file has no text of kinds, and notes of `size` bytes, too many for the buffer.
+-- The file has notes of `size` bytes, too many for the buffer.
 abbrev pub AreNotesTooLong : List ℕ → List ℕ → ℕ → Type 0
 AreNotesTooLong bytes out size =
-    (t : Table) × (notes : Bytes) × IsFileOf bytes t notes [] × (size ≡ length notes) × (length out < size)
+    (t : Table) × (notes kinds : Bytes) × IsFileOf bytes t notes kinds × (size ≡ length notes) × (length out < size)
 
 -- A closed handle gets the index of the file, and the buffer gets the notes.
 abbrev pub IsReopening : Option HandleState → List ℕ → List ℕ → ℕ → ℕ → Option HandleState → Ending → Type 0

@@ -1,6 +1,8 @@
 pub mod Calls
 pub mod Columns
 pub mod Groups
+pub mod Kinds
+pub mod Lines
 pub mod Memory
 pub mod Numbers
 pub mod OpenIndex

@@ -1,7 +1,7 @@
 -- The numbers by which C knows how a call ended.
 use Rattle.std.specs.Prelude.{◌≡◌, ℕ, Result, Ok, Err}
 use Rattle.bsi_ffi.specs.declared.refusal.Refusal.{Refusal}
-use Rattle.bsi_ffi.specs.declared.refusal.Refusal.TheVariants.{BadColumns, BadFeeder, BadQuery, BadRow, BadSchema, BadText, BufferTooSmall, Closed, CutShort, Damaged, HasKinds, IndexFull, LongNotes, NoColumns, NoMemory, NotAnIndex, Open, OtherVersion, Shared}
+use Rattle.bsi_ffi.specs.declared.refusal.Refusal.TheVariants.{BadColumns, BadFeeder, BadKinds, BadQuery, BadRow, BadSchema, BadText, BufferTooSmall, Closed, CutShort, Damaged, IndexFull, LongNotes, NoColumns, NoMemory, NotAnIndex, Open, OtherVersion, Shared}
 
 -- How a call ended: it was done, or refused.
 abbrev pub Ending : Type 0
@@ -27,7 +27,7 @@ status_of (Err NotAnIndex) = 15
 status_of (Err OtherVersion) = 16
 status_of (Err CutShort) = 17
 status_of (Err Damaged) = 18
-status_of (Err HasKinds) = 19
+status_of (Err BadKinds) = 19
 
 -- The status is that of an ending which satisfies `Is`.
 abbrev pub ReturnsStatus : ℕ → (Ending → Type 0) → Type 0

@@ -1,8 +1,9 @@
 //! The calls of the C library: each opens a closed handle, or appends to, asks, saves, shares or closes an open one.
 
 ghost use Rattle.std.specs.Prelude.{◌≡◌, ◌≢◌, None, drop, is_some, length, map, IfErr, OnErr, OnOk};
-ghost use Rattle.bsi_ffi.specs.Calls.{IsAppending, IsAsking, IsClosing, IsCounting, IsDescribing, IsOpening, IsReopening, IsReserving, IsSaving, IsSelecting, IsSharing, LeavesRest, LeavesWords};
+ghost use Rattle.bsi_ffi.specs.Calls.{IsAppending, IsAsking, IsClosing, IsCounting, IsDescribing, IsOpening, IsReopening, IsReserving, IsSaving, IsSelecting, IsSettingKinds, IsSharing, IsTellingKinds, LeavesRest, LeavesWords};
 ghost use Rattle.bsi_ffi.specs.Groups.{IsGrouping};
+ghost use Rattle.bsi_ffi.specs.Lines.{IsAnsweringByLine};
 ghost use Rattle.bsi_ffi.specs.Memory.{IsMeasuring};
 ghost use Rattle.bsi_ffi.specs.Numbers.{IsCountingDistinct, IsFindingQuantile, IsRanking};
 ghost use Rattle.bsi_ffi.specs.Pairs.{IsGroupingByTwo};
@@ -16,6 +17,7 @@ use crate::handle::{Handle, attach_state, detach_state};
 use crate::memory::index_bytes;
 use crate::numbers::{reply_distinct, reply_quantile, reply_ranks};
 use crate::pairs::{FlatEntry, FlatPair, reply_pairs};
+use crate::record_line::reply_line;
 use crate::refusal::Refusal;
 use crate::schema_text::open_text;
 use crate::selection::write_mask;
@@ -138,6 +140,24 @@ pub fn ask(
     ensures rest_unchanged { OnOk result (LeavesRest answer.new origins.old origins.new) }
 {
     ask_open!(alloc, index, opened => reply(alloc, opened, fields, answer, origins))
+}
+
+/// Writes the line by which `bsi ask` answers a record of these fields, and its length.
+pub fn answer_line(
+    alloc: Global,
+    index: &mut Handle,
+    fields: &[&[u8]],
+    line: &mut [u8],
+    size: &mut usize,
+) -> Result<(), Refusal>
+    ensures ending { IsAnsweringByLine (opened_in index.old.pointer.value)
+        (map (λ f. f.now) fields.now) line.new size.new result }
+    ensures unchanged { index.new.pointer.value ≡ index.old.pointer.value }
+    ensures size_unchanged { IfErr result (λ why. why ≢ Refusal.BufferTooSmall → size.new ≡ size.old) }
+    ensures line_unchanged { OnErr result (line.new ≡ line.old) }
+    ensures rest_unchanged { OnOk result (drop size.new line.new ≡ drop size.new line.old) }
+{
+    ask_open!(alloc, index, opened => reply_line(alloc, opened, fields, line, size))
 }
 
 /// Puts the rows that the query of the fields selects in groups by their entry in the column of this name, and writes
@@ -322,6 +342,35 @@ pub fn describe(
     ensures rest_unchanged { OnOk result (drop size.new text.new ≡ drop size.new text.old) }
 {
     ask_open!(alloc, index, opened => opened.describe(text, size))
+}
+
+/// Gives the index of a handle this text of kinds in place of its own.
+pub fn set_kinds(alloc: Global, index: &mut Handle, kinds: &[u8]) -> Result<(), Refusal>
+    ensures ending { IsSettingKinds index.old.pointer.value kinds.now index.new.pointer.value result }
+    ensures unchanged { OnErr result (index.new.pointer.value ≡ index.old.pointer.value) }
+{
+    let Some(mut state) = detach_state(index, alloc) else {
+        return Err(Refusal::Closed);
+    };
+    let ending = state.set_kinds(alloc, kinds);
+    attach_state(index, state);
+    ending
+}
+
+/// Writes the text of kinds, if the buffer is large enough, and its length.
+pub fn tell_kinds(
+    alloc: Global,
+    index: &mut Handle,
+    text: &mut [u8],
+    size: &mut usize,
+) -> Result<(), Refusal>
+    ensures ending { IsTellingKinds (opened_in index.old.pointer.value) text.new size.new result }
+    ensures unchanged { index.new.pointer.value ≡ index.old.pointer.value }
+    ensures size_unchanged { IfErr result (λ why. why ≢ Refusal.BufferTooSmall → size.new ≡ size.old) }
+    ensures text_unchanged { OnErr result (text.new ≡ text.old) }
+    ensures rest_unchanged { OnOk result (drop size.new text.new ≡ drop size.new text.old) }
+{
+    ask_open!(alloc, index, opened => opened.tell_kinds(text, size))
 }
 
 /// Writes the file of the index with these notes, if the buffer is large enough, and how many they are.

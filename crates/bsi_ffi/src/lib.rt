@@ -9,10 +9,12 @@ mod calls;
 mod columns;
 mod groups;
 mod handle;
+mod kinds_text;
 mod memory;
 mod numbers;
 mod open_index;
 mod pairs;
+mod record_line;
 mod refusal;
 mod schema_text;
 mod selection;
@@ -23,8 +25,9 @@ mod validation;
 
 pub use answers::{COUNT, FlatAnswer, Origin, ROWS, SUM, VALUE};
 pub use calls::{
-    append, ask, close, count, count_distinct, describe, first_rows, group, group_pairs,
-    memory_bytes, open, open_saved, quantile, ranked, reserve, save, select, share,
+    answer_line, append, ask, close, count, count_distinct, describe, first_rows, group,
+    group_pairs, memory_bytes, open, open_saved, quantile, ranked, reserve, save, select,
+    set_kinds, share, tell_kinds,
 };
 pub use columns::ColumnInput;
 pub use groups::FlatGroup;

@@ -1,44 +1,70 @@
-//! The index behind a handle, and the text that declared its columns and its limit (`OpenIndex`).
+//! The index behind a handle, the text that declared its columns and its limit, and its text of kinds (`OpenIndex`).
 
-ghost use Rattle.std.specs.Prelude.{◌≡◌, IfErr, OnErr, drop, OnOk};
+ghost use Rattle.std.specs.Prelude.{◌≡◌, ◌≤◌, [], None, IfErr, OnErr, drop, length, option_map, OnOk};
 ghost use Rattle.bsi_input.specs.SchemaTexts.{IsSchemaText};
-ghost use Rattle.bsi_ffi.specs.Calls.{with_table, AppendsColumns, IsDescribed, IsReservingRows};
+ghost use Rattle.bsi_storage.specs.Saved.{max_kinds};
+ghost use Rattle.bsi_ffi.specs.Calls.{with_table, AppendsColumns, IsDescribed, IsReservingRows, SetsKinds, TellsKinds};
+ghost use Rattle.bsi_ffi.specs.Kinds.{SaysKinds};
 ghost use Rattle.bsi_table.specs.Index.{table_of};
 
 use crate::blocks::append_columns;
 use crate::columns::ColumnInput;
+use crate::kinds_text::read_kinds;
 use crate::refusal::Refusal;
+use crate::serialization::copy_out;
+use bsi_logical::LogicalSchema;
 use bsi_table::Index;
+use std::alloc::Global;
 use std::marker::Model;
 
-/// An index, and the text that declared its columns and its limit.
+/// An index, the text that declared its columns and its limit, and what its numbers stand for, by a text of kinds.
 #[derive(Drop)]
 pub struct OpenIndex {
     text: Vec<u8>,
     index: Index,
+    /// No bytes if the numbers are whole numbers.
+    kinds: Vec<u8>,
+    /// What the text of kinds says.
+    logical: Option<LogicalSchema>,
 }
 
-// Clauses see the bytes of the text, and what the index shows.
+// Clauses see the bytes of the texts, what the index shows, and what the text of kinds says.
 impl Model for OpenIndex {
+    ghost use Rattle.std.specs.Prelude.{◌≤◌, length};
     ghost use Rattle.bsi_input.specs.SchemaTexts.{IsSchemaText};
+    ghost use Rattle.bsi_storage.specs.Saved.{max_kinds};
+    ghost use Rattle.bsi_ffi.specs.Kinds.{SaysKinds};
     ghost use Rattle.bsi_ffi.specs.OpenIndex.{OpenIndex};
     ghost use Rattle.bsi_table.specs.Index.{table_of};
 
     ghost Value = { OpenIndex };
 
-    ghost view = { λ o. record { text = o.text.items; table = table_of o.index } };
+    ghost view = { λ o. record {
+      text = o.text.items;
+      table = table_of o.index;
+      kinds = o.kinds.items;
+      logical = o.logical;
+    } };
 
-    ghost invariant = { λ o. IsSchemaText o.text.items o.index.schema o.index.limit };
+    ghost invariant = { λ o. IsSchemaText o.text.items o.index.schema o.index.limit
+        × SaysKinds o.kinds.items o.index.schema o.logical
+        × (length o.kinds.items ≤ max_kinds) };
 }
 
 impl OpenIndex {
-    /// Puts an index beside the text that declared its columns.
-    pub(crate) fn new(text: Vec<u8>, index: Index) -> OpenIndex
+    /// Puts an index of whole numbers beside the text that declared its columns.
+    pub(crate) fn new(alloc: Global, text: Vec<u8>, index: Index) -> OpenIndex
         requires { IsSchemaText text.items index.schema index.limit }
         ensures text { result.text ≡ text.items }
         ensures table { result.table ≡ table_of index }
+        ensures kinds { (result.kinds ≡ []) × (result.logical ≡ None) }
     {
-        OpenIndex { text, index }
+        OpenIndex {
+            text,
+            index,
+            kinds: Vec::new(alloc),
+            logical: None,
+        }
     }
 
     /// Lends the index.
@@ -54,6 +80,42 @@ impl OpenIndex {
         ensures declares { IsSchemaText result.now self.now.table.schema self.now.table.limit }
     {
         &self.text
+    }
+
+    /// Lends the text of kinds.
+    pub(crate) fn kinds(&self) -> &[u8]
+        ensures kinds { result.now ≡ self.now.kinds }
+        ensures few { length result.now ≤ max_kinds }
+        ensures says { SaysKinds result.now self.now.table.schema self.now.logical }
+    {
+        &self.kinds
+    }
+
+    /// Lends what the text of kinds says.
+    pub(crate) fn logical(&self) -> Option<&LogicalSchema>
+        ensures { option_map (λ logical. logical.now) result ≡ self.now.logical }
+    {
+        self.logical.as_ref()
+    }
+
+    /// Gives the index this text of kinds in place of its own.
+    pub(crate) fn set_kinds(&mut self, alloc: Global, kinds: Vec<u8>) -> Result<(), Refusal>
+        ensures { SetsKinds self.old kinds.items self.new result }
+    {
+        let logical = read_kinds(alloc, &kinds, self.index.schema())?;
+        self.kinds = kinds;
+        self.logical = logical;
+        Ok(())
+    }
+
+    /// Writes the text of kinds, if the buffer is large enough, and its length.
+    pub(crate) fn tell_kinds(&self, text: &mut [u8], size: &mut usize) -> Result<(), Refusal>
+        ensures told { TellsKinds self.now text.new size.new result }
+        ensures text_unchanged { OnErr result (text.new ≡ text.old) }
+        ensures rest_unchanged { OnOk result (drop size.new text.new ≡ drop size.new text.old) }
+        ensures short { IfErr result (λ why. why ≡ Refusal.BufferTooSmall) }
+    {
+        copy_out(self.kinds(), text, size)
     }
 
     /// Writes the text, if the buffer is large enough, and its length.

@@ -44,8 +44,8 @@ pub enum Refusal {
     CutShort,
     /// A segment is not as it was written.
     Damaged,
-    /// They have a text of kinds, which no handle has.
-    HasKinds,
+    /// The text of kinds says nothing of the columns, or has more than 67,108,864 bytes.
+    BadKinds,
 }
 
 impl From<AllocError> for Refusal {
@@ -82,6 +82,6 @@ pub fn status_of(ending: Result<(), Refusal>) -> u32
         Err(Refusal::OtherVersion) => 16,
         Err(Refusal::CutShort) => 17,
         Err(Refusal::Damaged) => 18,
-        Err(Refusal::HasKinds) => 19,
+        Err(Refusal::BadKinds) => 19,
     }
 }

@@ -29,7 +29,7 @@ pub(crate) fn open_text(
         // There is a column, and the limit is that of a record, so only memory can be refused.
         return Err(Refusal::NoMemory);
     };
-    Ok(OpenIndex::new(text.to_vec(alloc)?, index))
+    Ok(OpenIndex::new(alloc, text.to_vec(alloc)?, index))
 }
 
 /// Reads the columns and the limit that the text declares. If a record is bad, it writes the record's number, from 1.

@@ -1,8 +1,8 @@
 //! Turns an index into the bytes of a file, and opens such bytes again.
 
-ghost use Rattle.std.specs.Prelude.{◌≡◌, ◌≢◌, ◌<◌, ◌≤◌, [], IfErr, IfOk, OnErr, OnOk, drop, length, take};
-ghost use Rattle.bsi_input.specs.SchemaTexts.{IsSchemaText};
+ghost use Rattle.std.specs.Prelude.{◌≡◌, ◌≢◌, ◌<◌, ◌≤◌, IfErr, IfOk, OnErr, OnOk, drop, length, take};
 ghost use Rattle.bsi_ffi.specs.Calls.{file_refusal, IsFileRefusal, IsSerialized};
+ghost use Rattle.bsi_ffi.specs.OpenIndex.{IsOpenIndex};
 ghost use Rattle.bsi_storage.specs.Saved.{IsFileOf};
 
 use crate::open_index::OpenIndex;
@@ -36,7 +36,7 @@ pub(crate) fn serialize(
     }
     let mut file = Vec::new(alloc);
     // A vector takes each byte, unless memory is refused.
-    if write_index(alloc, opened.index(), notes, &[], &mut file).is_err() {
+    if write_index(alloc, opened.index(), notes, opened.kinds(), &mut file).is_err() {
         return Err(Refusal::NoMemory);
     }
     copy_out(&file, bytes, size)
@@ -67,9 +67,9 @@ pub(crate) fn open_bytes(
     whole: &mut u64,
 ) -> Result<NotedIndex, Refusal>
     requires { whole.old ≡ 0 }
-    ensures loaded { IfOk result (λ loaded. IsFileOf bytes.now loaded.opened.table loaded.notes.items []) }
-    ensures declares { IfOk result (λ loaded. IsSchemaText loaded.opened.text
-        loaded.opened.table.schema loaded.opened.table.limit) }
+    ensures loaded { IfOk result (λ loaded. IsFileOf bytes.now loaded.opened.table loaded.notes.items
+        loaded.opened.kinds) }
+    ensures describes { IfOk result (λ loaded. IsOpenIndex loaded.opened) }
     ensures whole { OnOk result (whole.new ≡ length bytes.now) }
     ensures refused { IfErr result (IsFileRefusal bytes.now whole.new) }
 {
@@ -82,13 +82,11 @@ pub(crate) fn open_bytes(
     if let Some(fault) = loaded.fault {
         return Err(refusal_of(fault));
     }
-    // A handle has no such text, so saving it would lose the text.
-    if !loaded.kinds.is_empty() {
-        return Err(Refusal::HasKinds);
-    }
     let text = describe_schema(alloc, loaded.index.schema(), loaded.index.limit())?;
+    let mut opened = OpenIndex::new(alloc, text, loaded.index);
+    opened.set_kinds(alloc, loaded.kinds)?;
     Ok(NotedIndex {
-        opened: OpenIndex::new(text, loaded.index),
+        opened,
         notes: loaded.notes,
     })
 }

@@ -2,7 +2,7 @@
 //! accepts no rows.
 
 ghost use Rattle.std.specs.Prelude.{◌≡◌, ◌≢◌, Some, option_map, IfErr, IfOk};
-ghost use Rattle.bsi_ffi.specs.Calls.{HoldsShared, IsAppending, IsReserving, IsShareRefusal};
+ghost use Rattle.bsi_ffi.specs.Calls.{HoldsShared, IsAppending, IsReserving, IsSettingKinds, IsShareRefusal};
 ghost use Rattle.bsi_ffi.specs.States.{opened_in};
 
 use crate::columns::ColumnInput;
@@ -63,6 +63,17 @@ impl HandleState {
         *column = 0;
         match self {
             HandleState::Owned(opened) => opened.append(feeder, columns, row, column),
+            HandleState::Shared(_) => Err(Refusal::Shared),
+            HandleState::Moved => Err(Refusal::Closed),
+        }
+    }
+
+    /// Gives the index this text of kinds in place of its own, if one handle alone owns the index.
+    pub(crate) fn set_kinds(&mut self, alloc: Global, kinds: &[u8]) -> Result<(), Refusal>
+        ensures { IsSettingKinds (Some self.old) kinds.now (Some self.new) result }
+    {
+        match self {
+            HandleState::Owned(opened) => opened.set_kinds(alloc, kinds.to_vec(alloc)?),
             HandleState::Shared(_) => Err(Refusal::Shared),
             HandleState::Moved => Err(Refusal::Closed),
         }

@@ -1,17 +1,16 @@
 -- For callers: a column of texts has no null words, and candidates of texts alone come to one.
-use Rattle.std.proofs.Common.{◌≡◌, ℕ, Bool, true, false, List, [], Some, None, unwrap_or, if◌then◌else◌, refl, sym, ap, subst, ◌∙◌}
+use Rattle.std.proofs.Common.{◌≡◌, ℕ, Bool, true, false, List, [], Option, Some, None, unwrap_or, if◌then◌else◌, refl, sym, ap, subst, ◌∙◌}
 use Rattle.bsi_rows.specs.Fields.{Field}
-use Rattle.bsi_kinds.specs.Decimals.{decimal_entry}
 use Rattle.bsi_kinds.specs.declared.kind.Kind.{Kind}
 use Rattle.bsi_kinds.specs.declared.kind.Kind.TheVariants.{Boolean, Date, Decimal, Text, Time}
 use Rattle.bsi_inference.specs.Choices.{choice_of, decimal_choice}
-use Rattle.bsi_inference.specs.Decimals.{is_plain_decimal, AcceptsDecimal}
+use Rattle.bsi_inference.specs.Decimals.{is_plain_decimal, number_by, AcceptsDecimal}
 use Rattle.bsi_inference.specs.Decisions.{Decides, DecidesChoice, DecidesTexts}
 use Rattle.bsi_inference.specs.Forms.{IsOfForm}
 use Rattle.bsi_inference.specs.Seen.{CoversSome}
 use Rattle.bsi_inference.specs.declared.candidates.Candidates.{Candidates}
 use Rattle.bsi_inference.specs.declared.choice.Choice.{Choice}
-use Rattle.bsi_inference.specs.declared.choice.Choice.TheVariants.{Nothing, Decimals, Form as FormChoice, Digits, Orders, Texts}
+use Rattle.bsi_inference.specs.declared.choice.Choice.TheVariants.{Nothing, Decimals, Rounded, Form as FormChoice, Digits, Orders, Texts}
 use Rattle.bsi_inference.specs.declared.decimals.Decimals.{Decimals as DecimalsSeen}
 use Rattle.bsi_inference.specs.declared.decision.Column.{Column}
 use Rattle.bsi_inference.specs.declared.decision.Decision.TheVariants.{Column as DecidedColumn}
@@ -34,24 +33,26 @@ by_state All texts column has = (has.kind, has.nulls)
 by_state Missing texts column is = absurd (cc)
 by_state TooMany texts column is = absurd (cc)
 
-words_none : (state : Gathering) (texts : List Field) (choice : Choice) (column : Column) → DecidesChoice state texts choice (DecidedColumn column)
+words_none : (state : Gathering) (texts nulls : List Field) (choice : Choice) (column : Column) → DecidesChoice state texts nulls choice (DecidedColumn column)
     → (own : List Field) → column.kind ≡ Text own → column.nulls.items ≡ []
-words_none state texts Nothing column decides own text = absurd decides
-words_none state texts (Decimals places span) column decides own text = let other = decides.0 in absurd (cc)
-words_none state texts (FormChoice form span) column decides own text = absurd (form_kind form own (subst (λ (k : Kind). IsOfForm form k) text decides.0))
-words_none state texts (Digits places) column is own text = absurd (cc)
-words_none state texts (Orders sign) column is own text = absurd (cc)
-words_none state texts Texts column decides own text = (by_state state texts column decides).1
+words_none state texts nulls Nothing column decides own text = absurd decides
+words_none state texts nulls (Decimals places span) column decides own text = let other = decides.0 in absurd (cc)
+words_none state texts nulls (Rounded places span) column decides own text = let other = decides.0 in absurd (cc)
+words_none state texts nulls (FormChoice form span) column decides own text = absurd (form_kind form own (subst (λ (k : Kind). IsOfForm form k) text decides.0))
+words_none state texts nulls (Digits places) column is own text = absurd (cc)
+words_none state texts nulls (Orders sign) column is own text = absurd (cc)
+words_none state texts nulls Texts column decides own text = (by_state state texts column decides).1
 
 -- a column of texts has no null words
 pub no_words : (c : Candidates) (column : Column) (texts : List Field) → Decides c (DecidedColumn column) → column.kind ≡ Text texts → column.nulls.items ≡ []
-no_words c column texts decides text = words_none c.gathered.state c.gathered.texts (choice_of c.decimals c.forms.items) column decides texts text
+no_words c column texts decides text = words_none c.gathered.state c.gathered.texts c.nulls (choice_of c.decimals c.forms.items) column decides texts text
 
 -- ---- a column that may have texts alone
 
 -- the empty field is no decimal
-nothing_spelled : (point places : ℕ) → decimal_entry point places [] ≡ None
-nothing_spelled point places = refl
+nothing_spelled : (rounding : Option ℕ) (point places : ℕ) → number_by rounding point places [] ≡ None
+nothing_spelled None point places = refl
+nothing_spelled (Some rounding) point places = refl
 
 not_plain : (point : ℕ) → is_plain_decimal point [] ≡ false
 not_plain point = refl
@@ -60,10 +61,10 @@ texts_alone : (point : ℕ) (decimals : DecimalsSeen) → ((f : Field) → Accep
 texts_alone point decimals accepts = by decimals.seen refl decimals.spelled refl
   where
     by : (seen : Seen) → decimals.seen ≡ seen → (plain : Bool) → decimals.spelled ≡ plain → decimal_choice decimals.seen decimals [] ≡ Texts
-    by NothingSeen is plain known = absurd (subst (λ (s : Seen). CoversSome s (λ n. decimal_entry point decimals.places [] ≡ Some n)) is (accepts []).number)
+    by NothingSeen is plain known = absurd (subst (λ (s : Seen). CoversSome s (λ n. number_by decimals.rounding point decimals.places [] ≡ Some n)) is (accepts []).number)
     by (Numbers span) is plain known =
-        let covers = subst (λ (s : Seen). CoversSome s (λ n. decimal_entry point decimals.places [] ≡ Some n)) is (accepts []).number in
-        let none = nothing_spelled point decimals.places in
+        let covers = subst (λ (s : Seen). CoversSome s (λ n. number_by decimals.rounding point decimals.places [] ≡ Some n)) is (accepts []).number in
+        let none = nothing_spelled decimals.rounding point decimals.places in
         let some = covers.1 in
         absurd (cc)
     by RuledOut is true known =
@@ -79,5 +80,5 @@ pub text_kind : (c : Candidates) (column : Column) → c.forms.items ≡ [] → 
 text_kind c column forms accepts decides =
     let choice = ap (choice_of c.decimals) forms ∙ texts_alone c.point c.decimals accepts in
     let by_texts : DecidesTexts c.gathered.state c.gathered.texts (DecidedColumn column) =
-    subst (λ (ch : Choice). DecidesChoice c.gathered.state c.gathered.texts ch (DecidedColumn column)) choice decides in
+    subst (λ (ch : Choice). DecidesChoice c.gathered.state c.gathered.texts c.nulls ch (DecidedColumn column)) choice decides in
     (by_state c.gathered.state c.gathered.texts column by_texts).0

@@ -41,9 +41,9 @@ module _ (c : Candidates) (kind : Kind) (span : Span) (reads : (f : List ℕ) �
 
 -- a column of a form is what was meant
 pub column_meant : (state : Gathering) (texts : List (List ℕ)) (choice : Choice) (form : Form) (kind : Kind) (span : Span) (nulls : List (List ℕ)) → choice ≡ FormChoice form span
-    → IsOfForm form kind → (d : Decision) → IsColumnOf kind span nulls d → DecidesChoice state texts choice d
+    → IsOfForm form kind → (d : Decision) → IsColumnOf kind span nulls d → DecidesChoice state texts nulls choice d
 column_meant state texts choice form kind span nulls is of (DecidedColumn column) made =
-    subst (λ (ch : Choice). DecidesChoice state texts ch (DecidedColumn column)) (sym is) (subst (λ (k : Kind). IsOfForm form k) (sym made.0) of, made.1)
+    subst (λ (ch : Choice). DecidesChoice state texts nulls ch (DecidedColumn column)) (sym is) (subst (λ (k : Kind). IsOfForm form k) (sym made.0) of, made.1, made.2)
 column_meant state texts choice form kind span nulls is of (Nulls words) made = absurd made
 column_meant state texts choice form kind span nulls is of (InDoubt doubt) made = absurd made
 

@@ -91,6 +91,7 @@ missing_has g f is = subst (λ (s : Gathering). HasTextIn s g.texts f) (sym is) 
 pub next_alike : (field : List ℕ) (old new : Candidates) → HasNextKinds field old new → HaveSameForms old new
 next_alike field old new next = record {
   point = sym next.point;
+  rounding = sym next.decimals.rounding;
   forms = forms_stay old.forms.items new.forms.items next.forms.len (λ k d within. let step = next.forms.each k d within in step.form);
 }
 
@@ -130,4 +131,4 @@ module _ (old other new : Candidates) (alike : HaveSameForms old other) (point :
   join_joined nulls text f accepts = record { value = null_or other nulls second_value f accepts.value; text = empty_or other text f accepts.text }
 
   pub join_alike : HaveSameForms old new
-  join_alike = record { point = sym point; forms = forms_stay old.forms.items new.forms.items forms.len (λ k d within. let step = forms.each k d within in step.form) }
+  join_alike = record { point = sym point; rounding = sym decimals.rounding; forms = forms_stay old.forms.items new.forms.items forms.len (λ k d within. let step = forms.each k d within in step.form) }

@@ -1,15 +1,18 @@
 -- Decimals at more places.
-use Rattle.std.proofs.Common.{◌≡◌, ℕ, ◌+◌, ◌*◌, ◌/◌, ◌%◌, ◌^◌, inl, inr, Bool, true, false, List, Option, Some, None, is_some, option_map, option_and_then, if◌then◌else◌, ℤ, pos, ◌*ℤ◌, ◌≤ℤ◌, ◌∙◌, ap, arith, sym, refl, eq-eqb, FitsSigned, IfSome, IfNone}
+use Rattle.std.proofs.Common.{◌≡◌, ℕ, ◌+◌, ◌*◌, ◌/◌, ◌%◌, ◌^◌, inl, inr, Bool, true, false, List, Option, Some, None, is_some, option_map, option_and_then, if◌then◌else◌, ℤ, pos, ◌*ℤ◌, ◌≤ℤ◌, ◌⊎◌, ◌∙◌, ap, arith, sym, refl, eq-eqb, FitsSigned, IfSome, IfNone}
 use Rattle.std.proofs.Math.IntN.{pos-*ℤ-pos}
 use Rattle.std.proofs.Math.Nat.{mul-div_cancel, mul-mod_left, mul_assoc, mul_comm}
 use Rattle.std.proofs.lemmas.Bool.{cases_eq, ne_eqb}
 use Rattle.std.proofs.lemmas.Int.{ints}
 use Rattle.std.proofs.lemmas.Nat.{div-add-mod', pow-add}
 use Rattle.std.specs.Int.{w64}
-use Rattle.bsi_kinds.specs.Decimals.{begins_minus, decimal_entry, decimal_number, decimal_of, is_exact, negative, positive, signed_units, spelled_digits, units_of, whole_units, within_i64, without_minus, Digits}
+use Rattle.std.specs.Option.{option_or}
+use Rattle.bsi_kinds.specs.Decimals.{begins_minus, decimal_entry, decimal_number, decimal_of, is_exact, negative, positive, scanned, signed_units, spelled_digits, units_of, whole_units, within_i64, without_minus, Digits}
 use Rattle.bsi_kinds.proofs.Entering.{entry_of}
 use Rattle.bsi_kinds.proofs.Cutting.{neg_times, some_none, some_same}
 use Rattle.bsi_kinds.proofs.Scaling.{ten_some}
+use Rattle.bsi_kinds.specs.Rounding.{nearest_number, rounded_entry, tenths_number}
+use Rattle.bsi_inference.specs.Decimals.{number_by}
 use Rattle.bsi_inference.specs.Seen.{Covers, CoversSome}
 use Rattle.bsi_inference.specs.declared.seen.Seen.{Seen}
 use Rattle.bsi_inference.specs.declared.seen.Seen.TheVariants.{Nothing, Numbers, RuledOut}
@@ -97,7 +100,33 @@ found_digits : (places : ℕ) (minus : Bool) (found : Option Digits) → is_some
 found_digits places minus None is = is
 found_digits places minus (Some d) is = refl
 
-pub entry_decimal : (point places : ℕ) (text : List ℕ) → is_some (decimal_entry point places text) ≡ true → is_some (decimal_of point text) ≡ true
+entry_decimal : (point places : ℕ) (text : List ℕ) → is_some (decimal_entry point places text) ≡ true → is_some (decimal_of point text) ≡ true
 entry_decimal point places text is =
     map_some (if begins_minus text then negative else positive) (spelled_digits point (without_minus text))
     ∙ found_digits places (begins_minus text) (spelled_digits point (without_minus text)) is
+
+-- what was read and rounded
+pub rounds_read : (point places : ℕ) (text : List ℕ) (new : Seen) (found : Option ℤ) → found ≡ rounded_entry point places text
+    → IfSome found (Covers new) → IfNone found (new ≡ RuledOut) → CoversSome new (λ n. rounded_entry point places text ≡ Some n)
+rounds_read point places text new None is covers none = fallen_covers new (λ n. rounded_entry point places text ≡ Some n) none
+rounds_read point places text new (Some n) is covers none = covers_some new (λ m. rounded_entry point places text ≡ Some m) n (sym is) covers
+
+-- a rounded number is a decimal's
+either_some : (a b : Option ℤ) → is_some (option_or a b) ≡ true → (is_some a ≡ true) ⊎ (is_some b ≡ true)
+either_some None b is = inr is
+either_some (Some x) b is = inl refl
+
+nearest_digits : (places : ℕ) (minus : Bool) (found : Option Digits) → is_some (option_and_then (tenths_number minus) (option_map (scanned places) found)) ≡ true → is_some found ≡ true
+nearest_digits places minus None is = is
+nearest_digits places minus (Some d) is = refl
+
+rounded_decimal : (point places : ℕ) (text : List ℕ) → is_some (rounded_entry point places text) ≡ true → is_some (decimal_of point text) ≡ true
+rounded_decimal point places text is = elim (either_some (decimal_entry point places text) (nearest_number point places text) is) [
+  | inl exact ↦ entry_decimal point places text exact
+  | inr nearest ↦ map_some (if begins_minus text then negative else positive) (spelled_digits point (without_minus text))
+      ∙ nearest_digits (places + 1) (begins_minus text) (spelled_digits point (without_minus text)) nearest
+]
+
+pub number_decimal : (rounding : Option ℕ) (point places : ℕ) (text : List ℕ) → is_some (number_by rounding point places text) ≡ true → is_some (decimal_of point text) ≡ true
+number_decimal None point places text is = entry_decimal point places text is
+number_decimal (Some rounding) point places text is = rounded_decimal point rounding text is

@@ -1,5 +1,5 @@
 -- What contracts see of `Candidates`: which fields of a column they accept, and what a further field or part changes.
-use Rattle.std.specs.Prelude.{◌≡◌, ◌⊎◌, ◌==◌, ◌||◌, ℕ, Bool, true, false, List, [], length, map, Option, is_some, IsTrue}
+use Rattle.std.specs.Prelude.{◌≡◌, ◌⊎◌, ◌==◌, ◌||◌, ℕ, Bool, true, false, List, [], length, map, Option, Some, None, is_some, IsTrue}
 use Rattle.std.specs.List.{Contains}
 use Rattle.bsi_rows.specs.Fields.{Field}
 use Rattle.bsi_kinds.specs.declared.date.DateOrder.{DateOrder}
@@ -87,24 +87,42 @@ pub record HasSeenNothing (first : Decimals) (each : List Candidate) (c : Candid
   -- All texts so far were gathered.
   pub all : c.gathered.state ≡ All
 
--- A new column, whose candidates are decimals and all allowed forms.
+-- A new column, whose candidates are decimals, rounded or not, and all allowed forms.
+abbrev pub IsNewColumnBy : Option ℕ → ℕ → Option DateOrder → Candidates → Type 0
+IsNewColumnBy rounding point order c =
+    (c.point ≡ point)
+    × HasSeenNothing (record { places = 0; rounding = rounding; seen = Nothing; spelled = true }) (map (first_candidate order) FORMS) c
+
 abbrev pub IsNewColumn : ℕ → Option DateOrder → Candidates → Type 0
-IsNewColumn point order c =
-    (c.point ≡ point) × HasSeenNothing (record { places = 0; seen = Nothing; spelled = true }) (map (first_candidate order) FORMS) c
+IsNewColumn point order c = IsNewColumnBy None point order c
+
+-- The same, with decimals that are rounded to some places.
+abbrev pub IsNewRoundedColumn : ℕ → ℕ → Option DateOrder → Candidates → Type 0
+IsNewRoundedColumn places point order c = IsNewColumnBy (Some places) point order c
 
 -- A new column of texts alone.
 abbrev pub IsNewTextColumn : Candidates → Type 0
-IsNewTextColumn c = HasSeenNothing (record { places = 0; seen = RuledOut; spelled = false }) [] c
+IsNewTextColumn c = HasSeenNothing (record { places = 0; rounding = None; seen = RuledOut; spelled = false }) [] c
 
--- Two parts of a column began alike: with one decimal point, and candidates of the same forms.
+-- Two parts of a column began alike: with one decimal point, decimals that are rounded alike, and candidates of the same forms.
 pub record HaveSameForms (first second : Candidates) : Type 0 where
   pub point : first.point ≡ second.point
+  pub rounding : first.decimals.rounding ≡ second.decimals.rounding
   pub forms : map (λ c. c.form) first.forms.items ≡ map (λ c. c.form) second.forms.items
 
--- The column has a decimal point, and candidates of all forms.
-pub record LooksFor (point : ℕ) (c : Candidates) : Type 0 where
+-- The column has a decimal point, decimals that are rounded so or not, and candidates of all forms.
+pub record LooksForBy (places : Option ℕ) (point : ℕ) (c : Candidates) : Type 0 where
   pub decimals : c.point ≡ point
+  pub rounding : c.decimals.rounding ≡ places
   pub forms : map (λ c. c.form) c.forms.items ≡ FORMS
+
+-- The column's decimals are not rounded.
+abbrev pub LooksFor : ℕ → Candidates → Type 0
+LooksFor point c = LooksForBy None point c
+
+-- The column's decimals are rounded to some places.
+abbrev pub LooksForRounded : ℕ → ℕ → Candidates → Type 0
+LooksForRounded places point c = LooksForBy (Some places) point c
 
 -- The candidates of two parts of a column, joined.
 pub record HasJoinedKinds (old other new : Candidates) : Type 0 where

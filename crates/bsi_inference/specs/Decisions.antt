@@ -4,14 +4,14 @@ use Rattle.std.specs.List.{Contains}
 use Rattle.bsi_rows.specs.Fields.{Field}
 use Rattle.bsi_kinds.specs.Kinds.{IsKind, IsSpelled}
 use Rattle.bsi_kinds.specs.declared.kind.Kind.{Kind}
-use Rattle.bsi_kinds.specs.declared.kind.Kind.TheVariants.{Decimal, Text}
+use Rattle.bsi_kinds.specs.declared.kind.Kind.TheVariants.{Decimal, Rounded as RoundedKind, Text}
 use Rattle.bsi_inference.specs.Choices.{choice_of, HasNumberIn, IsDateInBoth}
 use Rattle.bsi_inference.specs.ColumnCandidates.{IsNull}
 use Rattle.bsi_inference.specs.Decimals.{IsPlainDecimal}
 use Rattle.bsi_inference.specs.Forms.{IsOfForm}
 use Rattle.bsi_inference.specs.declared.candidates.Candidates.{Candidates}
 use Rattle.bsi_inference.specs.declared.choice.Choice.{Choice}
-use Rattle.bsi_inference.specs.declared.choice.Choice.TheVariants.{Nothing, Decimals, Form as FormChoice, Digits, Orders, Texts}
+use Rattle.bsi_inference.specs.declared.choice.Choice.TheVariants.{Nothing, Decimals, Rounded, Form as FormChoice, Digits, Orders, Texts}
 use Rattle.bsi_inference.specs.declared.decision.Column.{Column}
 use Rattle.bsi_inference.specs.declared.decision.Decision.{Decision}
 use Rattle.bsi_inference.specs.declared.decision.Decision.TheVariants.{Column as DecidedColumn, Doubt as InDoubt, Nulls}
@@ -77,15 +77,23 @@ DecidesTexts All texts decision = IsTextColumn texts decision
 DecidesTexts Missing texts decision = decision ≡ InDoubt TextsMissing
 DecidesTexts TooMany texts decision = decision ≡ InDoubt TooManyTexts
 
--- What is decided of a choice.
-abbrev pub DecidesChoice : Gathering → List Field → Choice → Decision → Type 0
-DecidesChoice state texts Nothing (Nulls words) = Unit {0}
-DecidesChoice state texts (Decimals places span) (DecidedColumn column) = (column.kind ≡ Decimal places) × (column.span ≡ span)
-DecidesChoice state texts (FormChoice form span) (DecidedColumn column) = IsOfForm form column.kind × (column.span ≡ span)
-DecidesChoice state texts (Digits places) decision = decision ≡ InDoubt (TooManyDigits places)
-DecidesChoice state texts (Orders sign) decision = decision ≡ InDoubt (TwoOrders sign)
-DecidesChoice state texts Texts decision = DecidesTexts state texts decision
-DecidesChoice state texts choice decision = ⊥
+-- The null words of a column are these, and no others.
+abbrev pub HasNulls : List Field → Column → Type 0
+HasNulls nulls column = map (λ w. w.items) column.nulls.items ≡ nulls
+
+-- What is decided of a choice. `nulls` are the null words that were met.
+abbrev pub DecidesChoice : Gathering → List Field → List Field → Choice → Decision → Type 0
+DecidesChoice state texts nulls Nothing (Nulls words) = map (λ w. w.items) words.items ≡ nulls
+DecidesChoice state texts nulls (Decimals places span) (DecidedColumn column) =
+    (column.kind ≡ Decimal places) × (column.span ≡ span) × HasNulls nulls column
+DecidesChoice state texts nulls (Rounded places span) (DecidedColumn column) =
+    (column.kind ≡ RoundedKind places) × (column.span ≡ span) × HasNulls nulls column
+DecidesChoice state texts nulls (FormChoice form span) (DecidedColumn column) =
+    IsOfForm form column.kind × (column.span ≡ span) × HasNulls nulls column
+DecidesChoice state texts nulls (Digits places) decision = decision ≡ InDoubt (TooManyDigits places)
+DecidesChoice state texts nulls (Orders sign) decision = decision ≡ InDoubt (TwoOrders sign)
+DecidesChoice state texts nulls Texts decision = DecidesTexts state texts decision
+DecidesChoice state texts nulls choice decision = ⊥
 
 abbrev pub Decides : Candidates → Decision → Type 0
-Decides c decision = DecidesChoice c.gathered.state c.gathered.texts (choice_of c.decimals c.forms.items) decision
+Decides c decision = DecidesChoice c.gathered.state c.gathered.texts c.nulls (choice_of c.decimals c.forms.items) decision

@@ -5,7 +5,7 @@ ghost use Rattle.std.specs.Prelude.{◌≡◌, ◌⊎◌, true, false, map, IsTr
 ghost use Rattle.bsi_rows.specs.Fields.{Field};
 ghost use Rattle.bsi_inference.specs.Candidates.{first_candidate, AreJoined};
 ghost use Rattle.bsi_inference.specs.Decimals.{AreJoinedDecimals};
-ghost use Rattle.bsi_inference.specs.ColumnCandidates.{has_remaining, is_null_field, Accepts, AddsOnlyField, AddsOnlyOther, GathersOn, HasJoinedKinds, HasNextKinds, HasSameKinds, HaveSameForms, IsNewColumn, IsNewTextColumn, LooksFor, MissesTexts, WasNull, WasText};
+ghost use Rattle.bsi_inference.specs.ColumnCandidates.{has_remaining, is_null_field, Accepts, AddsOnlyField, AddsOnlyOther, GathersOn, HasJoinedKinds, HasNextKinds, HasSameKinds, HaveSameForms, IsNewColumn, IsNewColumnBy, IsNewRoundedColumn, IsNewTextColumn, LooksFor, LooksForBy, LooksForRounded, MissesTexts, WasNull, WasText};
 
 use crate::NoMemory;
 use crate::candidate::{Candidate, find_remaining, join_each, observe_each};
@@ -35,11 +35,39 @@ impl Candidates {
         ensures begun { IfOk result (IsNewColumn point order) }
         ensures forms { IfOk result (LooksFor point) }
     {
+        Candidates::begin(alloc, None, point, order)
+    }
+
+    /// Begins a column as `new` does, but decimals are rounded to so many places, half to even: each field that is not null
+    /// is a decimal whose rounded number fits, or the column has another kind. More than 18 places have no numbers.
+    pub fn rounded(
+        alloc: Global,
+        places: u32,
+        point: u8,
+        order: Option<DateOrder>,
+    ) -> Result<Candidates, NoMemory>
+        ensures begun { IfOk result (IsNewRoundedColumn places point order) }
+        ensures forms { IfOk result (LooksForRounded places point) }
+    {
+        Candidates::begin(alloc, Some(places), point, order)
+    }
+
+    /// Begins a column of which no field was seen, with decimals that are rounded or not.
+    fn begin(
+        alloc: Global,
+        rounding: Option<u32>,
+        point: u8,
+        order: Option<DateOrder>,
+    ) -> Result<Candidates, NoMemory>
+        ensures begun { IfOk result (IsNewColumnBy rounding point order) }
+        ensures forms { IfOk result (LooksForBy rounding point) }
+    {
         let forms = list_forms(alloc, order)?;
         Ok(Candidates {
             point,
             decimals: Decimals {
                 places: 0,
+                rounding,
                 seen: Seen::Nothing,
                 spelled: true,
             },
@@ -57,6 +85,7 @@ impl Candidates {
             point: b'.',
             decimals: Decimals {
                 places: 0,
+                rounding: None,
                 seen: Seen::RuledOut,
                 spelled: false,
             },
@@ -118,7 +147,8 @@ impl Candidates {
 
     /// Joins the candidates with those of another part of the column.
     fn join_kinds(&mut self, decimals: Decimals, forms: &[Candidate])
-        requires { map (λ c. c.form) self.old.forms.items ≡ map (λ c. c.form) forms.now }
+        requires rounding { self.old.decimals.rounding ≡ decimals.rounding }
+        requires forms { map (λ c. c.form) self.old.forms.items ≡ map (λ c. c.form) forms.now }
         ensures point { self.new.point ≡ self.old.point }
         ensures decimals { AreJoinedDecimals self.old.decimals decimals self.new.decimals }
         ensures forms { AreJoined self.old.forms.items forms.now self.new.forms.items }

@@ -4,7 +4,7 @@
 ghost use Rattle.std.specs.Prelude.{◌≡◌, ℕ};
 ghost use Rattle.bsi_rows.specs.Fields.{Field};
 ghost use Rattle.bsi_inference.specs.Candidates.{EachAccepts};
-ghost use Rattle.bsi_inference.specs.Choices.{choice_of, date_choice, form_choice, order_choice, HasFewPlaces, HasFormNumberIn, IsChosenFor};
+ghost use Rattle.bsi_inference.specs.Choices.{choice_of, date_choice, form_choice, number_choice, order_choice, HasFewPlaces, HasFormNumberIn, IsChosenFor};
 ghost use Rattle.bsi_inference.specs.ColumnCandidates.{AcceptsValue};
 
 use crate::candidate::{Candidate, find_remaining, has_month_first};
@@ -21,6 +21,8 @@ pub(crate) enum Choice {
     Nothing,
     /// Decimals of so many places.
     Decimals(u32, Span),
+    /// Decimals that are rounded to so many places.
+    Rounded(u32, Span),
     /// A form.
     Form(Form, Span),
     /// Decimals that need too many digits, and have so many places.
@@ -40,7 +42,22 @@ impl Candidates {
     {
         match self.decimals.seen {
             Seen::Nothing => Choice::Nothing,
-            Seen::Numbers(span) if self.decimals.places <= MAX_PLACES as usize => {
+            Seen::Numbers(span) => self.choose_decimals(span),
+            Seen::RuledOut => self.choose_form(),
+        }
+    }
+
+    /// Chooses decimals of these numbers or, if they have too many places, a form.
+    fn choose_decimals(&self, span: Span) -> Choice
+        requires { self.now.decimals.seen ≡ Seen.Numbers span }
+        ensures is { result
+            ≡ number_choice self.now.decimals.rounding span self.now.decimals self.now.forms.items }
+        ensures few { HasFewPlaces result }
+        ensures accepts { (f : Field) → AcceptsValue self.now f → IsChosenFor self.now.point result f }
+    {
+        match self.decimals.rounding {
+            Some(places) if places <= MAX_PLACES => Choice::Rounded(places, span),
+            None if self.decimals.places <= MAX_PLACES as usize => {
                 Choice::Decimals(self.decimals.places as u32, span)
             }
             _ => self.choose_form(),

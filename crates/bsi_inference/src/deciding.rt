@@ -36,6 +36,7 @@ impl Candidates {
         match choice {
             Choice::Nothing => Ok(Decision::Nulls(nulls.into_texts()?)),
             Choice::Decimals(places, span) => make_column(Kind::Decimal(places), span, nulls),
+            Choice::Rounded(places, span) => make_column(Kind::Rounded(places), span, nulls),
             Choice::Form(form, span) => make_column(form.kind(alloc)?, span, nulls),
             Choice::Digits(places) => Ok(Decision::Doubt(Doubt::TooManyDigits(places))),
             Choice::Orders(sign) => Ok(Decision::Doubt(Doubt::TwoOrders(sign))),

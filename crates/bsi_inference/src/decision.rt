@@ -30,7 +30,7 @@ pub enum Decision {
 #[derive(Clone, Copy, Debug, PartialEq, Eq)]
 pub enum Doubt {
     /// Each field is null or a decimal, but with so many places, the most of a field, they are more than 18 places or more
-    /// than 63 bit slices tell apart. Decimals rounded to fewer places may do.
+    /// than 63 bit slices tell apart, or are so where they are rounded. Decimals rounded to fewer places may do.
     TooManyDigits(usize),
     /// Each field is null or a date, with this sign between two numbers, whether its day or its month stands first.
     TwoOrders(u8),

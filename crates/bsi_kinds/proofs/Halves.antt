@@ -1,5 +1,5 @@
 -- Units that are nearest to a decimal.
-use Rattle.std.proofs.Common.{◌≡◌, ◌⊎◌, inl, inr, ℕ, zero, suc, ◌+◌, ◌*◌, ◌/◌, ◌%◌, ◌^◌, ◌<◌, ◌≤◌, min, Bool, true, false, ◌==◌, if◌then◌else◌, List, Option, Some, None, option_map, MatchOption, IfSome, ℤ, pos, negsuc, neg_ℤ, ◌-ℤ◌, unsigned_abs, FitsSigned, w64, arith, refl, sym, subst, ap, ◌∙◌}
+use Rattle.std.proofs.Common.{◌≡◌, ◌⊎◌, inl, inr, ℕ, zero, suc, ◌+◌, ◌*◌, ◌/◌, ◌%◌, ◌^◌, ◌<◌, ◌≤◌, min, Bool, true, false, ◌==◌, if◌then◌else◌, List, Option, Some, None, option_and_then, option_map, MatchOption, IfSome, ℤ, pos, negsuc, neg_ℤ, ◌-ℤ◌, unsigned_abs, FitsSigned, w64, arith, refl, sym, subst, ap, ◌∙◌}
 use Rattle.std.specs.Prelude.{⊤}
 use Rattle.std.proofs.Math.IntN.{negsuc-*ℤ-pos, pos-*ℤ-pos}
 use Rattle.std.proofs.Math.Nat.{le_of_mul-le-mul_right, mul-le-mul_right}
@@ -9,7 +9,7 @@ use Rattle.std.proofs.lemmas.Int.{ints, to_z-of_z, to_z_pos}
 use mir.Val.{of_z, to_z}
 use Rattle.std.proofs.lemmas.Nat.{div-add-mod', mod_below, pow-add}
 use Rattle.bsi_kinds.specs.Decimals.{decimal_entry, decimal_number, decimal_of, most_scanned, negative, positive, scanned, signed_units, units_of, Decimal, Digits, Represents}
-use Rattle.bsi_kinds.specs.Rounding.{goes_up, rounded_units, IsRounded}
+use Rattle.bsi_kinds.specs.Rounding.{goes_up, rounded_units, tenths_number, IsRounded}
 use Rattle.bsi_kinds.specs.declared.decimal.Scanned.{Scanned}
 use Rattle.bsi_kinds.proofs.Cutting.{neg_times, number_stands, signed_by, some_same}
 use Rattle.bsi_kinds.proofs.Entering.{entry_of}
@@ -173,6 +173,24 @@ round_some p minus (Some digits) s is other =
     let small : units_of (p + 1) digits ≡ min (units_of (p + 1) digits) most_scanned = uncapped (units_of (p + 1) digits) (λ full. other (ap (λ k. k.units) same ∙ full)) in
     subst (λ (k : Scanned). IsRounded p (signed_by minus digits) (signed_units minus (rounded_units k))) (sym same)
     (signed_rounded p digits (rounded_units (scanned (p + 1) digits)) (scanned_near p digits (min (units_of (p + 1) digits) most_scanned) small) minus)
+
+-- the number of tenths, and none of too many
+pub tenths_none : (minus : Bool) (found : Option Scanned) (s : Scanned) → Some s ≡ found → s.units ≡ most_scanned
+    → None ≡ option_and_then (tenths_number minus) found
+tenths_none minus None s is full = absurd (cc)
+tenths_none minus (Some t) s is full =
+    let units : t.units ≡ most_scanned = sym (ap (λ k. k.units) (some_same is)) ∙ full in
+    let test : (t.units == most_scanned) ≡ true = grind (arith, nat_tests, units) in
+    rw test refl
+
+pub tenths_some : (minus : Bool) (found : Option Scanned) (s : Scanned) (n : ℤ) → Some s ≡ found → (s.units ≡ most_scanned → ⊥)
+    → n ≡ signed_units minus (rounded_units s) → Some n ≡ option_and_then (tenths_number minus) found
+tenths_some minus None s n is other number = absurd (cc)
+tenths_some minus (Some t) s n is other number =
+    let same : s ≡ t = some_same is in
+    let few : t.units ≡ most_scanned → ⊥ = λ full. other (ap (λ k. k.units) same ∙ full) in
+    let test : (t.units == most_scanned) ≡ false = grind (arith, nat_tests, few) in
+    rw test (ap (λ m. Some m) (number ∙ ap (λ k. signed_units minus (rounded_units k)) same))
 
 -- units past what a scan tells apart
 far : (w x m : ℕ) → 0 < w → most_scanned * w ≤ 10 * x → x + x ≤ m * w + m * w + w → 1844674407370955161 ≤ m

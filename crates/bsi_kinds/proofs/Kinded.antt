@@ -13,7 +13,7 @@ use Rattle.bsi_kinds.specs.declared.boolean.BooleanForm.{BooleanForm}
 use Rattle.bsi_kinds.specs.declared.comparison.Comparison.{Comparison}
 use Rattle.bsi_kinds.specs.declared.date.DateForm.{DateForm}
 use Rattle.bsi_kinds.specs.declared.kind.Kind.{Kind}
-use Rattle.bsi_kinds.specs.declared.kind.Kind.TheVariants.{Boolean, Date, Decimal, Time}
+use Rattle.bsi_kinds.specs.declared.kind.Kind.TheVariants.{Boolean, Date, Decimal, Rounded, Time}
 use Rattle.bsi_kinds.specs.Times.{time_of, unit_places}
 use Rattle.bsi_kinds.specs.declared.time.TimeForm.{TimeForm}
 use Rattle.bsi_kinds.proofs.Cutting.{some_same}
@@ -81,6 +81,15 @@ pub by_decimal : (op : Op) (places : ℕ) (kind : Kind) (point : ℕ) (text : Li
     → IfSome found (λ c. MatchOption (value_of kind point text) ⊥ (λ v. ComparesValues kind op v c))
 by_decimal op places kind point text None is given = tt
 by_decimal op places kind point text (Some c) is given =
+    subst (λ (k : Kind). MatchOption (value_of k point text) ⊥ (λ v. ComparesValues k op v c)) (sym is)
+    (by_fraction op places (decimal_of point text) c given)
+
+-- and so does a rounded one
+pub by_rounded : (op : Op) (places : ℕ) (kind : Kind) (point : ℕ) (text : List ℕ) (found : Option Comparison) → kind ≡ Rounded places
+    → IfSome found (λ c. MatchOption (decimal_of point text) ⊥ (λ d. ComparesAs decimal_order (decimal_at places) op d c))
+    → IfSome found (λ c. MatchOption (value_of kind point text) ⊥ (λ v. ComparesValues kind op v c))
+by_rounded op places kind point text None is given = tt
+by_rounded op places kind point text (Some c) is given =
     subst (λ (k : Kind). MatchOption (value_of k point text) ⊥ (λ v. ComparesValues k op v c)) (sym is)
     (by_fraction op places (decimal_of point text) c given)
 

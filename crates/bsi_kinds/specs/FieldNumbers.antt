@@ -11,10 +11,11 @@ use Rattle.bsi_kinds.specs.Dates.{date_number}
 use Rattle.bsi_rows.specs.Fields.{Field}
 use Rattle.bsi_kinds.specs.Decimals.{begins_minus, decimal_entry, first_from, scanned, spelled_digits, without_minus}
 use Rattle.bsi_kinds.specs.Dictionaries.{text_at}
+use Rattle.bsi_kinds.specs.Rounding.{rounded_entry}
 use Rattle.bsi_kinds.specs.Times.{first_at, scanned_time_of, time_entry, unit_places}
 use Rattle.bsi_kinds.specs.declared.comparison.Comparison.{Comparison}
 use Rattle.bsi_kinds.specs.declared.kind.Kind.{Kind}
-use Rattle.bsi_kinds.specs.declared.kind.Kind.TheVariants.{Boolean, Date, Decimal, Text, Time}
+use Rattle.bsi_kinds.specs.declared.kind.Kind.TheVariants.{Boolean, Date, Decimal, Rounded, Text, Time}
 use Rattle.bsi_kinds.specs.declared.time.TimeForm.{TimeForm}
 
 -- The rank of a text: how many texts come before it.
@@ -32,6 +33,7 @@ text_number texts text = if is_at texts (text_rank texts text) text then Some (t
 -- The number that stands for the value of a field.
 abbrev pub field_number : Kind → ℕ → Field → Option ℤ
 field_number (Decimal places) point field = decimal_entry point places field
+field_number (Rounded places) point field = rounded_entry point places field
 field_number (Date form) point field = date_number form field
 field_number (Time form) point field = time_entry form field
 field_number (Boolean form) point field = boolean_number form field
@@ -56,6 +58,7 @@ text_compared texts op text =
 -- The comparison of numbers that means one with a constant of a kind.
 abbrev pub comparison_of : Kind → Op → ℕ → Field → Option Comparison
 comparison_of (Decimal places) op point text = decimal_compared op point places text
+comparison_of (Rounded places) op point text = decimal_compared op point places text
 comparison_of (Date form) op point text = option_map (comparison op) (date_number form text)
 comparison_of (Time form) op point text = time_compared op form text
 comparison_of (Boolean form) op point text = option_map (comparison op) (boolean_number form text)

@@ -1,6 +1,8 @@
--- Decimals rounded to some places, half to even (`IsRounded`).
-use Rattle.std.specs.Prelude.{◌≡◌, ◌⊎◌, ℕ, ◌+◌, ◌/◌, ◌%◌, ◌^◌, nat_lt, Bool, not, ◌&&◌, ◌||◌, ◌==◌, if◌then◌else◌, ℤ, pos, ◌+ℤ◌, ◌-ℤ◌, ◌≤ℤ◌, unsigned_abs}
-use Rattle.bsi_kinds.specs.Decimals.{decimal_at, units_beside, Decimal}
+-- Decimals rounded to some places, half to even (`IsRounded`), and the number that a field is rounded to.
+use Rattle.std.specs.Prelude.{◌≡◌, ◌⊎◌, ℕ, ◌+◌, ◌/◌, ◌%◌, ◌^◌, nat_lt, Bool, not, ◌&&◌, ◌||◌, ◌==◌, if◌then◌else◌, Option, Some, None, option_and_then, option_map, ℤ, pos, ◌+ℤ◌, ◌-ℤ◌, ◌≤ℤ◌, unsigned_abs}
+use Rattle.std.specs.Option.{option_or}
+use Rattle.bsi_rows.specs.Fields.{Field}
+use Rattle.bsi_kinds.specs.Decimals.{begins_minus, decimal_at, decimal_entry, most_scanned, scanned, signed_units, spelled_digits, units_beside, without_minus, Decimal}
 use Rattle.bsi_kinds.specs.declared.decimal.Scanned.{Scanned}
 
 abbrev pub twice : ℤ → ℤ
@@ -32,3 +34,18 @@ goes_up units digit exact = nat_lt 5 digit || ((digit == 5) && (not exact || (un
 abbrev pub rounded_units : Scanned → ℕ
 rounded_units tenths =
     if goes_up (tenths.units / 10) (tenths.units % 10) tenths.exact then tenths.units / 10 + 1 else tenths.units / 10
+
+-- The number of tenths of a unit, rounded. The greatest tenths stand for all greater ones, so they have no number.
+abbrev pub tenths_number : Bool → Scanned → Option ℤ
+tenths_number minus tenths =
+    if tenths.units == most_scanned then None else Some (signed_units minus (rounded_units tenths))
+
+-- The nearest number to the decimal of a text, by its tenths of a unit.
+abbrev pub nearest_number : ℕ → ℕ → Field → Option ℤ
+nearest_number point places text =
+    option_and_then (tenths_number (begins_minus text))
+    (option_map (scanned (places + 1)) (spelled_digits point (without_minus text)))
+
+-- The number of 64 bits that the decimal of a text is rounded to. One that needs rounding has tenths of 64 bits.
+abbrev pub rounded_entry : ℕ → ℕ → Field → Option ℤ
+rounded_entry point places text = option_or (decimal_entry point places text) (nearest_number point places text)

@@ -12,6 +12,7 @@ use crate::date::{DateForm, has_day, read_date, write_date};
 use crate::decimal::{compare_decimal, read_decimal};
 use crate::decimal_text::write_decimal;
 use crate::dictionary::Dictionary;
+use crate::rounding::read_rounded;
 use crate::time::{TimeForm, compare_time, has_day_of, read_time};
 use crate::time_text::write_time;
 use bsi_digits::Op;
@@ -21,6 +22,8 @@ use bsi_digits::Op;
 pub enum Kind {
     /// Decimals of so many places, at most 18.
     Decimal(u32),
+    /// Decimals of so many places, at most 18. A field of more is rounded to them, half to even.
+    Rounded(u32),
     /// Dates, which fields write so. Answers have them as 2026-01-31.
     Date(DateForm),
     /// Times, which fields write so. Answers have them as 2026-01-31T10:30:00, with as many digits behind a point as the
@@ -43,6 +46,7 @@ impl Kind {
     {
         match self {
             Kind::Decimal(places) => read_decimal(point, *places, text),
+            Kind::Rounded(places) => read_rounded(point, *places, text),
             Kind::Date(form) => read_date(*form, text),
             Kind::Time(form) => read_time(*form, text),
             Kind::Boolean(form) => read_boolean(form, text),
@@ -61,6 +65,7 @@ impl Kind {
     {
         match self {
             Kind::Decimal(places) => compare_decimal(op, point, *places, text),
+            Kind::Rounded(places) => compare_decimal(op, point, *places, text),
             Kind::Date(form) => compare_number(op, read_date(*form, text)),
             Kind::Time(form) => compare_time(op, *form, text),
             Kind::Boolean(form) => compare_number(op, read_boolean(form, text)),
@@ -74,6 +79,7 @@ impl Kind {
     {
         match (self, other) {
             (Kind::Decimal(own), Kind::Decimal(others)) => own == others,
+            (Kind::Rounded(own), Kind::Rounded(others)) => own == others,
             (Kind::Date(own), Kind::Date(others)) => own == others,
             (Kind::Time(own), Kind::Time(others)) => own == others,
             (Kind::Boolean(own), Kind::Boolean(others)) => own.is_same(others),
@@ -88,6 +94,7 @@ impl Kind {
     {
         match self {
             Kind::Decimal(_) => true,
+            Kind::Rounded(_) => true,
             Kind::Date(_) => has_day(number),
             Kind::Time(form) => has_day_of(form.unit, number),
             Kind::Boolean(_) => number == 0 || number == 1,
@@ -103,6 +110,7 @@ impl Kind {
     {
         match self {
             Kind::Decimal(places) => write_decimal(*places, i128::from(number), line),
+            Kind::Rounded(places) => write_decimal(*places, i128::from(number), line),
             Kind::Date(_) => write_date(number, line),
             Kind::Time(form) => write_time(*form, number, line),
             Kind::Boolean(form) => write_boolean(form, number, line),

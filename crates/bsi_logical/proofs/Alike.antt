@@ -6,7 +6,7 @@ use Rattle.std.proofs.lemmas.Bool.Decides.{nat_tests, same_from_decides, Decides
 use Rattle.std.proofs.lemmas.Slice.Eq.{bytes_eq-Decides}
 use Rattle.bsi_kinds.specs.Times.{unit_places}
 use Rattle.bsi_kinds.specs.declared.kind.Kind.{Kind}
-use Rattle.bsi_kinds.specs.declared.kind.Kind.TheVariants.{Boolean, Date, Decimal, Text, Time}
+use Rattle.bsi_kinds.specs.declared.kind.Kind.TheVariants.{Boolean, Date, Decimal, Rounded, Text, Time}
 use Rattle.bsi_kinds.specs.declared.time.TimeUnit.{TimeUnit}
 use Rattle.bsi_kinds.specs.declared.time.TimeUnit.TheVariants.{Seconds, Milliseconds, Microseconds}
 use Rattle.bsi_logical.specs.Entries.{have_same_values, HaveSameValues}
@@ -53,6 +53,9 @@ times_decide u v p q = (
 
 pub values_decide : (a b : Kind) → Decides (have_same_values a b) (HaveSameValues a b)
 values_decide (Decimal p) (Decimal q) = Decides-eqb p q
+values_decide (Decimal p) (Rounded q) = Decides-eqb p q
+values_decide (Rounded p) (Decimal q) = Decides-eqb p q
+values_decide (Rounded p) (Rounded q) = Decides-eqb p q
 values_decide (Date f) (Date g) = (λ is. tt, λ is. refl)
 values_decide (Time f) (Time g) = times_decide f.unit g.unit f.utc g.utc
 values_decide (Boolean f) (Boolean g) = (λ is. tt, λ is. refl)

@@ -4,5 +4,7 @@ mod Called
 mod Exactly
 mod Fields
 mod Plain
+mod PlainTexts
 mod Saying
+pub mod Titling
 mod ValueTexts

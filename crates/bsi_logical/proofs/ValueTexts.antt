@@ -6,13 +6,14 @@ use Rattle.std.proofs.lemmas.List.Concat.{flat_map-cons}
 use Rattle.bsi_rows.specs.Fields.{Field}
 use Rattle.bsi_kinds.specs.Kinds.{Writes}
 use Rattle.bsi_kinds.specs.declared.kind.Kind.{Kind}
-use Rattle.bsi_kinds.specs.declared.kind.Kind.TheVariants.{Boolean, Date, Decimal, Text, Time}
+use Rattle.bsi_kinds.specs.declared.kind.Kind.TheVariants.{Boolean, Date, Decimal, Rounded, Text, Time}
 use Rattle.bsi_syntax.specs.Notations.{AppendsText}
 use Rattle.bsi_logical.specs.AnswerTexts.{IsValueText}
 
 -- what was written is a text of its own
 pub written_text : (kind : Kind) (n : ℤ) (old new : Field) → Writes kind n old new → AppendsText (λ text. Writes kind n [] text) old new
 written_text (Decimal places) n old new is = record { text = _; is = refl; written = is }
+written_text (Rounded places) n old new is = record { text = _; is = refl; written = is }
 written_text (Date form) n old new is = record { text = _; is = record { date = is.date; is = is.is; written = refl }; written = is.written }
 written_text (Time form) n old new is = record {
   text = _;
@@ -25,6 +26,7 @@ written_text (Text texts) n old new is = record { text = _; is = refl; written =
 -- that of a value that is no text of a list
 pub value_text : (kind : Kind) (n : ℤ) (old new : Field) → ((texts : List Field) → kind ≡ Text texts → ⊥) → Writes kind n old new → AppendsText (IsValueText kind n) old new
 value_text (Decimal places) n old new other is = written_text (Decimal places) n old new is
+value_text (Rounded places) n old new other is = written_text (Rounded places) n old new is
 value_text (Date form) n old new other is = written_text (Date form) n old new is
 value_text (Time form) n old new other is = written_text (Time form) n old new is
 value_text (Boolean form) n old new other is = written_text (Boolean form) n old new is

@@ -8,7 +8,7 @@ use Rattle.bsi_rows.specs.Fields.{Field}
 use Rattle.bsi_kinds.specs.Dictionaries.{text_at}
 use Rattle.bsi_kinds.specs.Kinds.{IsNumber, Writes}
 use Rattle.bsi_kinds.specs.declared.kind.Kind.{Kind}
-use Rattle.bsi_kinds.specs.declared.kind.Kind.TheVariants.{Boolean, Date, Decimal, Text, Time}
+use Rattle.bsi_kinds.specs.declared.kind.Kind.TheVariants.{Boolean, Date, Decimal, Rounded, Text, Time}
 use Rattle.bsi_logical.specs.Logical.{kind_of, Logical}
 
 -- ---- quotes
@@ -34,6 +34,7 @@ quoted text = if needs_quotes text then 34 ∷ [] ++ flat_map quoted_byte text +
 -- The text of the value of a number.
 abbrev pub IsValueText : Kind → ℤ → Field → Type 0
 IsValueText (Decimal places) n text = Writes (Decimal places) n [] text
+IsValueText (Rounded places) n text = Writes (Rounded places) n [] text
 IsValueText (Date form) n text = Writes (Date form) n [] text
 IsValueText (Time form) n text = Writes (Time form) n [] text
 IsValueText (Boolean form) n text = Writes (Boolean form) n [] text
@@ -51,6 +52,7 @@ IsValueOrNumber kind n text =
 -- The text of a number of a kind. That of a sum of decimals may have more than 64 bits.
 abbrev pub IsNumberText : Kind → ℤ → Field → Type 0
 IsNumberText (Decimal places) n text = text ≡ decimal_text places n
+IsNumberText (Rounded places) n text = text ≡ decimal_text places n
 IsNumberText (Date form) n text = IsValueOrNumber (Date form) n text
 IsNumberText (Time form) n text = IsValueOrNumber (Time form) n text
 IsNumberText (Boolean form) n text = IsValueOrNumber (Boolean form) n text

@@ -10,11 +10,12 @@ use Rattle.bsi_kinds.specs.Times.{unit_places}
 use Rattle.bsi_kinds.specs.declared.date.DateForm.{DateForm}
 use Rattle.bsi_kinds.specs.declared.date.DateOrder.TheVariants.{YearFirst}
 use Rattle.bsi_kinds.specs.declared.kind.Kind.{Kind}
-use Rattle.bsi_kinds.specs.declared.kind.Kind.TheVariants.{Boolean, Date, Decimal, Text, Time}
+use Rattle.bsi_kinds.specs.declared.kind.Kind.TheVariants.{Boolean, Date, Decimal, Rounded, Text, Time}
 use Rattle.bsi_logical.specs.Logical.{kind_of, Logical}
 
 abbrev pub is_text : Kind → Bool
 is_text (Decimal places) = false
+is_text (Rounded places) = false
 is_text (Date form) = false
 is_text (Time form) = false
 is_text (Boolean form) = false
@@ -36,6 +37,7 @@ iso_date = record { order = YearFirst; sign = 45 }
 -- The kind by which questions write constants.
 abbrev pub asked_kind : Kind → Kind
 asked_kind (Decimal places) = Decimal places
+asked_kind (Rounded places) = Rounded places
 asked_kind (Date form) = Date iso_date
 asked_kind (Time form) = Time (record form { date = iso_date })
 asked_kind (Boolean form) = Boolean form
@@ -49,6 +51,9 @@ constant_of kind text = value_of (asked_kind kind) 46 text
 -- Times have one unit, and are both local or both in UTC.
 abbrev pub HaveSameValues : Kind → Kind → Type 0
 HaveSameValues (Decimal p) (Decimal q) = p ≡ q
+HaveSameValues (Decimal p) (Rounded q) = p ≡ q
+HaveSameValues (Rounded p) (Decimal q) = p ≡ q
+HaveSameValues (Rounded p) (Rounded q) = p ≡ q
 HaveSameValues (Date f) (Date g) = Unit {0}
 HaveSameValues (Time f) (Time g) = (f.unit ≡ g.unit) × (f.utc ≡ g.utc)
 HaveSameValues (Boolean f) (Boolean g) = Unit {0}
@@ -58,6 +63,9 @@ HaveSameValues first second = ⊥
 -- The same as a test.
 abbrev pub have_same_values : Kind → Kind → Bool
 have_same_values (Decimal p) (Decimal q) = p == q
+have_same_values (Decimal p) (Rounded q) = p == q
+have_same_values (Rounded p) (Decimal q) = p == q
+have_same_values (Rounded p) (Rounded q) = p == q
 have_same_values (Date f) (Date g) = true
 have_same_values (Time f) (Time g) = (unit_places f.unit == unit_places g.unit) && (if f.utc then g.utc else not g.utc)
 have_same_values (Boolean f) (Boolean g) = true
@@ -67,6 +75,7 @@ have_same_values first second = false
 -- The numbers of the kind can be summed.
 abbrev pub is_summed : Kind → Bool
 is_summed (Decimal places) = true
+is_summed (Rounded places) = true
 is_summed (Date form) = false
 is_summed (Time form) = false
 is_summed (Boolean form) = false

@@ -1,9 +1,11 @@
 pub mod AnswerTexts
 pub mod Dialects
 pub mod Entries
+pub mod HeaderTitles
 pub mod Logical
 pub mod LogicalRows
 pub mod LogicalTexts
 pub mod Meanings
 pub mod Records
+pub mod SchemaFiles
 pub mod TableSchemas

@@ -9,15 +9,16 @@ use Rattle.bsi_kinds.specs.FieldNumbers.{field_number}
 use Rattle.bsi_input.specs.Formats.{config_of, Format}
 use Rattle.bsi_input.specs.RowFiles.{field_index}
 use Rattle.bsi_logical.specs.Entries.{is_null}
+use Rattle.bsi_logical.specs.HeaderTitles.{titles_of}
 use Rattle.bsi_logical.specs.Logical.{kind_of, Logical}
 
--- Exactly one field of the header is the title.
+-- Exactly one of these titles is the title.
 abbrev pub is_titled_once : List Field → Field → Bool
-is_titled_once header title = nat_eq (count_by (λ field. bytes_eq field title) header) 1
+is_titled_once titles title = nat_eq (count_by (λ other. bytes_eq other title) titles) 1
 
--- Each title stands once in the header, among any other fields.
+-- Exactly one field of the header has each title, among any other fields.
 abbrev pub has_titles : Logical → List Field → Bool
-has_titles l header = list_all (is_titled_once header) l.titles
+has_titles l header = list_all (is_titled_once (titles_of header)) l.titles
 
 -- The entry that a field of column c spells, or none if it spells none: the only one of which `IsEntry` holds.
 abbrev pub entry_of : Logical → ℕ → Field → Option (Option ℤ)
@@ -44,7 +45,7 @@ logical_format l = record {
   config = config_of l.dialect.delimiter;
   schema = l.schema;
   is_header = has_titles l;
-  indexes = λ header. map (λ title. field_index header title) l.titles;
+  indexes = λ header. map (field_index (titles_of header)) l.titles;
   entries = entries_from l 0;
   most = max_logical_records;
 }

@@ -10,7 +10,7 @@ use Rattle.bsi_kinds.specs.declared.date.DateForm.{DateForm}
 use Rattle.bsi_kinds.specs.declared.date.DateOrder.{DateOrder}
 use Rattle.bsi_kinds.specs.declared.date.DateOrder.TheVariants.{YearFirst, DayFirst, MonthFirst}
 use Rattle.bsi_kinds.specs.declared.kind.Kind.{Kind}
-use Rattle.bsi_kinds.specs.declared.kind.Kind.TheVariants.{Boolean, Date, Decimal, Text, Time}
+use Rattle.bsi_kinds.specs.declared.kind.Kind.TheVariants.{Boolean, Date, Decimal, Rounded, Text, Time}
 use Rattle.bsi_kinds.specs.declared.time.TimeForm.{TimeForm}
 use Rattle.bsi_kinds.specs.declared.time.TimeUnit.{TimeUnit}
 use Rattle.bsi_kinds.specs.declared.time.TimeUnit.TheVariants.{Seconds, Milliseconds, Microseconds}
@@ -171,16 +171,26 @@ boolean_kind first second =
 abbrev pub max_decimal_places : ℕ
 max_decimal_places = 18
 
--- The kind that fields spell: `text`; `decimal,PLACES`, 1 to 18; `date,ORDER,SIGN`; `boolean,YES,NO`;
--- `time,UNIT,ZONE`, for dates as 2026-01-31; or `time,UNIT,ZONE,ORDER,SIGN`.
+-- `PLACES,rounded`: decimals that are rounded to so many places, or to whole numbers.
+abbrev pub rounded_kind : Field → Field → Option Kind
+rounded_kind places word =
+    if bytes_eq word (codes "rounded") then option_map Rounded (number_between 0 max_decimal_places places) else None
+
+-- The kind of a word and two more: `date,ORDER,SIGN`; `boolean,YES,NO`; `time,UNIT,ZONE`; or `decimal,PLACES,rounded`.
+unfoldable pub short_kind : Field → Field → Field → Option Kind
+short_kind word first second =
+    if bytes_eq word (codes "decimal") then rounded_kind first second
+    else (if bytes_eq word (codes "date") then option_map Date (date_form first second)
+    else (if bytes_eq word (codes "boolean") then boolean_kind first second
+    else (if bytes_eq word (codes "time") then option_map Time (time_form first second (Some iso_date)) else None)))
+
+-- The kind that fields spell: `text`; `decimal,PLACES`, 1 to 18; `decimal,PLACES,rounded`, 0 to 18; `date,ORDER,SIGN`;
+-- `boolean,YES,NO`; `time,UNIT,ZONE`, for dates as 2026-01-31; or `time,UNIT,ZONE,ORDER,SIGN`.
 abbrev pub kind_in : List Field → Option Kind
 kind_in (word ∷ []) = if bytes_eq word (codes "text") then Some (Text []) else None
 kind_in (word ∷ places ∷ []) =
     if bytes_eq word (codes "decimal") then option_map Decimal (number_between 1 max_decimal_places places) else None
-kind_in (word ∷ first ∷ second ∷ []) =
-    if bytes_eq word (codes "date") then option_map Date (date_form first second)
-    else (if bytes_eq word (codes "boolean") then boolean_kind first second
-    else (if bytes_eq word (codes "time") then option_map Time (time_form first second (Some iso_date)) else None))
+kind_in (word ∷ first ∷ second ∷ []) = short_kind word first second
 kind_in (word ∷ unit ∷ zone ∷ order ∷ sign ∷ []) =
     if bytes_eq word (codes "time") then option_map Time (time_form unit zone (date_form order sign)) else None
 kind_in words = None
@@ -188,6 +198,7 @@ kind_in words = None
 -- Whole numbers: the kind of a column before another is declared.
 abbrev pub is_of_whole_numbers : Kind → Bool
 is_of_whole_numbers (Decimal places) = places == 0
+is_of_whole_numbers (Rounded places) = false
 is_of_whole_numbers (Date form) = false
 is_of_whole_numbers (Time form) = false
 is_of_whole_numbers (Boolean form) = false

@@ -71,6 +71,7 @@ fn put_kind(name: &[u8], kind: &Kind, out: &mut Writer<Vec<u8>>) -> Result<(), c
     match kind {
         Kind::Decimal(0) => Ok(()),
         Kind::Decimal(places) => put_decimal(name, *places, out),
+        Kind::Rounded(places) => put_rounded(name, *places, out),
         Kind::Date(form) => put_date(name, *form, out),
         Kind::Time(form) => put_time(name, *form, out),
         Kind::Boolean(form) => out.write_fields(&[
@@ -89,6 +90,18 @@ fn put_decimal(name: &[u8], places: u32, out: &mut Writer<Vec<u8>>) -> Result<()
     let mut digits = Buffer::new();
     let places = digits.format(places).as_bytes();
     out.write_fields(&[b"kind".as_slice(), name, b"decimal".as_slice(), places])
+}
+
+/// Appends a kind of rounded decimals.
+fn put_rounded(name: &[u8], places: u32, out: &mut Writer<Vec<u8>>) -> Result<(), csv::Error> {
+    let mut digits = Buffer::new();
+    out.write_fields(&[
+        b"kind".as_slice(),
+        name,
+        b"decimal".as_slice(),
+        digits.format(places).as_bytes(),
+        b"rounded".as_slice(),
+    ])
 }
 
 /// Appends a kind of dates.

@@ -7,11 +7,13 @@ ghost use Rattle.bsi_schema.specs.Columns.{column_at, fits};
 ghost use Rattle.bsi_schema.specs.Limits.{limits_of};
 ghost use Rattle.bsi_input.specs.Formats.{fields_at, fitting, given};
 ghost use Rattle.bsi_input.specs.RowFiles.{field_index};
+ghost use Rattle.bsi_logical.specs.HeaderTitles.{titles_of};
 ghost use Rattle.bsi_logical.specs.LogicalRows.{accepted_entry, entries_from, entry_of, has_titles, logical_format};
 
 use crate::NoMemory;
 use crate::logical::LogicalSchema;
-use bsi_input::{RowFormat, count_fields_named, field_index};
+use crate::titles::{count_titled, title_index};
+use bsi_input::RowFormat;
 use bsi_rows::Schema;
 use bsi_schema::Limits;
 use bsi_syntax::field;
@@ -23,8 +25,9 @@ use std::sync::Arc;
 /// The most records of a row file of kinds. An index takes fewer rows.
 const MAX_LOGICAL_RECORDS: u64 = 1 << 63;
 
-/// A logical schema as the format of row files. The sources of files share it. A header has each title once; it may have
-/// other fields, which are passed over.
+/// A logical schema as the format of row files. The sources of files share it. Exactly one field of a header has each
+/// title; there may be other fields, which are passed over. A field that stands in a header again has its number behind
+/// it in its title: `rain_2`.
 #[derive(Drop)]
 pub struct LogicalFormat {
     logical: Arc<LogicalSchema, Global>,
@@ -96,33 +99,33 @@ impl RowFormat for LogicalFormat {
     }
 }
 
-/// Returns whether each title is exactly one field of a header.
+/// Returns whether exactly one field of a header has each title.
 fn has_each_title_once(logical: &LogicalSchema, header: &ByteRecord) -> bool
     ensures { result ≡ has_titles logical.now (fields_of header.now) }
 {
     'columns: for c in 0..logical.schema().columns() {
-        if count_fields_named(header, logical.title(c)) != 1 {
+        if count_titled(header, logical.title(c)) != 1 {
             return false;
         }
     }
     true
 }
 
-/// Returns for each column how many fields come before its title.
+/// Returns for each column how many fields come before the one that has its title.
 fn title_indexes(
     alloc: Global,
     logical: &LogicalSchema,
     header: &ByteRecord,
 ) -> Result<Vec<usize>, NoMemory>
     ensures indexes { IfOk result (λ indexes. indexes.items
-        ≡ map (λ title. field_index (fields_of header.now) title) logical.now.titles) }
+        ≡ map (field_index (titles_of (fields_of header.now))) logical.now.titles) }
     ensures many { IfOk result (λ indexes. length indexes.items
         ≡ length logical.now.schema.columns) }
 {
     let columns = logical.schema().columns();
     let mut indexes = Vec::with_capacity(alloc, columns as usize)?;
     'columns: for c in 0..columns {
-        indexes.push_reserved(field_index(header, logical.title(c)));
+        indexes.push_reserved(title_index(header, logical.title(c)));
     }
     Ok(indexes)
 }

@@ -4,7 +4,7 @@ ghost use Rattle.std.specs.Prelude.{◌≡◌, ◌≤◌, [], ◌∷◌, IfOk, I
 ghost use Rattle.bsi_kinds.specs.Kinds.{IsKind};
 ghost use Rattle.bsi_syntax.specs.Numbers.{number_between};
 ghost use Rattle.bsi_syntax.specs.Reading.{texts};
-ghost use Rattle.bsi_logical.specs.Records.{boolean_kind, byte_of, date_form, date_sign_of, kind_in, max_decimal_places, order_of, time_form, unit_of, utc_of};
+ghost use Rattle.bsi_logical.specs.Records.{boolean_kind, byte_of, date_form, date_sign_of, kind_in, max_decimal_places, order_of, rounded_kind, short_kind, time_form, unit_of, utc_of};
 
 use crate::NoMemory;
 use bsi_kinds::{
@@ -44,22 +44,26 @@ fn read_decimal_kind(word: &[u8], places: &[u8]) -> Option<Kind>
     ensures valid { IfSome result IsKind }
 {
     if word == b"decimal".as_slice() {
-        let places = read_decimal_places(places)?;
+        let places = read_decimal_places(1, places)?;
         return Some(Kind::Decimal(places));
     }
     None
 }
 
-/// Reads a kind of dates, of booleans, or of times whose dates are as 2026-01-31.
+/// Reads a kind of rounded decimals, of dates, of booleans, or of times whose dates are as 2026-01-31.
+#[tactic(auto, unfolding(crate::specs::Records::short_kind))]
 fn read_short_kind(
     alloc: Global,
     word: &[u8],
     first: &[u8],
     second: &[u8],
 ) -> Result<Option<Kind>, NoMemory>
-    ensures kind { IfOk result (λ kind. kind ≡ kind_in (word.now ∷ first.now ∷ second.now ∷ [])) }
+    ensures kind { IfOk result (λ kind. kind ≡ short_kind word.now first.now second.now) }
     ensures valid { IfOk result (λ kind. IfSome kind IsKind) }
 {
+    if word == b"decimal".as_slice() {
+        return Ok(read_rounded_kind(first, second));
+    }
     if word == b"date".as_slice() {
         return Ok(read_date_form(first, second).map(Kind::Date));
     }
@@ -85,13 +89,25 @@ fn read_long_kind(word: &[u8], unit: &[u8], zone: &[u8], order: &[u8], sign: &[u
     None
 }
 
-/// Reads how many places decimals have.
-fn read_decimal_places(text: &[u8]) -> Option<u32>
-    ensures places { result ≡ number_between 1 max_decimal_places text.now }
+/// Reads a kind of decimals that are rounded to so many places.
+fn read_rounded_kind(places: &[u8], word: &[u8]) -> Option<Kind>
+    ensures kind { result ≡ rounded_kind places.now word.now }
+    ensures valid { IfSome result IsKind }
+{
+    if word == b"rounded".as_slice() {
+        let places = read_decimal_places(0, places)?;
+        return Some(Kind::Rounded(places));
+    }
+    None
+}
+
+/// Reads how many places decimals have, at least so many.
+fn read_decimal_places(least: u64, text: &[u8]) -> Option<u32>
+    ensures places { result ≡ number_between least max_decimal_places text.now }
     ensures few { IfSome result (λ places. places ≤ max_decimal_places) }
 {
     let places = read_number(text)?;
-    if places < 1 || places > u64::from(MAX_PLACES) {
+    if places < least || places > u64::from(MAX_PLACES) {
         return None;
     }
     Some(places as u32)

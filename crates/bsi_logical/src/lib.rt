@@ -10,7 +10,9 @@ mod logical;
 mod logical_text;
 mod notation;
 mod refusal;
+mod schema_file;
 mod table_schema;
+mod titles;
 mod vocabulary;
 
 pub use bsi_kinds::{Comparison, Kind, NoMemory, Op};
@@ -20,4 +22,5 @@ pub use format::LogicalFormat;
 pub use logical::LogicalSchema;
 pub use logical_text::{LogicalFault, read_logical};
 pub use refusal::{DeclareError, Refusal};
+pub use schema_file::{DeclaredSchema, read_schema_file};
 pub use table_schema::TableSchema;

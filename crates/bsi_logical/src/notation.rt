@@ -30,7 +30,7 @@ fn write_by_kind(kind: &Kind, number: i128, line: &mut Vec<u8>) -> Result<(), No
     ensures { OnOk result (AppendsText (IsNumberText kind.now number) line.old.items line.new.items) }
 {
     match kind {
-        Kind::Decimal(places) => write_decimal(*places, number, line),
+        Kind::Decimal(places) | Kind::Rounded(places) => write_decimal(*places, number, line),
         Kind::Date(_) | Kind::Time(_) | Kind::Boolean(_) | Kind::Text(_) => {
             write_value_or_number(kind, number, line)
         }
@@ -66,7 +66,7 @@ fn write_value(kind: &Kind, number: i64, line: &mut Vec<u8>) -> Result<(), NoMem
 {
     match kind {
         Kind::Text(texts) => write_quoted(texts.text(number as usize), line),
-        Kind::Decimal(_) | Kind::Date(_) | Kind::Time(_) | Kind::Boolean(_) => {
+        Kind::Decimal(_) | Kind::Rounded(_) | Kind::Date(_) | Kind::Time(_) | Kind::Boolean(_) => {
             kind.write(number, line)
         }
     }

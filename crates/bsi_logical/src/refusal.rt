@@ -64,7 +64,7 @@ impl Refusal {
             Refusal::TitleDeclared => "the title of this column was declared before",
             Refusal::TitleTaken => "a column is called so already",
             Refusal::BadKind => {
-                "a kind is decimal,PLACES; date,ORDER,SIGN; time,UNIT,ZONE; boolean,YES,NO; or text"
+                "a kind is decimal,PLACES; decimal,PLACES,rounded; date,ORDER,SIGN; time,UNIT,ZONE; boolean,YES,NO; or text"
             }
             Refusal::KindDeclared => "the kind of this column was declared before",
             Refusal::BadText => "texts rise by bytes, at most 65,536 of them, and none is empty",

@@ -1,4 +1,5 @@
--- What a contract sees of a step machine (`Shown`), and which replies to an event are lawful (`IsLawful`).
+-- What a contract sees of a step machine (`Shown`), which replies to an event are lawful (`IsLawful`), and which states
+-- are valid (`IsMachine`).
 use Rattle.std.specs.Prelude.{◌≡◌, ℕ, ◌≤◌, All, IsTrue, Bool, false, not, List, [], Option, Some, None, Result, Ok, Err, ◌⊎◌, MatchOption, length, nat_le, ◌==◌, if◌then◌else◌, slice_index_or}
 use Rattle.bsi_rows.specs.declared.errors.AppendError.{AppendError}
 use Rattle.bsi_rows.specs.declared.errors.AppendError.TheVariants as append

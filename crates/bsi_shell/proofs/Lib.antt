@@ -1,5 +1,6 @@
 mod Checking
 mod Cutting
+mod Describing
 mod Flushing
 mod Runs
 mod Scripts

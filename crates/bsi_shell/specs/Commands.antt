@@ -3,7 +3,7 @@ use Rattle.std.specs.Prelude.{List, Some, None, String, codes, if◌then◌else�
 use Rattle.std.specs.Str.{bytes_eq}
 use Rattle.std.specs.declared.alloc.Global.{Global}
 use Rattle.bsi_shell.specs.declared.request.Subcommand.{Subcommand}
-use Rattle.bsi_shell.specs.declared.request.Subcommand.TheVariants.{Script, Files, Check, Save, Add, Ask, Show}
+use Rattle.bsi_shell.specs.declared.request.Subcommand.TheVariants.{Script, Files, Check, Save, Schema, Add, Ask, Show}
 use Rattle.bsi_syntax.specs.Bytes.{KnownBytes}
 
 -- The command that a word names. A word that names no other stands for a script.
@@ -13,10 +13,11 @@ named_by (Some word) =
     if bytes_eq word (codes "files") then Files
     else (if bytes_eq word (codes "check") then Check
     else (if bytes_eq word (codes "save") then Save
+    else (if bytes_eq word (codes "schema") then Schema
     else (if bytes_eq word (codes "add") then Add
     else (if bytes_eq word (codes "ask") then Ask
     else (if bytes_eq word (codes "show") then Show
-    else Script)))))
+    else Script))))))
 
 -- The command that the first word names.
 abbrev pub subcommand_of : List (String Global) → Subcommand

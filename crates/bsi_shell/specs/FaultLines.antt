@@ -5,7 +5,7 @@ use Rattle.bsi_answers.specs.FaultTexts.{fault_text}
 use Rattle.bsi_shell.specs.declared.files.RunFault.{RunFault}
 use Rattle.bsi_shell.specs.declared.files.RunFault.TheVariants.{CannotOpen, Run}
 use Rattle.bsi_shell.specs.declared.request.Subcommand.{Subcommand}
-use Rattle.bsi_shell.specs.declared.request.Subcommand.TheVariants.{Check, Save, Add, Ask, Show}
+use Rattle.bsi_shell.specs.declared.request.Subcommand.TheVariants.{Check, Save, Schema, Add, Ask, Show}
 use Rattle.bsi_input.specs.BufferedOutput.{AppendsPrefix}
 use Rattle.bsi_input.specs.declared.writing.WriteFault.{WriteFault}
 use Rattle.bsi_syntax.specs.Bytes.{KnownBytes}
@@ -27,7 +27,8 @@ IsSomeTextWritten reported before after = (text : List ℕ) × IsLineWritten rep
 -- The usage line of a command. Those of `script` and `files` are one.
 abbrev pub usage_of : Subcommand → List ℕ
 usage_of Check = codes "usage: bsi check --schema FILE [--asks FILE] CSV..\n"
-usage_of Save = codes "usage: bsi save [--force] [--schema FILE] --to FILE CSV..\n"
+usage_of Save = codes "usage: bsi save [--force] [--schema FILE | --delimiter C --decimal C --dates dmy|mdy --null WORD --columns NAME,.. --round PLACES] --to FILE CSV..\n"
+usage_of Schema = codes "usage: bsi schema [--delimiter C --decimal C --dates dmy|mdy --null WORD --columns NAME,.. --round PLACES] CSV..\n"
 usage_of Add = codes "usage: bsi add [--so-far] FILE CSV..\n"
 usage_of Ask = codes "usage: bsi ask [--so-far] FILE [--asks FILE]\n"
 usage_of Show = codes "usage: bsi show FILE\n"

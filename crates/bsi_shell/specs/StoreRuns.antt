@@ -1,15 +1,17 @@
 -- What the commands over a saved index leave in the output, and what they report of a fault.
-use Rattle.std.specs.Io.KnownBytes.{Keeps}
+use Rattle.std.specs.Io.KnownBytes.{Appends, Keeps}
 use Rattle.std.specs.Borrow.{Bor}
 use Rattle.std.specs.List.{Contains}
 use Rattle.std.specs.Prelude.{◌≡◌, ◌⊎◌, ℕ, List, IfSome, IsOk, MatchOption, Result, Err, length}
 use Rattle.bsi_logical.specs.Logical.{Logical}
 use Rattle.bsi_store.specs.Saving.{HasAdded, HasSaved, HasSavedKinds, IsAddFault, IsSaveFault, IsSaveKindsFault, LeavesReported}
-use Rattle.bsi_store.specs.Surveyed.{HasSurveyed}
+use Rattle.bsi_store.specs.Surveyed.{HasDescribed, HasSurveyed}
 use Rattle.bsi_shell.specs.declared.request.SaveRequest.{SaveRequest}
+use Rattle.bsi_shell.specs.declared.row_options.SchemaRequest.{SchemaRequest}
 use Rattle.bsi_store.specs.declared.add.AddPaths.{AddPaths}
 use Rattle.bsi_store.specs.declared.save.SavePaths.{SavePaths}
 use Rattle.bsi_answers.specs.declared.faults.FilesFault.TheVariants.{NoMemory, Write}
+use Rattle.bsi_input.specs.BufferedOutput.{AppendsPrefix}
 use Rattle.bsi_input.specs.declared.writing.WriteFault.{WriteFault}
 use Rattle.bsi_shell.specs.FaultLines.{IsLineWritten, IsSomeTextWritten}
 use Rattle.bsi_store.specs.Asked.{HasAsked, HasShown, LeavesAnswers, LeavesShown}
@@ -17,7 +19,7 @@ use Rattle.bsi_store.specs.Faults.{store_fault_line, IsOfFile, NamesPath}
 use Rattle.bsi_store.specs.declared.ask.AskPaths.{AskPaths}
 use Rattle.bsi_store.specs.declared.fault.StoreFault.{StoreFault}
 use Rattle.bsi_store.specs.declared.fault.StoreFault.TheVariants.{Run}
-use Rattle.bsi_syntax.specs.Bytes.{KnownBytes}
+use Rattle.bsi_syntax.specs.Bytes.{Bytes, KnownBytes}
 
 -- `Is` holds of what was written to the output, which was flushed.
 pub record IsFlushed (Is : KnownBytes → KnownBytes → Type 0) (before after : KnownBytes) : Type 0 where
@@ -47,6 +49,12 @@ abbrev pub HasSavedRows : {S : Type 0} → (S → KnownBytes) → (S → KnownBy
 HasSavedRows rem put request before after =
     MatchOption request.schema (HasSavedFound rem put request.paths before after)
     (λ schema. HasSavedDeclared rem put request.paths before after)
+
+-- The text of a schema that was found in row files was written to the output.
+pub record HasDescribedRows {S : Type 0} (rem : S → KnownBytes) (request : SchemaRequest) (before after : KnownBytes) : Type 0 where
+  pub text : Bytes
+  pub described : HasDescribed rem (length request.rows.items) text
+  pub written : Appends before after text
 
 -- The rows of the row files were added to a saved index.
 abbrev pub HasAddedRows : {S : Type 0} → (S → KnownBytes) → (S → KnownBytes) → AddPaths → KnownBytes → KnownBytes → Type 0
@@ -128,7 +136,28 @@ HasFailedSaveOf rem put request before after reported stderr_before stderr_after
     MatchOption request.schema (HasFailedFound rem put request.paths before after reported stderr_before stderr_after)
     (λ schema. HasFailedStore (LeavesSave rem put schema request.paths) (HasSavedDeclared rem put request.paths) before after reported stderr_before stderr_after)
 
+-- A write that failed has appended a prefix of a text.
+pub record IsCutByWrite (text : Bytes) (fault : StoreFault) (before after : KnownBytes) : Type 0 where
+  pub write : fault ≡ Run Write
+  pub cut : AppendsPrefix before after text
+
+-- What a fault of writing leaves of the text of a schema that was found.
+pub record LeavesDescribed {S : Type 0} (rem : S → KnownBytes) (request : SchemaRequest) (fault : StoreFault) (before after : KnownBytes) : Type 0 where
+  pub text : Bytes
+  pub described : HasDescribed rem (length request.rows.items) text
+  pub cut : IsCutByWrite text fault before after
+
+-- No schema was found, and nothing was written to the output; or its text could not be written.
+abbrev pub HasFailedSchemaOf : {S : Type 0} → (S → KnownBytes) → SchemaRequest → KnownBytes → KnownBytes → Result (Unit {0}) WriteFault → KnownBytes → KnownBytes → Type 0
+HasFailedSchemaOf rem request before after reported stderr_before stderr_after =
+    ((after ≡ before) × IsSomeTextWritten reported stderr_before stderr_after)
+    ⊎ HasFailedStore (LeavesDescribed rem request) (HasDescribedRows rem request) before after reported stderr_before stderr_after
+
 -- The command failed for some paths.
+abbrev pub HasFailedSchema : {S : Type 0} → (S → KnownBytes) → KnownBytes → KnownBytes → Result (Unit {0}) WriteFault → KnownBytes → KnownBytes → Type 0
+HasFailedSchema rem before after reported stderr_before stderr_after =
+    OrNoMemory ((request : SchemaRequest) × HasFailedSchemaOf rem request before after reported stderr_before stderr_after) before after reported stderr_before stderr_after
+
 abbrev pub HasFailedSave : {S : Type 0} → (S → KnownBytes) → (S → KnownBytes) → KnownBytes → KnownBytes → Result (Unit {0}) WriteFault → KnownBytes → KnownBytes → Type 0
 HasFailedSave rem put before after reported stderr_before stderr_after =
     OrNoMemory ((request : SaveRequest) × HasFailedSaveOf rem put request before after reported stderr_before stderr_after) before after reported stderr_before stderr_after

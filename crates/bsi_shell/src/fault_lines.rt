@@ -105,7 +105,11 @@ fn usage_of(command: Subcommand) -> &'static str
             "usage: bsi script | bsi files --schema FILE --asks FILE CSV..\n"
         }
         Subcommand::Check => "usage: bsi check --schema FILE [--asks FILE] CSV..\n",
-        Subcommand::Save => "usage: bsi save [--force] [--schema FILE] --to FILE CSV..\n",
+        Subcommand::Save =>
+            "usage: bsi save [--force] [--schema FILE | --delimiter C --decimal C --dates dmy|mdy --null WORD --columns NAME,.. --round PLACES] --to FILE CSV..\n",
+        Subcommand::Schema => {
+            "usage: bsi schema [--delimiter C --decimal C --dates dmy|mdy --null WORD --columns NAME,.. --round PLACES] CSV..\n"
+        }
         Subcommand::Add => "usage: bsi add [--so-far] FILE CSV..\n",
         Subcommand::Ask => "usage: bsi ask [--so-far] FILE [--asks FILE]\n",
         Subcommand::Show => "usage: bsi show FILE\n",

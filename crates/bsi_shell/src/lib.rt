@@ -7,6 +7,7 @@ mod fault_lines;
 mod files;
 mod paths;
 mod request;
+mod row_options;
 mod store_commands;
 mod survey_lines;
 mod words;

@@ -2,11 +2,12 @@
 //!
 //! A further command is a variant of `Subcommand` and of `Request`, a line of `COMMANDS`, `subcommand_of` and
 //! `parse_words`, and one function of `words.rt`.
-ghost use Rattle.std.specs.Prelude.{◌≡◌, IfOk};
+ghost use Rattle.std.specs.Prelude.{◌≡◌, ◌<◌, length, IfOk};
 ghost use Rattle.bsi_shell.specs.Commands.{subcommand_of};
 ghost use Rattle.bsi_shell.specs.Requests.{IsRequestOf};
 
 use crate::paths::{CheckPaths, Paths};
+use crate::row_options::{RowOptions, SchemaRequest, has_row_options, read_row_options};
 use bsi_store::{AddPaths, AskPaths, SavePaths};
 use clap::error::ErrorKind;
 use clap::{Arg, ArgAction, ArgMatches, Command, Error};
@@ -23,6 +24,8 @@ pub(crate) enum Subcommand {
     Check,
     /// Saves the rows of files in a file.
     Save,
+    /// Says the schema that is found of row files.
+    Schema,
     /// Adds rows to a saved index.
     Add,
     /// Answers questions over a saved index.
@@ -42,6 +45,18 @@ enum Argument {
     Asks,
     /// That file, which may be left out.
     AsksIfGiven,
+    /// The byte between the fields of row files.
+    Delimiter,
+    /// The decimal point of row files.
+    Decimal,
+    /// Whether the day or the month is first in dates of row files.
+    Dates,
+    /// A null word of row files; there may be several.
+    Null,
+    /// The titles of the columns that are saved.
+    Columns,
+    /// To how many places decimals of too many digits are rounded.
+    Round,
     /// The file that is to get the rows.
     To,
     /// The file of an index.
@@ -55,7 +70,7 @@ enum Argument {
 }
 
 /// Each command, and its arguments.
-const COMMANDS: [(&str, &[Argument]); 7] = [
+const COMMANDS: [(&str, &[Argument]); 8] = [
     ("script", &[]),
     ("files", &[Argument::Schema, Argument::Asks, Argument::Rows]),
     (
@@ -67,7 +82,25 @@ const COMMANDS: [(&str, &[Argument]); 7] = [
         &[
             Argument::Force,
             Argument::SchemaIfGiven,
+            Argument::Delimiter,
+            Argument::Decimal,
+            Argument::Dates,
+            Argument::Null,
+            Argument::Columns,
+            Argument::Round,
             Argument::To,
+            Argument::Rows,
+        ],
+    ),
+    (
+        "schema",
+        &[
+            Argument::Delimiter,
+            Argument::Decimal,
+            Argument::Dates,
+            Argument::Null,
+            Argument::Columns,
+            Argument::Round,
             Argument::Rows,
         ],
     ),
@@ -87,6 +120,12 @@ impl Argument {
             Argument::SchemaIfGiven => option(alloc, "schema"),
             Argument::Asks => option(alloc, "asks").required(true),
             Argument::AsksIfGiven => option(alloc, "asks"),
+            Argument::Delimiter => option(alloc, "delimiter"),
+            Argument::Decimal => option(alloc, "decimal"),
+            Argument::Dates => option(alloc, "dates"),
+            Argument::Null => option(alloc, "null").action(ArgAction::Append),
+            Argument::Columns => option(alloc, "columns"),
+            Argument::Round => option(alloc, "round"),
             Argument::To => option(alloc, "to").required(true),
             Argument::Index => Arg::new(alloc, "index").required(true),
             Argument::SoFar => option(alloc, "so-far").action(ArgAction::SetTrue),
@@ -109,6 +148,8 @@ fn option<'a>(alloc: Global, name: &'static str) -> Arg<'a> {
 pub(crate) struct SaveRequest<'a> {
     /// The schema file, or none if a schema is to be found.
     pub(crate) schema: Option<&'a str>,
+    /// What is said of the row files, if a schema is to be found.
+    pub(crate) options: RowOptions,
     /// The file of the index, and the row files.
     pub(crate) paths: SavePaths<'a>,
 }
@@ -124,6 +165,8 @@ pub(crate) enum Request<'a> {
     Check(CheckPaths<'a>),
     /// Save the rows of files in a file.
     Save(SaveRequest<'a>),
+    /// Say the schema that is found of row files.
+    Schema(SchemaRequest<'a>),
     /// Add rows to a saved index.
     Add(AddPaths<'a>),
     /// Answer questions over a saved index.
@@ -158,6 +201,7 @@ fn parse_words<'a>(alloc: Global, words: &'a [String]) -> Result<Request<'a>, Er
         (Some(("files", given)), Subcommand::Files) => Ok(read_paths(alloc, given)?),
         (Some(("check", given)), Subcommand::Check) => Ok(read_check_paths(alloc, given)?),
         (Some(("save", given)), Subcommand::Save) => Ok(read_save_paths(alloc, given)?),
+        (Some(("schema", given)), Subcommand::Schema) => Ok(read_schema_paths(alloc, given)?),
         (Some(("add", given)), Subcommand::Add) => Ok(read_add_paths(alloc, given)?),
         (Some(("ask", given)), Subcommand::Ask) => Ok(read_ask_paths(given)),
         (Some(("show", given)), Subcommand::Show) => Ok(read_show_path(given)),
@@ -180,6 +224,9 @@ pub(crate) fn subcommand_of(words: &[String]) -> Subcommand
     }
     if word.as_str() == "save" {
         return Subcommand::Save;
+    }
+    if word.as_str() == "schema" {
+        return Subcommand::Schema;
     }
     if word.as_str() == "add" {
         return Subcommand::Add;
@@ -258,10 +305,37 @@ fn read_save_paths<'a>(alloc: Global, given: &ArgMatches<'a>) -> Result<Request<
         return Ok(Request::Wrong);
     }
     let schema = given.get_str("schema");
+    if schema.is_some() && has_row_options(given) {
+        return Ok(Request::Wrong);
+    }
+    let Some(options) = read_row_options(alloc, given)? else {
+        return Ok(Request::Wrong);
+    };
     let rows = rows.to_vec(alloc)?;
     let force = given.get_flag("force");
     let paths = SavePaths { to, rows, force };
-    Ok(Request::Save(SaveRequest { schema, paths }))
+    Ok(Request::Save(SaveRequest {
+        schema,
+        options,
+        paths,
+    }))
+}
+
+/// Reads the options and the paths from the matches of the command `schema`.
+fn read_schema_paths<'a>(alloc: Global, given: &ArgMatches<'a>) -> Result<Request<'a>, AllocError>
+    ensures { IfOk result (IsRequestOf Subcommand.Schema) }
+{
+    let Some(rows) = given.get_strs("rows") else {
+        return Ok(Request::Wrong);
+    };
+    if rows.is_empty() {
+        return Ok(Request::Wrong);
+    }
+    let Some(options) = read_row_options(alloc, given)? else {
+        return Ok(Request::Wrong);
+    };
+    let rows = rows.to_vec(alloc)?;
+    Ok(Request::Schema(SchemaRequest { options, rows }))
 }
 
 /// Reads the paths from the matches of the command `add`.

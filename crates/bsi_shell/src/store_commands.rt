@@ -1,24 +1,25 @@
 //! Carries out the commands over a saved index: `bsi save`, `bsi add`, `bsi ask` and `bsi show`.
 ghost use Rattle.std.specs.Prelude.{◌≡◌, ◌<◌, ◌≤◌, IfErr, IfOk, IsOk, OnOk, false, length};
-ghost use Rattle.std.specs.Io.KnownBytes.{Keeps};
-ghost use Rattle.bsi_shell.specs.StoreRuns.{EndedByFault, HasAddedRows, HasAskedEither, HasFailedFound, HasFailedSaveOf, HasFailedStore, HasSavedBy, HasSavedDeclared, HasSavedFound, HasSavedRows, IsFlushed, LeavesAdd, LeavesAsk, LeavesSave, LeavesSaveBy, LeavesShow};
+ghost use Rattle.std.specs.Io.KnownBytes.{Appends, Keeps};
+ghost use Rattle.bsi_shell.specs.StoreRuns.{EndedByFault, HasAddedRows, HasAskedEither, HasDescribedRows, HasFailedFound, HasFailedSaveOf, HasFailedSchemaOf, HasFailedStore, HasSavedBy, HasSavedDeclared, HasSavedFound, HasSavedRows, IsCutByWrite, IsFlushed, LeavesAdd, LeavesAsk, LeavesSave, LeavesSaveBy, LeavesShow};
 ghost use Rattle.bsi_shell.specs.FaultLines.{IsLineWritten};
 ghost use Rattle.bsi_store.specs.Asked.{HasShown};
 ghost use Rattle.bsi_store.specs.Faults.{store_fault_line};
-ghost use Rattle.bsi_store.specs.Surveyed.{HasSurveyed};
+ghost use Rattle.bsi_store.specs.Surveyed.{HasDescribed, HasSurveyed};
 
 use crate::fault_lines::write_store_fault;
 use crate::request::SaveRequest;
+use crate::row_options::{RowOptions, SchemaRequest};
 use crate::survey_lines::write_survey_fault;
 use crate::words::CommandEnd;
 use bsi_files::{Gate, Stopping};
 use bsi_logical::LogicalFormat;
 use bsi_store::{
     AddPaths, AskPaths, LockFile, SavePaths, StoreFault, SurveyFault, add_rows, ask_input,
-    ask_over, find_dialect, save_kinds, save_rows, show_index, survey_rows,
+    ask_over, describe_rows, find_file_delimiter, save_kinds, save_rows, show_index, survey_rows,
 };
 use bsi_survey::SurveyOptions;
-use bsi_text::WriteFault;
+use bsi_text::{WriteFault, write_bytes};
 use std::fs::OpenFile;
 use std::io::{Read, Write};
 use std::rt::Files;
@@ -47,7 +48,7 @@ pub(crate) fn answer_save<
 {
     match request.schema {
         Some(schema) => save_declared(rt, schema, &request.paths, output, stderr, gate),
-        None => save_found(rt, &request.paths, output, stderr, gate),
+        None => save_found(rt, &request.options, &request.paths, output, stderr, gate),
     }
 }
 
@@ -90,7 +91,14 @@ fn save_found<
     O: Write,
     F: Write,
     G: Gate + Stopping + Sync,
->(rt: &R, paths: &SavePaths<'a>, output: &mut O, stderr: &mut F, gate: &G) -> CommandEnd
+>(
+    rt: &R,
+    options: &RowOptions,
+    paths: &SavePaths<'a>,
+    output: &mut O,
+    stderr: &mut F,
+    gate: &G,
+) -> CommandEnd
     requires { G.STOPS ≡ false }
     ensures status { result.status ≤ 1 }
     ensures saved { result.status ≡ 0 →
@@ -101,9 +109,12 @@ fn save_found<
         (O.contents output.old) (O.contents output.new) result.reported (F.contents stderr.old) (F.contents stderr.new) }
     ensures stderr_unchanged { result.status ≡ 0 → F.contents stderr.new ≡ F.contents stderr.old }
 {
-    match find_format(rt, &paths.rows) {
+    match find_format(rt, options, &paths.rows) {
         Ok(format) => save_by_kinds(rt, &format, paths, output, stderr, gate),
-        Err(fault) => CommandEnd::by(1, write_survey_fault(rt.alloc(), fault, stderr)),
+        Err(fault) => CommandEnd::by(
+            1,
+            write_survey_fault(rt.alloc(), fault, options.rounding, stderr),
+        ),
     }
 }
 
@@ -141,18 +152,82 @@ fn save_by_kinds<
 /// Finds the schema of kinds of row files, as the format of these.
 fn find_format<'a, R: AllocGlobal + Files<File = S>, S: Read + OpenFile + Drop>(
     rt: &R,
+    options: &RowOptions,
     rows: &[&'a str],
 ) -> Result<LogicalFormat, SurveyFault<'a>>
     requires { 0 < length rows.now }
     ensures { IfOk result (HasSurveyed S.remaining (length rows.now)) }
 {
-    let options = SurveyOptions {
-        dialect: find_dialect(rt, rows[0])?,
-        order: None,
-        texts: Vec::new(rt.alloc()),
-    };
-    let logical = survey_rows(rt, rows, &options)?;
+    let mut options = find_options(rt, options, rows)?;
+    let logical = survey_rows(rt, rows, &mut options)?;
     Ok(LogicalFormat::new(rt.alloc(), logical)?)
+}
+
+/// Finds what is not said of row files before they are surveyed: the byte between fields.
+fn find_options<'a, R: AllocGlobal + Files<File = S>, S: Read + OpenFile + Drop>(
+    rt: &R,
+    options: &RowOptions,
+    rows: &[&'a str],
+) -> Result<SurveyOptions, SurveyFault<'a>>
+    requires { 0 < length rows.now }
+{
+    let found = find_file_delimiter(rt, rows[0])?;
+    let delimiter = options.delimiter.unwrap_or(found);
+    if delimiter == options.point {
+        return Err(SurveyFault::PointBetween(rows[0]));
+    }
+    Ok(options.survey_options(rt.alloc(), delimiter)?)
+}
+
+/// Carries out `bsi schema`.
+pub(crate) fn answer_schema<
+    'a,
+    R: AllocGlobal + Files<File = S>,
+    S: Read + OpenFile + Drop,
+    O: Write,
+    F: Write,
+>(rt: &R, request: &SchemaRequest<'a>, output: &mut O, stderr: &mut F) -> CommandEnd
+    ensures status { result.status ≤ 1 }
+    ensures described { result.status ≡ 0 →
+        IsFlushed (HasDescribedRows S.remaining request.now)
+        (O.contents output.old) (O.contents output.new) }
+    ensures reported { result.status ≡ 1 →
+        HasFailedSchemaOf S.remaining request.now
+        (O.contents output.old) (O.contents output.new) result.reported (F.contents stderr.old) (F.contents stderr.new) }
+    ensures stderr_unchanged { result.status ≡ 0 → F.contents stderr.new ≡ F.contents stderr.old }
+{
+    match find_schema_text(rt, request) {
+        Ok(text) => {
+            let run = put_text(text.as_slice(), output);
+            finish_command(run, output, stderr)
+        }
+        Err(fault) => CommandEnd::by(
+            1,
+            write_survey_fault(rt.alloc(), fault, request.options.rounding, stderr),
+        ),
+    }
+}
+
+/// Makes the text of the schema that is found of row files.
+fn find_schema_text<'a, R: AllocGlobal + Files<File = S>, S: Read + OpenFile + Drop>(
+    rt: &R,
+    request: &SchemaRequest<'a>,
+) -> Result<Vec<u8>, SurveyFault<'a>>
+    ensures { IfOk result (λ text. HasDescribed S.remaining (length request.now.rows.items) text.items) }
+{
+    let mut options = find_options(rt, &request.options, &request.rows)?;
+    describe_rows(rt, &request.rows, &mut options)
+}
+
+/// Writes a text.
+fn put_text<O: Write>(text: &[u8], output: &mut O) -> Result<(), StoreFault<'static>>
+    ensures written { OnOk result
+        (Appends (O.contents output.old) (O.contents output.new) text.now) }
+    ensures fault { IfErr result (λ fault. IsCutByWrite text.now fault
+        (O.contents output.old) (O.contents output.new)) }
+{
+    write_bytes(output, text)?;
+    Ok(())
 }
 
 /// Carries out `bsi add`.

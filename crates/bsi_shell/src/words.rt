@@ -4,7 +4,7 @@ ghost use Rattle.bsi_shell.specs.Checks.{HasChecked, HasFailedCheck};
 ghost use Rattle.bsi_shell.specs.Commands.{subcommand_of};
 ghost use Rattle.bsi_shell.specs.FaultLines.{usage_of, IsLineWritten};
 ghost use Rattle.bsi_shell.specs.FileRuns.{HasFailedFiles, HasRunOver};
-ghost use Rattle.bsi_shell.specs.StoreRuns.{HasAddedRows, HasAskedEither, HasDone, HasFailedAdd, HasFailedAsk, HasFailedSave, HasFailedShow, HasSavedRows, IsFlushed};
+ghost use Rattle.bsi_shell.specs.StoreRuns.{HasAddedRows, HasAskedEither, HasDescribedRows, HasDone, HasFailedAdd, HasFailedAsk, HasFailedSave, HasFailedSchema, HasFailedShow, HasSavedRows, IsFlushed};
 ghost use Rattle.bsi_store.specs.Asked.{HasShown};
 ghost use Rattle.bsi_shell.specs.ScriptRuns.{HasFailedScript, LeavesScript};
 ghost use Rattle.bsi_input.specs.Texts.{IfBytesKnown, IsAnswered, WrotePrefix};
@@ -14,7 +14,7 @@ use crate::fault_lines::{write_fault, write_run_fault, write_usage};
 use crate::files::{RunFault, run_paths};
 use crate::paths::{CheckPaths, Paths};
 use crate::request::{Request, Subcommand, read_request, subcommand_of};
-use crate::store_commands::{answer_add, answer_ask, answer_save, answer_show};
+use crate::store_commands::{answer_add, answer_ask, answer_save, answer_schema, answer_show};
 use bsi_files::{FilesFault, Gate, Stopping};
 use bsi_store::LockFile;
 use bsi_text::{ScriptFault, WriteFault, run_script};
@@ -90,6 +90,8 @@ pub fn run_words<
     // has the line of a fault, as above: which fault of which of these paths, and which first lines were written.
     ensures saved { result.status ≡ 0 → subcommand_of words.items ≡ Subcommand.Save →
         HasDone (HasSavedRows S.remaining S.contents) (O.contents output.old) (O.contents output.new) }
+    ensures described { result.status ≡ 0 → subcommand_of words.items ≡ Subcommand.Schema →
+        HasDone (HasDescribedRows S.remaining) (O.contents output.old) (O.contents output.new) }
     ensures added { result.status ≡ 0 → subcommand_of words.items ≡ Subcommand.Add →
         HasDone (HasAddedRows S.remaining S.contents) (O.contents output.old) (O.contents output.new) }
     ensures asked { result.status ≡ 0 → subcommand_of words.items ≡ Subcommand.Ask →
@@ -99,6 +101,9 @@ pub fn run_words<
         IsFlushed (HasShown S.remaining) (O.contents output.old) (O.contents output.new) }
     ensures unsaved { result.status ≡ 1 → subcommand_of words.items ≡ Subcommand.Save →
         HasFailedSave S.remaining S.contents (O.contents output.old) (O.contents output.new)
+        result.reported (F.contents stderr.old) (F.contents stderr.new) }
+    ensures undescribed { result.status ≡ 1 → subcommand_of words.items ≡ Subcommand.Schema →
+        HasFailedSchema S.remaining (O.contents output.old) (O.contents output.new)
         result.reported (F.contents stderr.old) (F.contents stderr.new) }
     ensures unadded { result.status ≡ 1 → subcommand_of words.items ≡ Subcommand.Add →
         HasFailedAdd S.remaining S.contents (O.contents output.old) (O.contents output.new)
@@ -123,6 +128,7 @@ pub fn run_words<
         Request::Files(paths) => answer_files(rt, &paths, output, stderr, gate),
         Request::Check(paths) => answer_check(rt, &paths, output, stderr),
         Request::Save(request) => answer_save(rt, &request, output, stderr, gate),
+        Request::Schema(request) => answer_schema(rt, &request, output, stderr),
         Request::Add(paths) => answer_add(rt, &paths, output, stderr, gate),
         Request::Ask(paths) => answer_ask(rt, &paths, input, output, stderr),
         Request::Show(path) => answer_show(rt, path, output, stderr),

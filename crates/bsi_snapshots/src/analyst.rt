@@ -89,6 +89,7 @@ impl<B: SystemTag> Analyst<B> {
         ensures told { OnOk result (self.new ≡ told.now) }
         ensures gone { result ≡ Err AnalystRefused.Gone →
             (self.new ≡ self.old) ⊎ (self.new ≢ told.now) }
+        ensures unchanged { IfErr result (λ refused. refused ≢ AnalystRefused.Gone → self.new ≡ self.old) }
         ensures grows { IsPrefix self.old self.new }
     {
         let answer = self.ask(query)?;

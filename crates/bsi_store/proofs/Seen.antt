@@ -5,6 +5,7 @@ use Rattle.bsi_logical.specs.Logical.{Logical}
 use Rattle.bsi_store.specs.Surveyed.{HasSeen, HasSurveyed}
 use Rattle.bsi_survey.specs.Looking.{AreLookedFor}
 use Rattle.bsi_survey.specs.Surveys.{FitsText, LooksFor, SeesText}
+use Rattle.bsi_survey.specs.declared.options.ColumnStart.{ColumnStart}
 use Rattle.bsi_survey.specs.declared.options.SurveyOptions.{SurveyOptions}
 use Rattle.bsi_survey.specs.declared.survey.Survey.{Survey}
 use Rattle.bsi_syntax.specs.Bytes.{KnownBytes}
@@ -15,16 +16,16 @@ if_some (Some bytes) P Q follows holds = follows bytes holds
 
 -- the columns of a survey by options
 pub looks_first : (options : SurveyOptions) (survey : Survey) → survey.dialect ≡ options.dialect
-    → AreLookedFor options.dialect.point options.texts.items survey.columns.items → LooksFor survey
+    → AreLookedFor options.dialect.point options.starts.items survey.columns.items → LooksFor survey
 looks_first options survey same looked = record {
-  texts = options.texts.items;
-  each = subst (λ (p : ℕ). AreLookedFor p options.texts.items survey.columns.items) (sym (ap (λ d. d.point) same)) looked;
+  starts = options.starts.items;
+  each = subst (λ (p : ℕ). AreLookedFor p options.starts.items survey.columns.items) (sym (ap (λ d. d.point) same)) looked;
 }
 
 -- those of a survey that went over one more file
 pub looks_still : (old new : Survey) → LooksFor old
-    → ((texts : List Bool) → AreLookedFor old.dialect.point texts old.columns.items → AreLookedFor new.dialect.point texts new.columns.items) → LooksFor new
-looks_still old new looks still = record { texts = looks.texts; each = still looks.texts looks.each }
+    → ((starts : List ColumnStart) → AreLookedFor old.dialect.point starts old.columns.items → AreLookedFor new.dialect.point starts new.columns.items) → LooksFor new
+looks_still old new looks still = record { starts = looks.starts; each = still looks.starts looks.each }
 
 module _ {S : Type 0} (rem : S → KnownBytes) where
   -- the first file

@@ -1,9 +1,10 @@
 -- What a survey of row files says of the schema that it makes (`HasSurveyed`).
 use Rattle.std.specs.Prelude.{◌≡◌, ℕ, List, All, IfSome, length}
 use Rattle.bsi_logical.specs.Logical.{Logical}
+use Rattle.bsi_logical.specs.LogicalTexts.{IsLogicalText}
 use Rattle.bsi_survey.specs.Surveys.{FitsText, SeesText}
 use Rattle.bsi_survey.specs.declared.survey.Survey.{Survey}
-use Rattle.bsi_syntax.specs.Bytes.{KnownBytes}
+use Rattle.bsi_syntax.specs.Bytes.{Bytes, KnownBytes}
 
 -- So many files were opened, and a survey has seen the text of each whose bytes are known.
 pub record HasSeen {S : Type 0} (rem : S → KnownBytes) (count : ℕ) (survey : Survey) : Type 0 where
@@ -17,3 +18,9 @@ pub record HasSurveyed {S : Type 0} (rem : S → KnownBytes) (count : ℕ) (l : 
   pub files : List S
   pub many : length files ≡ count
   pub fit : All (λ file. IfSome (rem file) (FitsText l)) files
+
+-- The text of a schema of kinds that the text of each of so many files fits.
+pub record HasDescribed {S : Type 0} (rem : S → KnownBytes) (count : ℕ) (text : Bytes) : Type 0 where
+  pub logical : Logical
+  pub found : HasSurveyed rem count logical
+  pub says : IsLogicalText text logical

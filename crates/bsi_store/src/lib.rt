@@ -25,4 +25,4 @@ pub use logical_save::save_kinds;
 pub use opening::{open_file, read_saved};
 pub use save::{SavePaths, save_rows};
 pub use show::show_index;
-pub use surveying::{SurveyFault, find_dialect, survey_rows};
+pub use surveying::{SurveyFault, describe_rows, find_file_delimiter, survey_rows};

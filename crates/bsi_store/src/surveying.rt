@@ -3,16 +3,15 @@
 ghost use Rattle.std.specs.Prelude.{◌≡◌, ◌<◌, ◌⊎◌, All, IfErr, IfOk, IfSome, length};
 ghost use Rattle.bsi_survey.specs.Looking.{AreLookedFor};
 ghost use Rattle.bsi_survey.specs.Surveys.{LooksFor, SeesText};
-ghost use Rattle.bsi_store.specs.Surveyed.{HasSeen, HasSurveyed};
+ghost use Rattle.bsi_store.specs.Surveyed.{HasDescribed, HasSeen, HasSurveyed};
 
 use crate::{StoreFault, open_file};
 use bsi_answers::FilesFault;
 use bsi_inference::Doubt;
 use bsi_input::SourceFault;
-use bsi_logical::{Dialect, LogicalSchema};
-use bsi_survey::{SchemaRefusal, Survey, SurveyOptions, find_delimiter};
+use bsi_logical::{LogicalSchema, describe_logical};
+use bsi_survey::{ColumnStart, SchemaRefusal, Survey, SurveyError, SurveyOptions, find_delimiter};
 use bsi_table::NoMemory;
-use std::alloc::Global;
 use std::fs::OpenFile;
 use std::io::Read;
 use std::rt::Files;
@@ -27,10 +26,18 @@ pub enum SurveyFault<'a> {
     Store(StoreFault<'a>),
     /// What is at this path is no regular file, and can't be read twice.
     NotTwice(&'a str),
+    /// The file of this path is in UTF-16.
+    Utf16(&'a str),
+    /// The header of the file of this path is not in UTF-8.
+    NotUtf8(&'a str),
     /// The file of this path was not read to its end, or has no record.
     Unread(&'a str, SourceFault),
     /// The file of this path has another header than the first one.
     OtherHeader(&'a str),
+    /// The header of the file of this path has no column of this title, which is to be saved.
+    NoColumn(&'a str, Vec<u8>),
+    /// The byte between the fields of the file of this path is the decimal point, too.
+    PointBetween(&'a str),
     /// The files were read, and no schema was made.
     Refused(SchemaRefusal),
 }
@@ -53,12 +60,13 @@ impl From<SchemaRefusal> for SurveyFault<'_> {
     }
 }
 
-/// Goes once over row files with one header, and makes a schema of kinds by which each record that is as long as the
-/// header is a row.
+/// Goes over row files with one header, and makes a schema of kinds by which each record that is as long as the header is
+/// a row. If a column turns out to have texts behind other values, or decimals that are to be rounded, the options say
+/// so, and the files are read again.
 pub fn survey_rows<'a, R: AllocGlobal + Files<File = S>, S: Read + OpenFile + Drop>(
     rt: &R,
     paths: &[&'a str],
-    options: &SurveyOptions,
+    options: &mut SurveyOptions,
 ) -> Result<LogicalSchema, SurveyFault<'a>>
     requires { 0 < length paths.now }
     ensures { IfOk result (HasSurveyed S.remaining (length paths.now)) }
@@ -68,10 +76,23 @@ pub fn survey_rows<'a, R: AllocGlobal + Files<File = S>, S: Read + OpenFile + Dr
         Err(SurveyFault::Refused(refusal)) => refusal,
         Err(fault) => return Err(fault),
     };
-    match with_texts(rt.alloc(), options, &refusal)? {
-        Some(options) => survey_once(rt, paths, &options),
-        None => Err(SurveyFault::Refused(refusal)),
+    if !note_starts(&refusal, options.rounding, &mut options.starts)? {
+        return Err(SurveyFault::Refused(refusal));
     }
+    survey_once(rt, paths, options)
+}
+
+/// Makes the text of the schema of kinds of row files that `survey_rows` makes.
+pub fn describe_rows<'a, R: AllocGlobal + Files<File = S>, S: Read + OpenFile + Drop>(
+    rt: &R,
+    paths: &[&'a str],
+    options: &mut SurveyOptions,
+) -> Result<Vec<u8>, SurveyFault<'a>>
+    requires { 0 < length paths.now }
+    ensures { IfOk result (λ text. HasDescribed S.remaining (length paths.now) text.items) }
+{
+    let logical = survey_rows(rt, paths, options)?;
+    Ok(describe_logical(rt.alloc(), &logical)?)
 }
 
 /// Makes a schema of kinds of row files by going over them once.
@@ -87,54 +108,79 @@ fn survey_once<'a, R: AllocGlobal + Files<File = S>, S: Read + OpenFile + Drop>(
     Ok(survey.make_schema(rt.alloc())?)
 }
 
-/// Returns options by which the columns have texts alone whose texts are missing, or none if none are missing.
-fn with_texts(
-    alloc: Global,
-    options: &SurveyOptions,
+/// Notes what the columns in doubt may have if the files are read again, and returns whether there is one.
+fn note_starts(
     refusal: &SchemaRefusal,
-) -> Result<Option<SurveyOptions>, NoMemory> {
+    rounding: Option<u32>,
+    starts: &mut Vec<ColumnStart>,
+) -> Result<bool, NoMemory> {
     let SchemaRefusal::Doubts(doubts) = refusal else {
-        return Ok(None);
+        return Ok(false);
     };
-    let mut texts = Vec::from_slice(alloc, &options.texts)?;
     let mut found = false;
     'doubts: for doubt in doubts {
-        if doubt.doubt == Doubt::TextsMissing {
-            set_texts(&mut texts, doubt.column)?;
+        if let Some(start) = start_of(doubt.doubt, rounding) {
+            set_start(starts, doubt.column, start)?;
             found = true;
         }
     }
-    Ok(found.then_some(SurveyOptions {
-        dialect: options.dialect,
-        order: options.order,
-        texts,
-    }))
+    Ok(found)
 }
 
-/// Notes that column `c` has texts alone.
-fn set_texts(texts: &mut Vec<bool>, c: usize) -> Result<(), NoMemory> {
-    if c < texts.len() {
-        texts[c] = true;
+/// Returns what a column in doubt may have if its file is read again, or none if that is of no use.
+fn start_of(doubt: Doubt, rounding: Option<u32>) -> Option<ColumnStart> {
+    match doubt {
+        Doubt::TextsMissing => Some(ColumnStart::Texts),
+        Doubt::TooManyDigits(_) => rounding.map(ColumnStart::Rounded),
+        Doubt::TwoOrders(_) | Doubt::TooManyTexts => None,
+    }
+}
+
+/// Notes what column `c` may have.
+fn set_start(starts: &mut Vec<ColumnStart>, c: usize, start: ColumnStart) -> Result<(), NoMemory> {
+    if c < starts.len() {
+        starts[c] = start;
     } else {
-        texts.resize(c, false)?;
-        texts.push(true)?;
+        starts.resize(c, ColumnStart::Any)?;
+        starts.push(start)?;
     }
     Ok(())
 }
 
-/// Returns the dialect of a row file, by its first bytes: the byte between its fields, and a decimal point.
-pub fn find_dialect<'a, R: AllocGlobal + Files<File = S>, S: Read + OpenFile + Drop>(
+/// Returns the byte between the fields of a row file, by its first bytes. The fault tells if it is not in UTF-8.
+pub fn find_file_delimiter<'a, R: AllocGlobal + Files<File = S>, S: Read + OpenFile + Drop>(
     rt: &R,
     path: &'a str,
-) -> Result<Dialect, SurveyFault<'a>> {
+) -> Result<u8, SurveyFault<'a>> {
     let mut file = open_regular(rt, path)?;
     let mut first = vec![in rt.alloc(); 0u8; FIRST_BYTES]?;
     let Ok(read) = file.read(&mut first) else {
         return Err(SurveyFault::Unread(path, SourceFault::Read));
     };
-    let mut dialect = Dialect::usual();
-    dialect.delimiter = find_delimiter(&first[..read]);
-    Ok(dialect)
+    let first = &first[..read];
+    if is_utf16(first) {
+        return Err(SurveyFault::Utf16(path));
+    }
+    if !is_header_utf8(first) {
+        return Err(SurveyFault::NotUtf8(path));
+    }
+    Ok(find_delimiter(first))
+}
+
+/// Returns whether the first bytes of a text are those of UTF-16: its byte order mark, or a byte of 0.
+fn is_utf16(first: &[u8]) -> bool {
+    matches!(
+        first,
+        [0xff, 0xfe, ..] | [0xfe, 0xff, ..] | [0, ..] | [_, 0, ..]
+    )
+}
+
+/// Returns whether the first line is in UTF-8, if it ends within the first bytes of a text.
+fn is_header_utf8(first: &[u8]) -> bool {
+    match first.iter().position(|byte| *byte == b'\n') {
+        Some(end) => std::str::from_utf8(&first[..end]).is_ok(),
+        None => true,
+    }
 }
 
 /// Goes once over row files with one header.
@@ -172,7 +218,8 @@ fn survey_first<'a, R: AllocGlobal + Files<File = S>, S: Read + OpenFile + Drop>
     let file = open_regular(rt, path)?;
     match Survey::read(rt.alloc(), file, options) {
         Ok(survey) => Ok(survey),
-        Err(fault) => Err(SurveyFault::Unread(path, fault)),
+        Err(SurveyError::Source(fault)) => Err(SurveyFault::Unread(path, fault)),
+        Err(SurveyError::NoColumn(title)) => Err(SurveyFault::NoColumn(path, title)),
     }
 }
 

@@ -20,6 +20,8 @@ use Rattle.bsi_logical.specs.Logical.{kind_of, Logical}
 use Rattle.bsi_logical.specs.LogicalRows.{accepted_entry, entry_of}
 use Rattle.bsi_survey.specs.Decided.{words_of, HasRisingTexts, IsColumnOf, IsDecided}
 use Rattle.bsi_survey.specs.Looking.{IsLookedFor}
+use Rattle.bsi_survey.specs.declared.options.ColumnStart.{ColumnStart}
+use Rattle.bsi_survey.specs.declared.options.ColumnStart.TheVariants.{Any, Rounded, Texts}
 use Rattle.bsi_survey.specs.Made.{HasNullsOf, IsGoodField}
 use Rattle.bsi_survey.specs.Slicings.{IsStoredFor}
 use Rattle.bsi_survey.proofs.Outcomes.{no_words, text_kind}
@@ -90,24 +92,26 @@ module _ (l : Logical) (c : ℕ) (column : Column) (placed : IsPlaced l c column
       (accepts_number column.span (column_at l.schema.columns c) placed.stored has.number has.within)
 
 -- the point by which the candidates read is that of the schema, or does not matter
-by_point : (point : ℕ) (texts : Bool) (c : Candidates) (column : Column) (f : Field) → IsLookedFor point texts c
-    → (texts ≡ true → is_text column.kind ≡ true) → HasNumberIn (IsSpelled column.kind c.point f) column.span → HasNumberIn (IsSpelled column.kind point f) column.span
-by_point point true c column f looks text has = record {
+by_point : (point : ℕ) (start : ColumnStart) (c : Candidates) (column : Column) (f : Field) → IsLookedFor point start c
+    → (start ≡ Texts → is_text column.kind ≡ true) → HasNumberIn (IsSpelled column.kind c.point f) column.span → HasNumberIn (IsSpelled column.kind point f) column.span
+by_point point Texts c column f looks text has = record {
   number = has.number;
   is = any_point column.kind c.point point f has.number (text refl) has.is;
   within = has.within;
 }
-by_point point false c column f looks text has = subst (λ (p : ℕ). HasNumberIn (IsSpelled column.kind p f) column.span) looks.decimals has
+by_point point Any c column f looks text has = subst (λ (p : ℕ). HasNumberIn (IsSpelled column.kind p f) column.span) looks.decimals has
+by_point point (Rounded places) c column f looks text has = subst (λ (p : ℕ). HasNumberIn (IsSpelled column.kind p f) column.span) looks.decimals has
 
 -- texts alone come to a column of texts
-texts_only : (point : ℕ) (texts : Bool) (c : Candidates) (column : Column) → IsLookedFor point texts c → IsDecided c (DecidedColumn column) → texts ≡ true → is_text column.kind ≡ true
-texts_only point true c column looks decided is = text_kind c column looks decided.meant
-texts_only point false c column looks decided is = absurd (cc)
+texts_only : (point : ℕ) (start : ColumnStart) (c : Candidates) (column : Column) → IsLookedFor point start c → IsDecided c (DecidedColumn column) → start ≡ Texts → is_text column.kind ≡ true
+texts_only point Texts c column looks decided is = text_kind c column looks decided.meant
+texts_only point Any c column looks decided is = absurd (cc)
+texts_only point (Rounded places) c column looks decided is = absurd (cc)
 
 words_empty : (column : Column) → column.nulls.items ≡ [] → words_of column ≡ []
 words_empty column none = ap (map (λ word. word.items)) none
 
-module _ (l : Logical) (k : ℕ) (texts : Bool) (c : Candidates) (looks : IsLookedFor l.dialect.point texts c) where
+module _ (l : Logical) (k : ℕ) (start : ColumnStart) (c : Candidates) (looks : IsLookedFor l.dialect.point start c) where
   -- a column that was decided
   decided_good : (decided column : Column) → IsDecided c (DecidedColumn decided) → column ≡ decided → HasRisingTexts column.kind → IsPlaced l k column
       → (f : Field) → Accepts c f → IsGoodField l k f
@@ -116,7 +120,7 @@ module _ (l : Logical) (k : ℕ) (texts : Bool) (c : Candidates) (looks : IsLook
       let plain : is_text column.kind ≡ true → words_of column ≡ [] = λ text. words_empty column (no_words c column own.meant text) in
       elim (own.accepts f accepts) [
         | inl null ↦ empty_or_good l k column placed rising plain f null
-        | inr number ↦ number_good l k column placed rising plain f (by_point l.dialect.point texts c column f looks (texts_only l.dialect.point texts c column looks own) number)
+        | inr number ↦ number_good l k column placed rising plain f (by_point l.dialect.point start c column f looks (texts_only l.dialect.point start c column looks own) number)
       ]
 
   pub good : (d : Decision) (column : Column) → IsDecided c d → IsColumnOf d column → IsPlaced l k column → (f : Field) → Accepts c f → IsGoodField l k f

@@ -1,5 +1,5 @@
 -- Columns before and after they observe fields, or are joined.
-use Rattle.std.proofs.Common.{◌≡◌, inl, inr, ℕ, ◌+◌, ◌<◌, ◌≤◌, Bool, true, false, List, [], ◌∷◌, ◌++◌, length, map, get_or, arith, refl, sym, subst, ap, ◌∙◌, get_or-set_other, get_or-set_same, All, IsTrue}
+use Rattle.std.proofs.Common.{◌≡◌, inl, inr, ℕ, ◌+◌, ◌<◌, ◌≤◌, Bool, true, false, List, [], ◌∷◌, ◌++◌, length, map, get_or, arith, refl, sym, subst, ap, ◌∙◌, get_or-set_other, get_or-set_same, All}
 use Rattle.std.proofs.Math.ListN.{length-set, set}
 use Rattle.std.proofs.lemmas.Bool.{cases_eq, cases_lt}
 use Rattle.std.proofs.lemmas.List.{get_or_default}
@@ -9,8 +9,12 @@ use Rattle.bsi_inference.specs.Decimals.{AcceptsDecimal}
 use Rattle.bsi_inference.specs.declared.candidate.Candidate.{Candidate}
 use Rattle.bsi_inference.specs.declared.candidates.Candidates.{Candidates}
 use Rattle.bsi_inference.specs.declared.decimals.Decimals.{Decimals}
-use Rattle.bsi_survey.specs.Looking.{AcceptMore, AcceptsRecord, AreGrown, AreLookedFor, AreSteps, HasObservedFields, IsGrown, IsLookedFor, IsStep, LooksForTexts}
-use Rattle.bsi_survey.specs.Surveys.{is_whole, AcceptsWhole}
+use Rattle.bsi_survey.specs.Choices.{chosen_fields}
+use Rattle.bsi_survey.specs.Looking.{AcceptMore, AcceptsRecord, AreGrown, AreLookedFor, AreSteps, HasJoined, HasObservedFields, IsGrown, IsLookedFor, IsStep, LooksForTexts}
+use Rattle.bsi_survey.specs.Surveys.{AcceptsWhole}
+use Rattle.bsi_survey.specs.declared.choice.Choice.{Choice}
+use Rattle.bsi_survey.specs.declared.options.ColumnStart.{ColumnStart}
+use Rattle.bsi_survey.specs.declared.options.ColumnStart.TheVariants.{Any, Rounded, Texts}
 
 -- ---- one column
 
@@ -30,12 +34,21 @@ none_mapped (c ∷ cs) is = absurd (cc)
 -- what is looked for stays, where texts alone stay texts alone
 looked_still : (old new : Candidates) → HaveSameForms old new
     → (((f : Field) → AcceptsDecimal old.point old.decimals f) → (f : Field) → AcceptsDecimal new.point new.decimals f)
-    → (point : ℕ) (texts : Bool) → IsLookedFor point texts old → IsLookedFor point texts new
-looked_still old new alike decimals point true looks = record {
+    → (point : ℕ) (start : ColumnStart) → IsLookedFor point start old → IsLookedFor point start new
+looked_still old new alike decimals point Texts looks = record {
   forms = none_mapped new.forms.items (sym alike.forms ∙ ap (map (λ c. c.form)) looks.forms);
   decimals = decimals looks.decimals;
 }
-looked_still old new alike decimals point false looks = record { decimals = sym alike.point ∙ looks.decimals; forms = sym alike.forms ∙ looks.forms }
+looked_still old new alike decimals point Any looks = record {
+  decimals = sym alike.point ∙ looks.decimals;
+  rounding = sym alike.rounding ∙ looks.rounding;
+  forms = sym alike.forms ∙ looks.forms;
+}
+looked_still old new alike decimals point (Rounded places) looks = record {
+  decimals = sym alike.point ∙ looks.decimals;
+  rounding = sym alike.rounding ∙ looks.rounding;
+  forms = sym alike.forms ∙ looks.forms;
+}
 
 -- a field was observed
 module _ (words : List Field) (field : Field) (old new : Candidates) (step : IsStep words field old new) where
@@ -75,7 +88,11 @@ joined old other new alike kinds preserved = record {
 
 -- two that look for the same
 pub same_forms : (point : ℕ) (first second : Candidates) → LooksFor point first → LooksFor point second → HaveSameForms first second
-same_forms point first second one two = record { point = one.decimals ∙ sym two.decimals; forms = one.forms ∙ sym two.forms }
+same_forms point first second one two = record {
+  point = one.decimals ∙ sym two.decimals;
+  rounding = one.rounding ∙ sym two.rounding;
+  forms = one.forms ∙ sym two.forms;
+}
 
 -- ---- all columns
 
@@ -104,14 +121,13 @@ module _ (old new : List Candidates) (grown : AreGrown old new) where
       let low : c < length old = omega (arith, grown.len, within) in
       (grown.each c d low).preserved (get_or fields c []) (accepts c d low)
 
-  pub whole_still : (records : List (List Field)) → AcceptsWhole old records → AcceptsWhole new records
-  whole_still records all = λ k d within whole.
-      accepted_still (get_or records k d) (all k d within (subst (λ (n : ℕ). IsTrue (is_whole n (get_or records k d))) grown.len whole))
-
-  pub all_looked : (point : ℕ) (texts : List Bool) → AreLookedFor point texts old → AreLookedFor point texts new
+  pub all_looked : (point : ℕ) (starts : List ColumnStart) → AreLookedFor point starts old → AreLookedFor point starts new
   all_looked point texts looks = λ c d within.
       let low : c < length old = omega (arith, grown.len, within) in
       (grown.each c d low).looked point _ (looks c d low)
+
+pub whole_still : (choice : Choice) (old new : List Candidates) → AreGrown old new → (records : List (List Field)) → AcceptsWhole choice old records → AcceptsWhole choice new records
+whole_still choice old new grown records all = λ k d within whole. accepted_still old new grown (chosen_fields choice (get_or records k d)) (all k d within whole)
 
 -- ---- columns of which some are done
 
@@ -192,6 +208,7 @@ behind_none Done old = record { len = refl; done = λ k d high low. absurd (omeg
 pub record IsJoinedWith (others : List Candidates) (k : ℕ) (old new : Candidates) : Type 0 where
   pub grown : IsGrown old new
   pub joined : (d : Candidates) (f : Field) → Accepts (get_or others k d) f → Accepts new f
+  pub has : (d : Candidates) → HasJoined old (get_or others k d) new
 
 pub behind_weaker : {X : Type 0} (P Q : ℕ → X → X → Type 0) (old new : List X) (i : ℕ) → ((k : ℕ) (a b : X) → P k a b → Q k a b) → AreBehind P old new i → AreBehind Q old new i
 behind_weaker P Q old new i weaker behind = record {
@@ -221,4 +238,4 @@ more_same cs = record { len = refl; each = λ c d within f accepts. accepts }
 pub kinds_looked : (point : ℕ) (old new : List Candidates) → AreGrown old new → All (LooksFor point) old → All (LooksFor point) new
 kinds_looked point old new grown looks = λ c d within.
     let low : c < length old = omega (arith, grown.len, within) in
-    (grown.each c d low).looked point false (looks c d low)
+    (grown.each c d low).looked point Any (looks c d low)

@@ -1,6 +1,8 @@
+pub mod ChosenIndexes
 pub mod Distinct
 pub mod Good
 pub mod Growing
+pub mod Late
 pub mod Lists
 pub mod Moments
 pub mod Outcomes

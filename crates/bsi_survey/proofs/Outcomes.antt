@@ -2,7 +2,7 @@
 use Rattle.std.proofs.Common.{◌≡◌, true, List, [], refl, ap}
 use Rattle.bsi_rows.specs.Fields.{Field}
 use Rattle.bsi_kinds.specs.declared.kind.Kind.{Kind}
-use Rattle.bsi_kinds.specs.declared.kind.Kind.TheVariants.{Boolean, Date, Decimal, Text, Time}
+use Rattle.bsi_kinds.specs.declared.kind.Kind.TheVariants.{Boolean, Date, Decimal, Rounded, Text, Time}
 use Rattle.bsi_inference.specs.Decisions.{Decides}
 use Rattle.bsi_inference.specs.declared.candidates.Candidates.{Candidates}
 use Rattle.bsi_inference.specs.declared.decision.Column.{Column}
@@ -18,6 +18,7 @@ pub record HasTexts (kind : Kind) : Type 0 where
 
 texts_of : (kind : Kind) → is_text kind ≡ true → HasTexts kind
 texts_of (Decimal places) is = absurd (cc)
+texts_of (Rounded places) is = absurd (cc)
 texts_of (Date form) is = absurd (cc)
 texts_of (Time form) is = absurd (cc)
 texts_of (Boolean form) is = absurd (cc)

@@ -1,5 +1,5 @@
 -- What the calls that make a schema change.
-use Rattle.std.proofs.Common.{◌≡◌, ℕ, ◌+◌, ◌<◌, Bool, true, false, not, ◌&&◌, ◌||◌, ◌==◌, if◌then◌else◌, List, Vec, Global, [], ◌∷◌, ◌++◌, length, map, set, Ok, Err, Result, OnOk, eqb-true, refl, sym, subst, ap, ap₂, ◌∙◌, IsTrue}
+use Rattle.std.proofs.Common.{◌≡◌, ℕ, ◌<◌, Bool, true, false, not, ◌&&◌, ◌||◌, ◌==◌, if◌then◌else◌, List, Vec, Global, [], ◌∷◌, ◌++◌, length, map, set, Ok, Err, Result, OnOk, eqb-true, refl, sym, subst, ap, ap₂, ◌∙◌, IsTrue}
 use Rattle.std.proofs.lemmas.Bool.{and_parts}
 use Rattle.std.proofs.lemmas.List.{get_or-set_other, get_or-set_same, set-get_or}
 use Rattle.std.proofs.lemmas.List.Folds.{list_any-append}

@@ -11,7 +11,8 @@ use Rattle.bsi_inference.specs.declared.decision.Decision.TheVariants.{Column as
 use Rattle.bsi_logical.specs.Logical.{Logical}
 use Rattle.bsi_logical.specs.declared.dialect.Dialect.{Dialect}
 use Rattle.bsi_survey.specs.Decided.{AreColumnsOf, AreDecided, IsColumnOf}
-use Rattle.bsi_survey.specs.Looking.{is_of_texts, AreLookedFor, IsLookedFor}
+use Rattle.bsi_survey.specs.declared.options.ColumnStart.{ColumnStart}
+use Rattle.bsi_survey.specs.Looking.{start_at, AreLookedFor, IsLookedFor}
 use Rattle.bsi_survey.specs.Made.{AreStoredFor, HasKindsOf, HasNullsOf, IsGoodField}
 use Rattle.bsi_survey.proofs.Good.{good, IsPlaced}
 
@@ -47,7 +48,7 @@ module _ (cands : List Candidates) (decisions : List Decision) (columns : List C
   pub columns_len : length columns ≡ length cands
   columns_len = listed.len ∙ decided.len
 
-  module _ (dialect : Dialect) (texts : List Bool) (looks : AreLookedFor dialect.point texts cands) where
+  module _ (dialect : Dialect) (starts : List ColumnStart) (looks : AreLookedFor dialect.point starts cands) where
     schema_good : (l : Logical) → AreStoredFor columns l.schema → l.dialect ≡ dialect → HasKindsOf columns l → All (HasNullsOf l.nulls) columns
         → (c : ℕ) (d : Candidates) → c < length cands → (f : Field) → Accepts (get_or cands c d) f → IsGoodField l c f
     schema_good l stored same kinds nulls c d within f accepts =
@@ -60,9 +61,9 @@ module _ (cands : List Candidates) (decisions : List Decision) (columns : List C
           stored = stored.each c column.item last;
           nulls = nulls c column.item last;
         } in
-        let own : IsLookedFor l.dialect.point (is_of_texts texts c) (get_or cands c d) =
-        subst (λ (e : Dialect). IsLookedFor e.point (is_of_texts texts c) (get_or cands c d)) (sym same) (looks c d within) in
-        good l c (is_of_texts texts c) (get_or cands c d) own (get_or decisions c decision.item) (get_or columns c column.item)
+        let own : IsLookedFor l.dialect.point (start_at starts c) (get_or cands c d) =
+        subst (λ (e : Dialect). IsLookedFor e.point (start_at starts c) (get_or cands c d)) (sym same) (looks c d within) in
+        good l c (start_at starts c) (get_or cands c d) own (get_or decisions c decision.item) (get_or columns c column.item)
         (decided.each c d decision.item within) (listed.each c decision.item column.item low) placed f accepts
 
     pub all_good : {E : Type 0} (r : Result Logical E) → IfOk r (λ l. AreStoredFor columns l.schema) → IfOk r (λ l. l.dialect ≡ dialect) → IfOk r (HasKindsOf columns)

@@ -11,7 +11,7 @@ use Rattle.bsi_kinds.specs.Dictionaries.{text_at, AreRising}
 use Rattle.bsi_kinds.specs.FieldNumbers.{field_number, text_number, text_rank}
 use Rattle.bsi_kinds.specs.Kinds.{IsSpelled}
 use Rattle.bsi_kinds.specs.declared.kind.Kind.{Kind}
-use Rattle.bsi_kinds.specs.declared.kind.Kind.TheVariants.{Boolean, Date, Decimal, Text, Time}
+use Rattle.bsi_kinds.specs.declared.kind.Kind.TheVariants.{Boolean, Date, Decimal, Rounded, Text, Time}
 use Rattle.bsi_kinds.proofs.Rising.{comes_far, text_place_is}
 use Rattle.bsi_logical.specs.Entries.{is_text}
 use Rattle.bsi_survey.specs.Decided.{HasRisingTexts}
@@ -42,6 +42,7 @@ module _ (texts : List (List ℕ)) (rising : AreRising texts) (text : List ℕ) 
 
 pub number_is : (kind : Kind) (point : ℕ) (f : List ℕ) (n : ℤ) → HasRisingTexts kind → IsSpelled kind point f n → field_number kind point f ≡ Some n
 number_is (Decimal places) point f n rising spelled = spelled
+number_is (Rounded places) point f n rising spelled = spelled
 number_is (Date form) point f n rising spelled = spelled
 number_is (Time form) point f n rising spelled = time_is form f n spelled.0 spelled.1
 number_is (Boolean form) point f n rising spelled = spelled
@@ -51,6 +52,7 @@ number_is (Text texts) point f (negsuc k) rising spelled = absurd spelled
 -- texts are spelled without a decimal point
 pub any_point : (kind : Kind) (point other : ℕ) (f : List ℕ) (n : ℤ) → is_text kind ≡ true → IsSpelled kind point f n → IsSpelled kind other f n
 any_point (Decimal places) point other f n text spelled = absurd (cc)
+any_point (Rounded places) point other f n text spelled = absurd (cc)
 any_point (Date form) point other f n text spelled = absurd (cc)
 any_point (Time form) point other f n text spelled = absurd (cc)
 any_point (Boolean form) point other f n text spelled = absurd (cc)

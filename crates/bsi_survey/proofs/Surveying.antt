@@ -1,16 +1,19 @@
 -- What a survey says of a text that was read.
-use Rattle.std.proofs.Common.{◌≡◌, ℕ, ◌∷◌, [], true, Bool, List, length, get_or, Some, None, IfSome, option_map, sym, subst, ap, ◌∙◌}
+use Rattle.std.proofs.Common.{◌≡◌, ℕ, ◌∷◌, [], true, Bool, List, get_or, Some, None, IfSome, option_map, sym, subst}
 use Rattle.csv.specs.Reading.{ReadRecord, reader_config, reader_state, source_of, strip_bom}
 use Rattle.csv.specs.declared.parser.State.TheVariants as st
 use Rattle.csv.specs.declared.reader.Reader.{Reader}
 use Rattle.bsi_syntax.specs.Bytes.{KnownBytes}
 use Rattle.bsi_rows.specs.Fields.{Field}
-use Rattle.bsi_inference.specs.Nulls.{usual_words}
 use Rattle.bsi_inference.specs.declared.candidates.Candidates.{Candidates}
+use Rattle.bsi_logical.specs.HeaderTitles.{titles_of}
+use Rattle.bsi_survey.specs.Choices.{chosen_indexes, wanted_titles}
 use Rattle.bsi_survey.specs.Looking.{AreGrown, AreLookedFor, AreNewBy, HasObservedFields, IsGrown}
-use Rattle.bsi_survey.specs.Surveys.{header_of, no_counts, AreCounted, HaveObservedAll, HaveObservedEach, Surveys}
+use Rattle.bsi_survey.specs.Surveys.{header_of, no_counts, null_words, AreCounted, HaveObservedAll, HaveObservedEach, Surveys}
 use Rattle.bsi_input.specs.Formats.{config_of}
 use Rattle.bsi_survey.specs.TextRecords.{AreTextRecords}
+use Rattle.bsi_survey.specs.declared.options.ColumnStart.{ColumnStart}
+use Rattle.bsi_survey.specs.declared.choice.Choice.{Choice}
 use Rattle.bsi_survey.specs.declared.counts.Counts.{Counts}
 use Rattle.bsi_survey.specs.declared.options.SurveyOptions.{SurveyOptions}
 use Rattle.bsi_survey.specs.declared.survey.Survey.{Survey}
@@ -23,15 +26,15 @@ fields_grown : (words fields : List Field) (old new : Candidates) → HasObserve
 fields_grown words [] old new same = subst (λ (c : Candidates). IsGrown old c) (sym same) (grown_same old)
 fields_grown words (field ∷ fields) old new seen = grown_then old seen.0 new (observed words field old seen.0 seen.1) (fields_grown words fields seen.0 new seen.2)
 
-pub each_grown : (words : List Field) (records : List (List Field)) (old new : List Candidates) → HaveObservedEach words records old new → AreGrown old new
-each_grown words records old new each = record {
+pub each_grown : (choice : Choice) (words : List Field) (records : List (List Field)) (old new : List Candidates) → HaveObservedEach choice words records old new → AreGrown old new
+each_grown choice words records old new each = record {
   len = each.len;
   each = λ c d within. fields_grown words _ (get_or old c d) (get_or new c d) (each.each c d within);
 }
 
-pub still_looked : {R : Type 0} (rem : R → KnownBytes) (words : List Field) (input : Reader R) (old new : List Candidates) (before after : Counts)
-    → HaveObservedAll rem words input old new before after → (point : ℕ) (texts : List Bool) → AreLookedFor point texts old → AreLookedFor point texts new
-still_looked rem words input old new before after all = all_looked old new (each_grown words all.records old new all.observed)
+pub still_looked : {R : Type 0} (rem : R → KnownBytes) (choice : Choice) (words : List Field) (input : Reader R) (old new : List Candidates) (before after : Counts)
+    → HaveObservedAll rem choice words input old new before after → (point : ℕ) (starts : List ColumnStart) → AreLookedFor point starts old → AreLookedFor point starts new
+still_looked rem choice words input old new before after all = all_looked old new (each_grown choice words all.records old new all.observed)
 
 -- ---- a text
 
@@ -42,19 +45,20 @@ if_some (Some bytes) P Q follows holds = follows bytes holds
 module _ {R : Type 0} (rem : R → KnownBytes) (options : SurveyOptions) (survey : Survey) (a b : Reader R) (header : List Field) (first : List Candidates) (words : List Field)
     (before : Counts) (known : KnownBytes) where
   pub surveyed : reader_config a ≡ config_of options.dialect.delimiter → reader_state a ≡ st.StartRecord → source_of rem a ≡ option_map strip_bom known
-      → ReadRecord rem a b true header → header_of survey ≡ header → AreNewBy options.dialect.point options.order options.texts.items first → length first ≡ length header
-      → words ≡ usual_words → before ≡ no_counts → HaveObservedAll rem words b first survey.columns.items before survey.counts
+      → ReadRecord rem a b true header → header_of survey ≡ header → AreNewBy options.dialect.point options.order options.starts.items first
+      → survey.choice.indexes.items ≡ chosen_indexes (wanted_titles options.columns) 0 (titles_of header)
+      → words ≡ null_words options → before ≡ no_counts → HaveObservedAll rem survey.choice words b first survey.columns.items before survey.counts
       → IfSome known (λ bytes. Surveys options bytes survey)
-  surveyed config start source read same new many usual none all =
+  surveyed config start source read same new chosen usual none all =
       if_some known (λ bytes. AreTextRecords options.dialect.delimiter bytes (header ∷ all.records)) (λ bytes. Surveys options bytes survey)
       (λ bytes are. record {
         records = all.records;
         all = subst (λ (h : List Field). AreTextRecords options.dialect.delimiter bytes (h ∷ all.records)) (sym same) are;
         first = first;
         begun = new;
-        observed = subst (λ (ws : List Field). HaveObservedEach ws all.records first survey.columns.items) usual all.observed;
+        chosen = subst (λ (h : List Field). survey.choice.indexes.items ≡ chosen_indexes (wanted_titles options.columns) 0 (titles_of h)) (sym same) chosen;
+        observed = subst (λ (ws : List Field). HaveObservedEach survey.choice ws all.records first survey.columns.items) usual all.observed;
         accepted = all.accepted;
-        counts = subst (λ (n : ℕ). AreCounted n all.records no_counts survey.counts) (many ∙ ap (λ (h : List Field). length h) (sym same))
-            (subst (λ (c : Counts). AreCounted (length first) all.records c survey.counts) none all.counts);
+        counts = subst (λ (c : Counts). AreCounted survey.choice all.records c survey.counts) none all.counts;
       })
       (all_records rem a b options.dialect.delimiter header config start known all.records source read all.left)

@@ -1,9 +1,9 @@
--- A record whose fields are good is good, if the fields of the header are the titles, and differ; and the header is one.
-use Rattle.std.proofs.Common.{◌≡◌, ℕ, zero, suc, ◌+◌, ◌<◌, Bool, true, false, not, if◌then◌else◌, List, [], ◌∷◌, length, map, get_or, Option, Some, None, option_map, option_and_then, Result, Ok, Err, IfOk, ℤ, refl, sym, ap, subst, ◌∙◌, arith, ext_get_or, eq-eqb}
+-- A record whose fields are good is good, if the titles of the header are those of the columns, and differ; and the header is one.
+use Rattle.std.proofs.Common.{◌≡◌, ℕ, zero, suc, ◌+◌, ◌<◌, All, Bool, true, false, not, ◌&&◌, if◌then◌else◌, List, [], ◌∷◌, length, map, get_or, Option, Some, None, option_map, option_and_then, Result, Ok, Err, IfOk, ℤ, refl, sym, ap, ap₂, subst, ◌∙◌, arith, eq-eqb}
 use Rattle.std.specs.Prelude.{IsSome, nat_eq}
 use Rattle.std.specs.List.{list_all}
 use Rattle.std.specs.Str.{bytes_eq}
-use Rattle.std.proofs.lemmas.List.{get_or-map, length-map}
+use Rattle.std.proofs.lemmas.List.{length-map}
 use Rattle.std.proofs.lemmas.List.Sums.{prefix_len_is}
 use Rattle.std.proofs.lemmas.Slice.Eq.{bytes_eq-Decides}
 use Rattle.bsi_schema.specs.Columns.{column_at, entry_at, fits, is_accepted_by, NamedColumn}
@@ -14,35 +14,40 @@ use Rattle.bsi_inference.specs.ColumnCandidates.{Accepts}
 use Rattle.bsi_inference.specs.declared.candidates.Candidates.{Candidates}
 use Rattle.bsi_input.specs.Formats.{fields_at, fitting, good_row, in_order}
 use Rattle.bsi_input.specs.RowFiles.{field_index}
+use Rattle.bsi_logical.specs.HeaderTitles.{titles_of}
 use Rattle.bsi_logical.specs.Logical.{Logical}
 use Rattle.bsi_logical.specs.LogicalRows.{accepted_entry, entries_from, entry_of, has_titles, is_titled_once, logical_format}
+use Rattle.bsi_logical.proofs.Titling.{length-titles_of}
+use Rattle.bsi_survey.specs.Choices.{chosen_fields}
 use Rattle.bsi_survey.specs.Looking.{AcceptsRecord}
 use Rattle.bsi_survey.specs.Made.{IsGoodField}
 use Rattle.bsi_survey.specs.Titles.{AreDistinct}
-use Rattle.bsi_survey.proofs.Distinct.{all_once, differs}
+use Rattle.bsi_survey.specs.declared.choice.Choice.{Choice}
+use Rattle.bsi_survey.proofs.Distinct.{differs, titled_once}
 use Rattle.bsi_survey.proofs.Schemas.{at_of}
 
--- ---- a header of distinct fields
+-- ---- distinct titles
 
-module _ (header : List Field) (distinct : AreDistinct header) where
-  index_is : (c : ℕ) → c < length header → field_index header (get_or header c []) ≡ c
+module _ (titles : List Field) (distinct : AreDistinct titles) where
+  index_is : (c : ℕ) → c < length titles → field_index titles (get_or titles c []) ≡ c
   index_is c within =
-      prefix_len_is (λ (field : Field). not (bytes_eq field (get_or header c []))) header c [] (omega (arith, within))
-      (λ k before. ap not (differs header distinct c k within (omega (arith, before, within)) (λ same. omega (arith, before, same))))
-      (λ there. ap not ((bytes_eq-Decides (get_or header c []) (get_or header c [])).1 refl))
+      prefix_len_is (λ (title : Field). not (bytes_eq title (get_or titles c []))) titles c [] (omega (arith, within))
+      (λ k before. ap not (differs titles distinct c k within (omega (arith, before, within)) (λ same. omega (arith, before, same))))
+      (λ there. ap not ((bytes_eq-Decides (get_or titles c []) (get_or titles c [])).1 refl))
 
-  -- so the fields of the columns are those of the record
-  module _ (fields : List Field) (long : length fields ≡ length header) where
-    in_header : fields_at (map (λ title. field_index header title) header) fields ≡ fields
-    in_header =
-        let indexes = map (λ (title : Field). field_index header title) header in
-        let many : length indexes ≡ length header = length-map header (λ (title : Field). field_index header title) in
-        let all : length (fields_at indexes fields) ≡ length fields = length-map indexes (λ (index : ℕ). get_or fields index []) ∙ many ∙ sym long in
-        ext_get_or [] (fields_at indexes fields) fields all
-        (λ k within.
-        let low : k < length header = omega (arith, within, all, long) in
-        get_or-map (λ (index : ℕ). get_or fields index []) indexes k 0 [] (omega (arith, low, many))
-        ∙ ap (λ (n : ℕ). get_or fields n []) (get_or-map (λ (title : Field). field_index header title) header k [] 0 low ∙ index_is k low))
+  -- so the fields of the columns are those at their indexes
+  in_header : (fields : List Field) (chosen : List ℕ) → ((i : ℕ) → i < length chosen → get_or chosen i 0 < length titles)
+      → fields_at (map (field_index titles) (fields_at chosen titles)) fields ≡ fields_at chosen fields
+  in_header fields [] within = refl
+  in_header fields (k ∷ ks) within =
+      ap₂ (λ (f : Field) (fs : List Field). f ∷ fs) (ap (λ (n : ℕ). get_or fields n []) (index_is k (within 0 (omega arith))))
+      (in_header fields ks (λ i low. within (suc i) (omega (arith, low))))
+
+  -- and each of their titles stands once
+  chosen_once : (chosen : List ℕ) → ((i : ℕ) → i < length chosen → get_or chosen i 0 < length titles) → list_all (is_titled_once titles) (fields_at chosen titles) ≡ true
+  chosen_once [] within = refl
+  chosen_once (k ∷ ks) within =
+      ap₂ (λ (one more : Bool). one && more) (titled_once titles distinct k (within 0 (omega arith))) (chosen_once ks (λ i low. within (suc i) (omega (arith, low))))
 
 -- ---- good fields
 
@@ -96,53 +101,63 @@ entries_of l k (field ∷ fields) good =
 
 -- ---- good records
 
-module _ (l : Logical) (header : List Field) (titles : l.titles ≡ header) (distinct : AreDistinct header) (columns : length l.schema.columns ≡ length header) where
-  row_good : (fields : List Field) → length fields ≡ length header → ((j : ℕ) → j < length fields → IsGoodField l j (get_or fields j []))
-      → IsSome (good_row (logical_format l) header fields)
-  row_good fields long good =
-      let from = entries_of l 0 fields (λ j within. subst (λ (n : ℕ). IsGoodField l n (get_or fields j [])) (none_added j) (good j within)) in
-      let fit : fits l.schema.columns from.entries ≡ true = fits-each l.schema.columns from.entries (from.len ∙ long ∙ sym columns)
-      (λ c within. ap (λ (n : ℕ). is_accepted_by (column_at l.schema.columns n) (entry_at from.entries c)) (none_added c) ∙ from.accepted c (omega (arith, within, long, columns))) in
-      let order : in_order (logical_format l) header fields ≡ fields =
-      ap (λ (ts : List Field). fields_at (map (λ title. field_index header title) ts) fields) titles ∙ in_header header distinct fields long in
-      let entries : entries_from l 0 (in_order (logical_format l) header fields) ≡ Some from.entries = ap (entries_from l 0) order ∙ from.are in
-      let whole : nat_eq (length fields) (length header) ≡ true = eq-eqb (length fields) (length header) long in
-      let fitted : fitting l.schema (entries_from l 0 (in_order (logical_format l) header fields)) ≡ Some from.entries =
-      ap (fitting l.schema) entries ∙ ap (λ b. if b then Some from.entries else None) fit in
-      subst IsSome (sym (ap (λ b. if b then fitting l.schema (entries_from l 0 (in_order (logical_format l) header fields)) else None) whole ∙ fitted)) refl
-    where
-      none_added : (j : ℕ) → j ≡ 0 + j
-      none_added j = omega arith
+module _ (header : List Field) (choice : Choice) (distinct : AreDistinct (titles_of header)) (chosen : All (λ (k : ℕ). k < choice.many) choice.indexes.items)
+    (many : choice.many ≡ length header) where
+  places : (i : ℕ) → i < length choice.indexes.items → get_or choice.indexes.items i 0 < length (titles_of header)
+  places i low = let is = chosen i 0 low in omega (arith, is, many, length-titles_of header)
 
-  header_good : has_titles l header ≡ true
-  header_good = ap (list_all (is_titled_once header)) titles ∙ all_once header distinct
+  module _ (l : Logical) (titles : l.titles ≡ chosen_fields choice (titles_of header)) (columns : length l.schema.columns ≡ length choice.indexes.items) where
+    row_good : (fields : List Field) → length fields ≡ length header
+        → ((j : ℕ) → j < length choice.indexes.items → IsGoodField l j (get_or (chosen_fields choice fields) j []))
+        → IsSome (good_row (logical_format l) header fields)
+    row_good fields long good =
+        let own = chosen_fields choice fields in
+        let same : length own ≡ length choice.indexes.items = length-map choice.indexes.items (λ (index : ℕ). get_or fields index []) in
+        let from = entries_of l 0 own (λ j within. subst (λ (n : ℕ). IsGoodField l n (get_or own j [])) (none_added j) (good j (omega (arith, within, same)))) in
+        let fit : fits l.schema.columns from.entries ≡ true = fits-each l.schema.columns from.entries (from.len ∙ same ∙ sym columns)
+        (λ c within. ap (λ (n : ℕ). is_accepted_by (column_at l.schema.columns n) (entry_at from.entries c)) (none_added c) ∙ from.accepted c (omega (arith, within, same, columns))) in
+        let order : in_order (logical_format l) header fields ≡ own =
+        ap (λ (ts : List Field). fields_at (map (field_index (titles_of header)) ts) fields) titles
+        ∙ in_header (titles_of header) distinct fields choice.indexes.items places in
+        let entries : entries_from l 0 (in_order (logical_format l) header fields) ≡ Some from.entries = ap (entries_from l 0) order ∙ from.are in
+        let whole : nat_eq (length fields) (length header) ≡ true = eq-eqb (length fields) (length header) long in
+        let fitted : fitting l.schema (entries_from l 0 (in_order (logical_format l) header fields)) ≡ Some from.entries =
+        ap (fitting l.schema) entries ∙ ap (λ b. if b then Some from.entries else None) fit in
+        subst IsSome (sym (ap (λ b. if b then fitting l.schema (entries_from l 0 (in_order (logical_format l) header fields)) else None) whole ∙ fitted)) refl
+      where
+        none_added : (j : ℕ) → j ≡ 0 + j
+        none_added j = omega arith
 
--- the schema of candidates
-module _ {E : Type 0} (r : Result Logical E) (header : List Field) (distinct : AreDistinct header) (titles : IfOk r (λ l. l.titles ≡ header)) (cands : List Candidates)
-    (many : length cands ≡ length header) (columns : IfOk r (λ l. length l.schema.columns ≡ length cands)) where
-  pub header_accepted : IfOk r (λ l. has_titles l header ≡ true)
-  header_accepted = by r titles columns
-    where
-      by : (s : Result Logical E) → IfOk s (λ l. l.titles ≡ header) → IfOk s (λ l. length l.schema.columns ≡ length cands) → IfOk s (λ l. has_titles l header ≡ true)
-      by (Ok l) are long = header_good l header are distinct (long ∙ many)
-      by (Err e) are long = tt
+    header_good : has_titles l header ≡ true
+    header_good = ap (list_all (is_titled_once (titles_of header))) titles ∙ chosen_once (titles_of header) distinct choice.indexes.items places
 
-  whole : (l : Logical) → ((c : ℕ) → (d : Candidates) → c < length cands → (f : Field) → Accepts (get_or cands c d) f → IsGoodField l c f)
-      → l.titles ≡ header → length l.schema.columns ≡ length cands
-      → (fields : List Field) → length fields ≡ length header → AcceptsRecord cands fields → IsSome (good_row (logical_format l) header fields)
-  whole l fields_good are all fields long accepts =
-      row_good l header are distinct (all ∙ many) fields long
-      (λ j within.
-      let low : j < length cands = omega (arith, within, long, many) in
-      let cand = at_of cands j low in
-      fields_good j cand.item low (get_or fields j []) (accepts j cand.item low))
+  -- the schema of candidates
+  module _ {E : Type 0} (r : Result Logical E) (titles : IfOk r (λ l. l.titles ≡ chosen_fields choice (titles_of header))) (cands : List Candidates)
+      (each : length cands ≡ length choice.indexes.items) (columns : IfOk r (λ l. length l.schema.columns ≡ length cands)) where
+    pub header_accepted : IfOk r (λ l. has_titles l header ≡ true)
+    header_accepted = by r titles columns
+      where
+        by : (s : Result Logical E) → IfOk s (λ l. l.titles ≡ chosen_fields choice (titles_of header)) → IfOk s (λ l. length l.schema.columns ≡ length cands)
+            → IfOk s (λ l. has_titles l header ≡ true)
+        by (Ok l) are long = header_good l are (long ∙ each)
+        by (Err e) are long = tt
 
-  pub whole_good : IfOk r (λ l. (c : ℕ) → (d : Candidates) → c < length cands → (f : Field) → Accepts (get_or cands c d) f → IsGoodField l c f)
-      → IfOk r (λ l. (fields : List Field) → length fields ≡ length header → AcceptsRecord cands fields → IsSome (good_row (logical_format l) header fields))
-  whole_good good = by r good titles columns
-    where
-      by : (s : Result Logical E) → IfOk s (λ l. (c : ℕ) → (d : Candidates) → c < length cands → (f : Field) → Accepts (get_or cands c d) f → IsGoodField l c f)
-          → IfOk s (λ l. l.titles ≡ header) → IfOk s (λ l. length l.schema.columns ≡ length cands)
-          → IfOk s (λ l. (fields : List Field) → length fields ≡ length header → AcceptsRecord cands fields → IsSome (good_row (logical_format l) header fields))
-      by (Ok l) fields_good are all = whole l fields_good are all
-      by (Err e) fields_good are all = tt
+    whole : (l : Logical) → ((c : ℕ) → (d : Candidates) → c < length cands → (f : Field) → Accepts (get_or cands c d) f → IsGoodField l c f)
+        → l.titles ≡ chosen_fields choice (titles_of header) → length l.schema.columns ≡ length cands
+        → (fields : List Field) → length fields ≡ length header → AcceptsRecord cands (chosen_fields choice fields) → IsSome (good_row (logical_format l) header fields)
+    whole l fields_good are all fields long accepts =
+        row_good l are (all ∙ each) fields long
+        (λ j within.
+        let low : j < length cands = omega (arith, within, each) in
+        let cand = at_of cands j low in
+        fields_good j cand.item low (get_or (chosen_fields choice fields) j []) (accepts j cand.item low))
+
+    pub whole_good : IfOk r (λ l. (c : ℕ) → (d : Candidates) → c < length cands → (f : Field) → Accepts (get_or cands c d) f → IsGoodField l c f)
+        → IfOk r (λ l. (fields : List Field) → length fields ≡ length header → AcceptsRecord cands (chosen_fields choice fields) → IsSome (good_row (logical_format l) header fields))
+    whole_good good = by r good titles columns
+      where
+        by : (s : Result Logical E) → IfOk s (λ l. (c : ℕ) → (d : Candidates) → c < length cands → (f : Field) → Accepts (get_or cands c d) f → IsGoodField l c f)
+            → IfOk s (λ l. l.titles ≡ chosen_fields choice (titles_of header)) → IfOk s (λ l. length l.schema.columns ≡ length cands)
+            → IfOk s (λ l. (fields : List Field) → length fields ≡ length header → AcceptsRecord cands (chosen_fields choice fields) → IsSome (good_row (logical_format l) header fields))
+        by (Ok l) fields_good are all = whole l fields_good are all
+        by (Err e) fields_good are all = tt

@@ -3,7 +3,7 @@ use Rattle.std.specs.Prelude.{◌≡◌, ℕ, ◌<◌, List, length, map, pos, s
 use Rattle.bsi_rows.specs.Fields.{Field}
 use Rattle.bsi_kinds.specs.Dictionaries.{AreRising}
 use Rattle.bsi_kinds.specs.declared.kind.Kind.{Kind}
-use Rattle.bsi_kinds.specs.declared.kind.Kind.TheVariants.{Boolean, Date, Decimal, Text, Time}
+use Rattle.bsi_kinds.specs.declared.kind.Kind.TheVariants.{Boolean, Date, Decimal, Rounded, Text, Time}
 use Rattle.bsi_inference.specs.ColumnCandidates.{Accepts}
 use Rattle.bsi_inference.specs.Decisions.{Decides, HasKind, IsDecidedFor}
 use Rattle.bsi_inference.specs.declared.candidates.Candidates.{Candidates}
@@ -14,6 +14,7 @@ use Rattle.bsi_inference.specs.declared.decision.Decision.TheVariants.{Column as
 -- The texts of a dictionary rise.
 abbrev pub HasRisingTexts : Kind → Type 0
 HasRisingTexts (Decimal places) = Unit {0}
+HasRisingTexts (Rounded places) = Unit {0}
 HasRisingTexts (Date form) = Unit {0}
 HasRisingTexts (Time form) = Unit {0}
 HasRisingTexts (Boolean form) = Unit {0}

@@ -1,3 +1,4 @@
+pub mod Choices
 pub mod Decided
 pub mod Delimiters
 pub mod Looking

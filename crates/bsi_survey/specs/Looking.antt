@@ -1,10 +1,12 @@
 -- What the candidates of a column look for, and what they are once they observed fields, one after another.
-use Rattle.std.specs.Prelude.{◌≡◌, ℕ, ◌<◌, Bool, true, false, List, [], ◌∷◌, length, get_or, slice_index_or, Option}
+use Rattle.std.specs.Prelude.{◌≡◌, ◌⊎◌, ℕ, ◌<◌, Bool, true, false, List, [], ◌∷◌, length, get_or, slice_index_or, Option}
 use Rattle.bsi_rows.specs.Fields.{Field}
 use Rattle.bsi_kinds.specs.declared.date.DateOrder.{DateOrder}
-use Rattle.bsi_inference.specs.ColumnCandidates.{is_null_field, Accepts, AddsOnlyField, GathersOn, HasNextKinds, HasSameKinds, HaveSameForms, IsNewColumn, IsNewTextColumn, LooksFor}
+use Rattle.bsi_inference.specs.ColumnCandidates.{is_null_field, Accepts, AddsOnlyField, AddsOnlyOther, GathersOn, HasJoinedKinds, HasNextKinds, HasSameKinds, HaveSameForms, IsNewColumn, IsNewRoundedColumn, IsNewTextColumn, LooksFor, LooksForRounded, MissesTexts}
 use Rattle.bsi_inference.specs.Decimals.{AcceptsDecimal}
 use Rattle.bsi_inference.specs.declared.candidates.Candidates.{Candidates}
+use Rattle.bsi_survey.specs.declared.options.ColumnStart.{ColumnStart}
+use Rattle.bsi_survey.specs.declared.options.ColumnStart.TheVariants.{Any, Rounded, Texts}
 
 -- ---- what is looked for
 
@@ -15,29 +17,31 @@ pub record LooksForTexts (c : Candidates) : Type 0 where
   -- Decimals are ruled out: they accept any field.
   pub decimals : (f : Field) → AcceptsDecimal c.point c.decimals f
 
--- A column may have texts alone, or each kind, with this decimal point.
-abbrev pub IsLookedFor : ℕ → Bool → Candidates → Type 0
-IsLookedFor point true c = LooksForTexts c
-IsLookedFor point false c = LooksFor point c
+-- A column may have each kind, with this decimal point, its decimals rounded or not, or texts alone.
+abbrev pub IsLookedFor : ℕ → ColumnStart → Candidates → Type 0
+IsLookedFor point Any c = LooksFor point c
+IsLookedFor point Texts c = LooksForTexts c
+IsLookedFor point (Rounded places) c = LooksForRounded places point c
 
--- A column is said to have texts alone.
-abbrev pub is_of_texts : List Bool → ℕ → Bool
-is_of_texts texts c = slice_index_or texts c false
+-- What is said of a column; of one behind the last, nothing.
+abbrev pub start_at : List ColumnStart → ℕ → ColumnStart
+start_at starts c = slice_index_or starts c Any
 
--- What each column may have, where it is said which columns have texts alone.
-abbrev pub AreLookedFor : ℕ → List Bool → List Candidates → Type 0
-AreLookedFor point texts columns =
-    (c : ℕ) → (d : Candidates) → c < length columns → IsLookedFor point (is_of_texts texts c) (slice_index_or columns c d)
+-- What each column may have, by what is said of it.
+abbrev pub AreLookedFor : ℕ → List ColumnStart → List Candidates → Type 0
+AreLookedFor point starts columns =
+    (c : ℕ) → (d : Candidates) → c < length columns → IsLookedFor point (start_at starts c) (slice_index_or columns c d)
 
 -- The candidates of a column before any field.
-abbrev pub IsNewBy : ℕ → Option DateOrder → Bool → Candidates → Type 0
-IsNewBy point order true c = IsNewTextColumn c
-IsNewBy point order false c = IsNewColumn point order c
+abbrev pub IsNewBy : ℕ → Option DateOrder → ColumnStart → Candidates → Type 0
+IsNewBy point order Any c = IsNewColumn point order c
+IsNewBy point order Texts c = IsNewTextColumn c
+IsNewBy point order (Rounded places) c = IsNewRoundedColumn places point order c
 
 -- The candidates of each column before any field.
-abbrev pub AreNewBy : ℕ → Option DateOrder → List Bool → List Candidates → Type 0
-AreNewBy point order texts columns =
-    (c : ℕ) → (d : Candidates) → c < length columns → IsNewBy point order (is_of_texts texts c) (slice_index_or columns c d)
+abbrev pub AreNewBy : ℕ → Option DateOrder → List ColumnStart → List Candidates → Type 0
+AreNewBy point order starts columns =
+    (c : ℕ) → (d : Candidates) → c < length columns → IsNewBy point order (start_at starts c) (slice_index_or columns c d)
 
 -- ---- fields that are observed
 
@@ -76,7 +80,7 @@ pub record IsGrown (old new : Candidates) : Type 0 where
   -- Each field that was accepted is accepted.
   pub preserved : (f : Field) → Accepts old f → Accepts new f
   -- The candidates look for the same.
-  pub looked : (point : ℕ) → (texts : Bool) → IsLookedFor point texts old → IsLookedFor point texts new
+  pub looked : (point : ℕ) → (start : ColumnStart) → IsLookedFor point start old → IsLookedFor point start new
 
 -- The same of each column.
 pub record AreGrown (old new : List Candidates) : Type 0 where
@@ -88,6 +92,21 @@ pub record AcceptMore (first second : List Candidates) : Type 0 where
   pub len : length second ≡ length first
   pub each : (c : ℕ) → (d : Candidates) → c < length first → (f : Field) → Accepts (slice_index_or first c d) f
       → Accepts (slice_index_or second c d) f
+
+-- The candidates of a column before and after they joined others: what neither saw was added to none.
+pub record HasJoined (old other new : Candidates) : Type 0 where
+  -- The candidates have seen what both had, and no more.
+  pub kinds : HasJoinedKinds old other new
+  -- Texts are missing only if they were missing before.
+  pub missing : MissesTexts new → MissesTexts old ⊎ MissesTexts other
+  -- No other null words and no other texts were added.
+  pub only : AddsOnlyOther old other new
+
+-- The same of each column.
+pub record HaveJoined (old others new : List Candidates) : Type 0 where
+  pub len : length new ≡ length old
+  pub each : (c : ℕ) → (d : Candidates) → c < length old →
+      HasJoined (slice_index_or old c d) (slice_index_or others c d) (slice_index_or new c d)
 
 -- Each field of a record is accepted by the candidates of its column.
 abbrev pub AcceptsRecord : List Candidates → List Field → Type 0

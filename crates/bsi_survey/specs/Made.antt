@@ -10,6 +10,8 @@ use Rattle.bsi_logical.specs.Logical.{kind_of, Logical}
 use Rattle.bsi_logical.specs.LogicalRows.{accepted_entry, entry_of}
 use Rattle.bsi_survey.specs.Decided.{words_of}
 use Rattle.bsi_survey.specs.Slicings.{IsStoredFor}
+use Rattle.bsi_survey.specs.declared.schema_refusal.SchemaRefusal.{SchemaRefusal}
+use Rattle.bsi_survey.specs.declared.schema_refusal.SchemaRefusal.TheVariants.{RepeatedTitle, TooManyColumns}
 
 -- A field of column c spells an entry, which the column accepts.
 abbrev pub IsGoodField : Logical → ℕ → Field → Type 0
@@ -37,3 +39,9 @@ HasNullsOf nulls column =
 -- The kinds of a schema are those of decided columns.
 abbrev pub HasKindsOf : List Column → Logical → Type 0
 HasKindsOf columns l = (c : ℕ) → (d : Column) → c < length columns → kind_of l c ≡ (slice_index_or columns c d).kind
+
+-- A refusal for another reason than the titles of a header.
+abbrev pub IsLateRefusal : SchemaRefusal → Type 0
+IsLateRefusal TooManyColumns = ⊥
+IsLateRefusal (RepeatedTitle c) = ⊥
+IsLateRefusal why = Unit {0}

@@ -1,6 +1,6 @@
 //! How many records of a text are as long as its header, and how many are not (`Counts`).
 
-ghost use Rattle.std.specs.Prelude.{◌≡◌, ◌+◌, IfErr, IfSome, OnOk};
+ghost use Rattle.std.specs.Prelude.{◌≡◌, ◌+◌, IfErr, IfNone, IfSome, OnOk};
 
 use bsi_input::SourceFault;
 
@@ -14,7 +14,7 @@ pub struct Counts {
 }
 
 impl Counts {
-    ghost use Rattle.bsi_survey.specs.Surveys.{counted, no_counts};
+    ghost use Rattle.bsi_survey.specs.Surveys.{counted, no_counts, PassCounts};
 
     /// Returns the counts before any record.
     pub(crate) fn new() -> Counts
@@ -40,6 +40,7 @@ impl Counts {
     pub(crate) fn with(self, other: Counts) -> Option<Counts>
         ensures good { IfSome result (λ counts. counts.good ≡ self.good + other.good) }
         ensures bad { IfSome result (λ counts. counts.bad ≡ self.bad + other.bad) }
+        ensures none { IfNone result (PassCounts self other) }
     {
         Some(Counts {
             good: self.good.checked_add(other.good)?,

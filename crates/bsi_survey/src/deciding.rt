@@ -1,4 +1,5 @@
-//! Decides the columns of a survey (`decide_each`), lists those in doubt, and turns the other decisions into columns.
+//! Decides the columns of a survey (`decide_each`), and lists those in doubt (`list_doubts`) or, if none is, all of them as
+//! they are to be stored (`list_columns`).
 
 ghost use Rattle.std.specs.Prelude.{◌≡◌, length, map, IfOk, IfSome};
 ghost use Rattle.bsi_survey.specs.Decided.{AreColumnsOf, AreDecided, HasRisingTexts, IsColumnOf};

@@ -1,9 +1,9 @@
 //! Joins the candidates of the columns of two texts (`join_each`), and compares their headers.
 
-ghost use Rattle.std.specs.Prelude.{◌≡◌, ◌<◌, ℕ, length, map, true, slice_index_or, OnOk};
+ghost use Rattle.std.specs.Prelude.{◌≡◌, ◌≢◌, ◌<◌, ℕ, length, map, true, false, slice_index_or, OnOk};
 ghost use Rattle.bsi_inference.specs.ColumnCandidates.{HaveSameForms};
 ghost use Rattle.bsi_inference.specs.declared.candidates.Candidates.{Candidates};
-ghost use Rattle.bsi_survey.specs.Looking.{AcceptMore, AreGrown};
+ghost use Rattle.bsi_survey.specs.Looking.{AcceptMore, AreGrown, HaveJoined};
 
 use crate::NoMemory;
 use bsi_inference::Candidates;
@@ -15,6 +15,7 @@ pub(crate) fn join_each(columns: &mut [Candidates], others: Vec<Candidates>) -> 
         HaveSameForms (slice_index_or columns.old c d) (slice_index_or others.items c d) }
     ensures grown { AreGrown columns.old columns.new }
     ensures joined { OnOk result (AcceptMore others.items columns.new) }
+    ensures kinds { OnOk result (HaveJoined columns.old others.items columns.new) }
 {
     let mut others = others;
     'columns: while let Some(other) = others.pop() {
@@ -26,8 +27,10 @@ pub(crate) fn join_each(columns: &mut [Candidates], others: Vec<Candidates>) -> 
 
 /// Returns whether two headers have the same fields.
 pub(crate) fn are_same_fields(first: &[Vec<u8>], second: &[Vec<u8>]) -> bool
-    ensures { result ≡ true →
+    ensures same { result ≡ true →
         map (λ field. field.items) second.now ≡ map (λ field. field.items) first.now }
+    ensures other { result ≡ false →
+        map (λ field. field.items) second.now ≢ map (λ field. field.items) first.now }
 {
     if first.len() != second.len() {
         return false;

@@ -1,13 +1,13 @@
 //! Makes the logical schema of decided columns (`make_logical`).
 
-ghost use Rattle.std.specs.Prelude.{◌≡◌, ◌<◌, ℕ, length, map, All, IfOk, IsTrue, OnOk};
+ghost use Rattle.std.specs.Prelude.{◌≡◌, ◌<◌, ℕ, length, map, All, IfErr, IfOk, IsTrue, OnOk};
 ghost use Rattle.std.specs.List.{Contains};
 ghost use Rattle.bsi_schema.specs.Columns.{no_columns};
 ghost use Rattle.bsi_rows.specs.Fields.{Field};
 ghost use Rattle.bsi_kinds.specs.Kinds.{IsKind};
 ghost use Rattle.bsi_logical.specs.Dialects.{usual_dialect};
 ghost use Rattle.bsi_logical.specs.Records.{with_kind, with_title};
-ghost use Rattle.bsi_survey.specs.Made.{is_null_by, AddsNulls, AreStoredFor, HasKindsOf, HasNullsOf};
+ghost use Rattle.bsi_survey.specs.Made.{is_null_by, AddsNulls, AreStoredFor, HasKindsOf, HasNullsOf, IsLateRefusal};
 
 use crate::naming::make_name;
 use crate::schema_refusal::SchemaRefusal;
@@ -33,6 +33,7 @@ pub(crate) fn make_logical(
     ensures kinds { IfOk result (HasKindsOf columns.items) }
     ensures nulls { IfOk result (λ l. All (HasNullsOf l.nulls) columns.items) }
     ensures titles { IfOk result (λ l. l.titles ≡ map (λ title. title.items) titles.now) }
+    ensures late { IfErr result IsLateRefusal }
 {
     let schema = make_columns(alloc, titles, &columns)?;
     let mut logical = LogicalSchema::plain(alloc, schema, MAX_ROWS)?;
@@ -50,7 +51,8 @@ fn make_columns(
     columns: &[Column],
 ) -> Result<Schema, SchemaRefusal>
     requires { length columns.now ≡ length titles.now }
-    ensures { IfOk result (AreStoredFor columns.now) }
+    ensures stored { IfOk result (AreStoredFor columns.now) }
+    ensures late { IfErr result IsLateRefusal }
 {
     let mut schema = Schema::new(alloc);
     'columns: for c in 0..columns.len() {

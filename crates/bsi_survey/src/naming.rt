@@ -1,6 +1,7 @@
 //! The names of columns (`make_name`), made of their titles by bytes that a name may have.
 
-ghost use Rattle.std.specs.Prelude.{◌<◌, length};
+ghost use Rattle.std.specs.Prelude.{◌<◌, length, IfErr};
+ghost use Rattle.bsi_survey.specs.Made.{IsLateRefusal};
 
 use crate::NoMemory;
 use crate::numbered::numbered;
@@ -10,7 +11,7 @@ use bsi_schema::{Schema, is_word};
 use std::alloc::Global;
 
 /// The most numbers that are tried behind a name. As there are at most 64 columns, fewer are taken.
-const MAX_TRIES: u32 = 256;
+const MAX_TRIES: usize = 256;
 
 /// The most bytes of a name that has a number behind it, without `_` and the number.
 const MAX_STEM_BYTES: usize = 28;
@@ -26,6 +27,7 @@ pub(crate) fn make_name(
     c: usize,
 ) -> Result<String, SchemaRefusal>
     requires { c < length titles.now }
+    ensures { IfErr result IsLateRefusal }
 {
     let stem = make_stem(alloc, titles[c].as_slice())?;
     'numbers: for number in 1..MAX_TRIES {

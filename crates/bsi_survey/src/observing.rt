@@ -1,12 +1,14 @@
 //! Shows the records that a reader has left to the candidates of the columns (`observe_all`).
 
-ghost use Rattle.std.specs.Prelude.{◌≢◌, map, Err, IfOk, OnOk};
+ghost use Rattle.std.specs.Prelude.{◌≡◌, ◌≢◌, length, map, Err, IfOk, OnOk};
 ghost use Rattle.csv.specs.Records.{fields_of};
+ghost use Rattle.bsi_survey.specs.Choices.{chosen_fields};
 ghost use Rattle.bsi_survey.specs.Looking.{AreSteps};
 ghost use Rattle.bsi_survey.specs.Surveys.{HaveObserved, HaveObservedAll};
 ghost use Rattle.bsi_survey.specs.TextRecords.{IsRecordReader};
 
 use crate::NoMemory;
+use crate::choice::Choice;
 use crate::counts::Counts;
 use crate::reading::read_next;
 use bsi_inference::Candidates;
@@ -15,18 +17,20 @@ use bsi_syntax::field;
 use csv::{ByteRecord, Reader};
 use std::io::Read;
 
-/// Reads all records that are left, and shows those of as many fields as there are columns to the columns. `words` are
-/// the null words.
+/// Reads all records that are left, and shows those that are as long as the header to the columns. `words` are the null
+/// words.
 pub(crate) fn observe_all<R: Read + Drop>(
     input: &mut Reader<R>,
     words: &[Vec<u8>],
+    choice: &Choice,
     fields: &mut ByteRecord,
     columns: &mut [Candidates],
     counts: &mut Counts,
 ) -> Result<(), SourceFault>
-    requires { IsRecordReader input.old }
-    ensures observed { OnOk result (HaveObservedAll R.remaining (map (λ w. w.items) words.now)
-        input.old columns.old columns.new counts.old counts.new) }
+    requires reader { IsRecordReader input.old }
+    requires chosen { length choice.now.indexes.items ≡ length columns.old }
+    ensures observed { OnOk result (HaveObservedAll R.remaining choice.now
+        (map (λ w. w.items) words.now) input.old columns.old columns.new counts.old counts.new) }
     ensures fault { result ≢ Err SourceFault.BadHeader }
 {
     // No text has so many records. The bound lets the proof see that the loop ends.
@@ -34,39 +38,44 @@ pub(crate) fn observe_all<R: Read + Drop>(
         if !read_next(input, fields)? {
             return Ok(());
         }
-        let whole = observe_record(words, fields, columns)?;
+        let whole = observe_record(words, choice, fields, columns)?;
         counts.count(whole)?;
     }
     Err(SourceFault::TooLong)
 }
 
-/// Shows a record to the columns, if it has as many fields, and returns whether it has.
+/// Shows a record to the columns, if it is as long as the header, and returns whether it is.
 fn observe_record(
     words: &[Vec<u8>],
+    choice: &Choice,
     fields: &ByteRecord,
     columns: &mut [Candidates],
 ) -> Result<bool, NoMemory>
-    ensures { IfOk result (HaveObserved (map (λ w. w.items) words.now) (fields_of fields.now)
-        columns.old columns.new) }
+    requires { length choice.now.indexes.items ≡ length columns.old }
+    ensures { IfOk result (HaveObserved choice.now (map (λ w. w.items) words.now)
+        (fields_of fields.now) columns.old columns.new) }
 {
-    if fields.len() != columns.len() {
+    if fields.len() != choice.many {
         return Ok(false);
     }
-    observe_fields(words, fields, columns)?;
+    observe_fields(words, choice, fields, columns)?;
     Ok(true)
 }
 
 /// Shows each column its field of a record.
 fn observe_fields(
     words: &[Vec<u8>],
+    choice: &Choice,
     fields: &ByteRecord,
     columns: &mut [Candidates],
 ) -> Result<(), NoMemory>
-    ensures { OnOk result (AreSteps (map (λ w. w.items) words.now) (fields_of fields.now)
-        columns.old columns.new) }
+    requires { length choice.now.indexes.items ≡ length columns.old }
+    ensures { OnOk result (AreSteps (map (λ w. w.items) words.now)
+        (chosen_fields choice.now (fields_of fields.now)) columns.old columns.new) }
 {
     'columns: for c in 0..columns.len() {
-        columns[c].observe(words, field(fields, c))?;
+        let text = field(fields, choice.indexes[c]);
+        columns[c].observe(words, text)?;
     }
     Ok(())
 }

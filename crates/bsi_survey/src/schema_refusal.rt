@@ -21,8 +21,8 @@ pub struct ColumnDoubt {
 pub enum SchemaRefusal {
     /// There are more than 64 columns.
     TooManyColumns,
-    /// The field of this column, from 0, stands in the header before, too, so that no title tells the two columns apart.
-    RepeatedField(usize),
+    /// The title of this column, from 0, is that of a column before it, too, so that no title tells the two apart.
+    RepeatedTitle(usize),
     /// These columns are in doubt, in their order.
     Doubts(Vec<ColumnDoubt>),
     /// A column could not be declared. No header was seen for which this is so.
@@ -43,9 +43,12 @@ impl From<AllocError> for SchemaRefusal {
 }
 
 impl From<SchemaError> for SchemaRefusal {
+    ghost use Rattle.bsi_survey.specs.Made.{IsLateRefusal};
+
+    ghost from_gives = { λ _ e. IsLateRefusal e };
+
     fn from(error: SchemaError) -> SchemaRefusal {
         match error {
-            SchemaError::TooManyColumns => SchemaRefusal::TooManyColumns,
             SchemaError::NoMemory => SchemaRefusal::NoMemory,
             _ => SchemaRefusal::Undeclared(Refusal::BadTable),
         }
@@ -53,6 +56,10 @@ impl From<SchemaError> for SchemaRefusal {
 }
 
 impl From<DeclareError> for SchemaRefusal {
+    ghost use Rattle.bsi_survey.specs.Made.{IsLateRefusal};
+
+    ghost from_gives = { λ _ e. IsLateRefusal e };
+
     fn from(error: DeclareError) -> SchemaRefusal {
         match error {
             DeclareError::Refused(why) => SchemaRefusal::Undeclared(why),

@@ -3,8 +3,11 @@
 
 ghost use Rattle.std.specs.Prelude.{◌≡◌, length, map, IfOk};
 ghost use Rattle.csv.specs.Records.{fields_of};
+ghost use Rattle.bsi_logical.specs.HeaderTitles.{titles_of};
 
 use crate::NoMemory;
+use crate::choice::Choice;
+use crate::choosing::{choose, choose_titles, find_missing, is_same_choice};
 use crate::counts::Counts;
 use crate::deciding::{decide_each, list_columns, list_doubts};
 use crate::join_error::JoinError;
@@ -15,7 +18,9 @@ use crate::options::SurveyOptions;
 use crate::reading::{read_next, record_reader};
 use crate::repeated::find_repeated;
 use crate::schema_refusal::SchemaRefusal;
-use bsi_inference::{Candidates, usual_null_words};
+use crate::survey_error::SurveyError;
+use crate::titling::list_titles;
+use bsi_inference::Candidates;
 use bsi_input::SourceFault;
 use bsi_logical::{Dialect, LogicalSchema};
 use bsi_schema::MAX_COLUMNS;
@@ -29,55 +34,79 @@ use std::io::Read;
 pub struct Survey {
     pub(crate) dialect: Dialect,
     pub(crate) header: Vec<Vec<u8>>,
+    pub(crate) titles: Vec<Vec<u8>>,
+    pub(crate) choice: Choice,
+    pub(crate) words: Vec<Vec<u8>>,
     pub(crate) columns: Vec<Candidates>,
     pub(crate) counts: Counts,
-    ghost many: { length columns.items ≡ length header.items },
+    ghost chosen: { length choice.indexes.items ≡ length columns.items },
+    ghost many: { choice.many ≡ length header.items },
+    ghost titled: { map (λ title. title.items) titles.items
+        ≡ titles_of (map (λ field. field.items) header.items) },
 }
 
 impl Survey {
-    ghost use Rattle.std.specs.Prelude.{◌+◌, ◌<◌, ◌≤◌, ℕ, Bool, List, [], All, Err, slice_index_or, true, IfSome, IsSome, IsTrue, OnOk};
+    ghost use Rattle.std.specs.Prelude.{◌+◌, ◌<◌, ◌≤◌, ◌≢◌, ◌⊎◌, ℕ, Bool, List, [], All, Err, slice_index_or, true, IfErr, IfSome, IsSome, IsTrue, OnErr, OnOk};
     ghost use Rattle.bsi_schema.specs.Columns.{max_columns};
     ghost use Rattle.bsi_rows.specs.Fields.{Field};
     ghost use Rattle.bsi_input.specs.Formats.{good_row};
     ghost use Rattle.bsi_logical.specs.LogicalRows.{has_titles, logical_format};
     ghost use Rattle.bsi_inference.specs.ColumnCandidates.{Accepts, LooksFor as LooksForKinds};
     ghost use Rattle.bsi_inference.specs.declared.candidates.Candidates.{Candidates};
-    ghost use Rattle.bsi_survey.specs.Made.{IsGoodField};
+    ghost use Rattle.bsi_survey.specs.declared.options.ColumnStart.{ColumnStart};
+    ghost use Rattle.bsi_survey.specs.Made.{IsGoodField, IsLateRefusal};
     ghost use Rattle.bsi_survey.specs.Titles.{AreDistinct, IsFirstRepeated};
-    ghost use Rattle.bsi_survey.specs.Looking.{AcceptMore, AcceptsRecord, AreLookedFor};
-    ghost use Rattle.bsi_survey.specs.Surveys.{header_of, FitsText, LookAlike, LooksFor, SeesText, Surveys};
+    ghost use Rattle.bsi_survey.specs.Choices.{chosen_fields};
+    ghost use Rattle.bsi_survey.specs.Looking.{AcceptMore, AcceptsRecord, AreLookedFor, HaveJoined};
+    ghost use Rattle.bsi_survey.specs.Surveys.{header_of, FitsText, LookAlike, LooksFor, PassCounts, SeesText, Surveys};
     ghost use Rattle.bsi_survey.specs.TextRecords.{AreTextRecords};
 
     /// Goes once over a text. Its first record is the header. Each further record of as many fields is shown to the
-    /// columns, field by field; one of more or fewer is counted as bad and passed over. The fault is `BadHeader`, if the
-    /// text has no record.
+    /// columns that are surveyed, field by field; one of more or fewer is counted as bad and passed over. The fault is
+    /// `BadHeader`, if the text has no record.
     pub fn read<R: Read + Drop>(
         alloc: Global,
         reader: R,
         options: &SurveyOptions,
-    ) -> Result<Survey, SourceFault>
+    ) -> Result<Survey, SurveyError>
         ensures surveys { IfOk result (λ survey. IfSome (R.remaining reader)
             (λ bytes. Surveys options.now bytes survey)) }
         ensures dialect { IfOk result (λ survey. survey.dialect ≡ options.now.dialect) }
         ensures looked { IfOk result (λ survey. AreLookedFor options.now.dialect.point
-            options.now.texts.items survey.columns.items) }
+            options.now.starts.items survey.columns.items) }
         ensures sees { IfOk result (λ survey. IfSome (R.remaining reader) (SeesText survey)) }
-        ensures empty { result ≡ Err SourceFault.BadHeader → IfSome (R.remaining reader)
+        ensures empty { result ≡ Err (SurveyError.Source SourceFault.BadHeader) →
+            IfSome (R.remaining reader)
             (λ bytes. AreTextRecords options.now.dialect.delimiter bytes []) }
     {
         let mut input = record_reader(alloc, options.dialect.delimiter, reader);
         let mut fields = ByteRecord::new(alloc);
         if !read_next(&mut input, &mut fields)? {
-            return Err(SourceFault::BadHeader);
+            return Err(SurveyError::Source(SourceFault::BadHeader));
         }
         let header = list_fields(alloc, &fields)?;
-        let mut columns = options.begin_columns(alloc, header.len())?;
-        let words = usual_null_words(alloc)?;
+        let titles = list_titles(alloc, &header)?;
+        if let Some(title) = find_missing(alloc, &titles, &options.columns)? {
+            return Err(SurveyError::NoColumn(title));
+        }
+        let choice = choose(alloc, &titles, &options.columns)?;
+        let mut columns = options.begin_columns(alloc, choice.indexes.len())?;
+        let words = options.list_null_words(alloc)?;
         let mut counts = Counts::new();
-        observe_all(&mut input, &words, &mut fields, &mut columns, &mut counts)?;
+        observe_all(
+            &mut input,
+            &words,
+            &choice,
+            &mut fields,
+            &mut columns,
+            &mut counts,
+        )?;
         Ok(Survey {
             dialect: options.dialect,
             header,
+            titles,
+            choice,
+            words,
             columns,
             counts,
         })
@@ -93,9 +122,9 @@ impl Survey {
     ) -> Result<bool, SourceFault>
         ensures sees { IfOk result (λ same. same ≡ true → IfSome (R.remaining reader) (SeesText self.new)) }
         ensures preserved { OnOk result ((bytes : List ℕ) → SeesText self.old bytes → SeesText self.new bytes) }
-        ensures looked { OnOk result ((texts : List Bool) →
-            AreLookedFor self.old.dialect.point texts self.old.columns.items →
-            AreLookedFor self.new.dialect.point texts self.new.columns.items) }
+        ensures looked { OnOk result ((starts : List ColumnStart) →
+            AreLookedFor self.old.dialect.point starts self.old.columns.items →
+            AreLookedFor self.new.dialect.point starts self.new.columns.items) }
     {
         let mut input = record_reader(alloc, self.dialect.delimiter, reader);
         let mut fields = ByteRecord::new(alloc);
@@ -106,10 +135,10 @@ impl Survey {
         if !are_same_fields(&self.header, &header) {
             return Ok(false);
         }
-        let words = usual_null_words(alloc)?;
         observe_all(
             &mut input,
-            &words,
+            &self.words,
+            &self.choice,
             &mut fields,
             &mut self.columns,
             &mut self.counts,
@@ -124,8 +153,8 @@ impl Survey {
         self.counts
     }
 
-    /// Joins what was seen of other texts, which have the same header. If the headers differ, or 64 bits do not hold the
-    /// counts, nothing changes. If memory is refused, some columns have joined the others, and the counts stay.
+    /// Joins what was seen of other texts, which have the same header and the same columns of it. If these differ, or 64
+    /// bits do not hold the counts, nothing changes. If memory is refused, some columns have joined the others, and the counts stay.
     pub fn join(&mut self, other: Survey) -> Result<(), JoinError>
         requires { LookAlike self.old other }
         ensures header { OnOk result (header_of other ≡ header_of self.old) }
@@ -137,8 +166,18 @@ impl Survey {
         ensures joined { OnOk result (AcceptMore other.columns.items self.new.columns.items) }
         ensures good { OnOk result (self.new.counts.good ≡ self.old.counts.good + other.counts.good) }
         ensures bad { OnOk result (self.new.counts.bad ≡ self.old.counts.bad + other.counts.bad) }
+        ensures kinds { OnOk result
+            (HaveJoined self.old.columns.items other.columns.items self.new.columns.items) }
+        ensures other { result ≡ Err JoinError.OtherHeader → (header_of other ≢ header_of self.old)
+            ⊎ (other.choice.indexes.items ≢ self.old.choice.indexes.items) }
+        ensures long { result ≡ Err JoinError.TooLong → PassCounts self.old.counts other.counts }
+        ensures unchanged { IfErr result (λ why. why ≢ JoinError.NoMemory → self.new ≡ self.old) }
+        ensures kept { OnErr result (self.new.counts ≡ self.old.counts) }
     {
         if !are_same_fields(&self.header, &other.header) {
+            return Err(JoinError::OtherHeader);
+        }
+        if !is_same_choice(&self.choice, &other.choice) {
             return Err(JoinError::OtherHeader);
         }
         let Some(counts) = self.counts.with(other.counts) else {
@@ -147,6 +186,9 @@ impl Survey {
         let Survey {
             dialect: _,
             header: _,
+            titles: _,
+            choice: _,
+            words: _,
             columns,
             counts: _,
         } = other;
@@ -155,8 +197,8 @@ impl Survey {
         Ok(())
     }
 
-    /// Makes the schema of the files: a column of slices for each field of the header, wide enough for the numbers of its
-    /// fields and about as many again. The fields of the header are the titles, and the names are made of them. The null
+    /// Makes the schema of the files: a column of slices for each column that was surveyed, wide enough for the numbers of
+    /// its fields and about as many again. The titles are those of the header, and the names are made of them. The null
     /// words that were met are nulls of the schema, if they stand in a column of no texts. A column of nulls alone has
     /// whole numbers, in one slice.
     pub fn make_schema(self, alloc: Global) -> Result<LogicalSchema, SchemaRefusal>
@@ -165,59 +207,71 @@ impl Survey {
         // The header is one of the schema, and a record as long as the header is a row, if its fields were accepted.
         ensures header { IfOk result (λ l. IsTrue (has_titles l (header_of self))) }
         ensures rows { IfOk result (λ l. (fields : List Field) → length fields ≡ length (header_of self) →
-            AcceptsRecord self.columns.items fields →
+            AcceptsRecord self.columns.items (chosen_fields self.choice fields) →
             IsSome (good_row (logical_format l) (header_of self) fields)) }
 
         ensures good { IfOk result (λ l. (c : ℕ) → (d : Candidates) → c < length self.columns.items →
             (f : Field) → Accepts (slice_index_or self.columns.items c d) f → IsGoodField l c f) }
         ensures columns { IfOk result (λ l. length l.schema.columns ≡ length self.columns.items) }
-        ensures titles { IfOk result (λ l. l.titles ≡ header_of self) }
+        ensures titles { IfOk result (λ l. l.titles ≡
+            chosen_fields self.choice (titles_of (header_of self))) }
         ensures dialect { IfOk result (λ l. l.dialect ≡ self.dialect) }
 
         // Each text that was seen fits the schema.
         ensures fits { IfOk result (λ l. (bytes : List ℕ) → SeesText self bytes → FitsText l bytes) }
 
-        // No title tells two columns apart that have the same field of the header.
-        ensures many { max_columns < length (header_of self) → result ≡ Err SchemaRefusal.TooManyColumns }
-        ensures repeated { (c : ℕ) → length (header_of self) ≤ max_columns →
-            IsFirstRepeated (header_of self) c → result ≡ Err (SchemaRefusal.RepeatedField c) }
+        // No title tells two columns apart that have the same.
+        ensures many { max_columns < length self.columns.items → result ≡ Err SchemaRefusal.TooManyColumns }
+        ensures repeated { (c : ℕ) → length self.columns.items ≤ max_columns →
+            IsFirstRepeated (titles_of (header_of self)) c →
+            result ≡ Err (SchemaRefusal.RepeatedTitle c) }
+        ensures only_many { result ≡ Err SchemaRefusal.TooManyColumns →
+            max_columns < length self.columns.items }
+        ensures only_repeated { (c : ℕ) → result ≡ Err (SchemaRefusal.RepeatedTitle c) →
+            IsFirstRepeated (titles_of (header_of self)) c }
     {
-        if self.header.len() > MAX_COLUMNS as usize {
+        if self.columns.len() > MAX_COLUMNS as usize {
             return Err(SchemaRefusal::TooManyColumns);
         }
-        match find_repeated(&self.header) {
-            Some(c) => Err(SchemaRefusal::RepeatedField(c)),
+        match find_repeated(&self.titles) {
+            Some(c) => Err(SchemaRefusal::RepeatedTitle(c)),
             None => self.make_titled(alloc),
         }
     }
 
-    /// Makes the schema of the files, whose header has no two fields that are the same.
+    /// Makes the schema of the files, no two titles of which are the same.
     fn make_titled(self, alloc: Global) -> Result<LogicalSchema, SchemaRefusal>
         requires looks { LooksFor self }
-        requires distinct { AreDistinct (header_of self) }
+        requires distinct { AreDistinct (titles_of (header_of self)) }
         ensures header { IfOk result (λ l. IsTrue (has_titles l (header_of self))) }
         ensures rows { IfOk result (λ l. (fields : List Field) → length fields ≡ length (header_of self) →
-            AcceptsRecord self.columns.items fields →
+            AcceptsRecord self.columns.items (chosen_fields self.choice fields) →
             IsSome (good_row (logical_format l) (header_of self) fields)) }
         ensures good { IfOk result (λ l. (c : ℕ) → (d : Candidates) → c < length self.columns.items →
             (f : Field) → Accepts (slice_index_or self.columns.items c d) f → IsGoodField l c f) }
         ensures columns { IfOk result (λ l. length l.schema.columns ≡ length self.columns.items) }
-        ensures titles { IfOk result (λ l. l.titles ≡ header_of self) }
+        ensures titles { IfOk result (λ l. l.titles ≡
+            chosen_fields self.choice (titles_of (header_of self))) }
         ensures dialect { IfOk result (λ l. l.dialect ≡ self.dialect) }
+        ensures late { IfErr result IsLateRefusal }
     {
         let Survey {
             dialect,
-            header,
+            header: _,
+            titles,
+            choice,
+            words: _,
             columns,
             counts: _,
         } = self;
+        let titles = choose_titles(alloc, &titles, &choice)?;
         let decisions = decide_each(alloc, columns)?;
-        let doubts = list_doubts(alloc, &header, &decisions)?;
+        let doubts = list_doubts(alloc, &titles, &decisions)?;
         let listed = list_columns(alloc, decisions)?;
         let Some(columns) = listed else {
             return Err(SchemaRefusal::Doubts(doubts));
         };
-        make_logical(alloc, dialect, &header, columns)
+        make_logical(alloc, dialect, &titles, columns)
     }
 }
 

@@ -144,6 +144,31 @@ fn texts_are_gathered_alone(rt: HostRuntime) -> Result<(), NoMemory> {
     Ok(())
 }
 
+fn describe_rounded_once(alloc: Global) -> Result<String, NoMemory> {
+    let mut column = Candidates::rounded(alloc, 2, b'.', None)?;
+    for field in ["0.30000000000000004", "-2.675", "", "1e3"] {
+        column.observe(&[], field.as_bytes())?;
+    }
+    describe(alloc, &column.decide()?)
+}
+
+fn describe_rounded(alloc: Global) -> Result<String, NoMemory> {
+    match describe_rounded_once(alloc) {
+        Err(NoMemory) => describe_rounded_once(alloc),
+        described => described,
+    }
+}
+
+#[test]
+fn decimals_are_rounded_to_places(rt: HostRuntime) -> Result<(), NoMemory> {
+    let described = describe_rounded(rt.alloc())?;
+    assert!(rt;
+        described.as_str() == "rounded 2 -268 100000",
+        "{described}"
+    );
+    Ok(())
+}
+
 /// Makes a column of these fields.
 fn column_of(
     alloc: Global,
@@ -170,6 +195,7 @@ fn describe(alloc: Global, described: &Decision) -> Result<String, NoMemory> {
                 Kind::Boolean(_) => format!(in alloc; "boolean {least} {greatest}"),
                 Kind::Date(_) => format!(in alloc; "date {least} {greatest}"),
                 Kind::Decimal(places) => format!(in alloc; "decimal {places} {least} {greatest}"),
+                Kind::Rounded(places) => format!(in alloc; "rounded {places} {least} {greatest}"),
                 Kind::Text(texts) => {
                     let len = texts.len();
                     format!(in alloc; "text {len}")

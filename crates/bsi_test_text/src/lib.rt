@@ -1,11 +1,13 @@
-//! Tests of calls on texts, schemas, row files, kinds and their inference, surveys, scripts in chunks, faults and moves
-//! between threads. No crate uses it.
+//! Tests of calls on texts, schemas, row files, kinds and their inference, checks, surveys, scripts in chunks, faults and
+//! moves between threads. No crate uses it.
 #![tactic(auto)]
 
 #[cfg(test)]
 mod blocks;
 #[cfg(test)]
 mod calls;
+#[cfg(test)]
+mod checking;
 #[cfg(test)]
 mod chunks;
 #[cfg(test)]

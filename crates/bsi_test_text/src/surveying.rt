@@ -7,7 +7,10 @@ use bsi_inference::Doubt;
 use bsi_input::SourceFault;
 use bsi_kinds::DateOrder;
 use bsi_logical::{Dialect, describe_logical};
-use bsi_survey::{ColumnDoubt, JoinError, NoMemory, SchemaRefusal, Survey, SurveyOptions};
+use bsi_survey::{
+    ColumnDoubt, ColumnStart, JoinError, NoMemory, SchemaRefusal, Survey, SurveyError,
+    SurveyOptions,
+};
 use std::alloc::Global;
 
 /// The byte between fields, the decimal point, a text, and the text of its schema, or what stands in the way.
@@ -36,8 +39,14 @@ const TEXTS: [Worked; 11] = [
          column,c_1st,slices,1,1\ncolumn,column,slices,1,1\nlimit,4294967296\n\
          title,c_all,all\ntitle,a_2,A\ntitle,c_1st,1st\ntitle,column,%\n",
     ),
-    (b',', b'.', "x,y,x\n1,1,1\n", "column 2 is repeated"),
-    (b',', b'.', "x,,\n1,1,1\n", "column 2 is repeated"),
+    (b',', b'.', "x,x,x_2\n1,1,1\n", "column 2 is repeated"),
+    (
+        b',',
+        b'.',
+        "x,,x,\n1,1,1,1\n",
+        "column,x,slices,1,1\ncolumn,column,slices,1,1\ncolumn,x_2,slices,1,1\n\
+         column,c__2,slices,1,1\nlimit,4294967296\ntitle,column,\ntitle,c__2,_2\n",
+    ),
     (
         b',',
         b'.',
@@ -63,7 +72,7 @@ const TEXTS: [Worked; 11] = [
 
 /// Makes the options of a survey.
 fn options_of(alloc: Global, worked: Worked, order: Option<DateOrder>) -> SurveyOptions
-    ensures { result.texts.items ≡ [] }
+    ensures { result.starts.items ≡ [] }
 {
     SurveyOptions {
         dialect: Dialect {
@@ -71,7 +80,10 @@ fn options_of(alloc: Global, worked: Worked, order: Option<DateOrder>) -> Survey
             point: worked.1,
         },
         order,
-        texts: Vec::new(alloc),
+        nulls: Vec::new(alloc),
+        columns: None,
+        rounding: None,
+        starts: Vec::new(alloc),
     }
 }
 
@@ -86,7 +98,7 @@ fn describe(alloc: Global, survey: Survey) -> Result<String, NoMemory>
         }
         Err(SchemaRefusal::Doubts(doubts)) => describe_doubts(alloc, &doubts),
         Err(SchemaRefusal::TooManyColumns) => String::from_str(alloc, "too many columns"),
-        Err(SchemaRefusal::RepeatedField(c)) => format!(in alloc; "column {c} is repeated"),
+        Err(SchemaRefusal::RepeatedTitle(c)) => format!(in alloc; "column {c} is repeated"),
         Err(SchemaRefusal::Undeclared(_)) => String::from_str(alloc, "undeclared"),
         Err(SchemaRefusal::NoMemory) => Err(NoMemory),
     }
@@ -123,8 +135,9 @@ fn describe_text_once(
 ) -> Result<String, NoMemory> {
     match Survey::read(alloc, text.as_bytes(), options) {
         Ok(survey) => describe(alloc, survey),
-        Err(SourceFault::NoMemory) => Err(NoMemory),
-        Err(fault) => String::from_str(alloc, fault.text()),
+        Err(SurveyError::Source(SourceFault::NoMemory)) => Err(NoMemory),
+        Err(SurveyError::Source(fault)) => String::from_str(alloc, fault.text()),
+        Err(SurveyError::NoColumn(_)) => String::from_str(alloc, "no column"),
     }
 }
 
@@ -151,10 +164,10 @@ fn said_orders_and_texts_end_doubts(rt: HostRuntime) -> Result<(), NoMemory> {
     let alloc = rt.alloc();
     let worked = (b',', b'.', "day,b\n01/02/2026,1\n03/04/2026,x\n", "");
     let mut options = options_of(alloc, worked, Some(DateOrder::MonthFirst));
-    if options.texts.push(false).is_err() {
-        options.texts.push(false)?;
+    if options.starts.push(ColumnStart::Any).is_err() {
+        options.starts.push(ColumnStart::Any)?;
     }
-    options.texts.push(true)?;
+    options.starts.push(ColumnStart::Texts)?;
     let described = describe_text(alloc, worked.2, &options)?;
     let expected = "column,day,slices,7,20455\ncolumn,b,slices,2,0\nlimit,4294967296\n\
                     kind,day,date,mdy,/\nkind,b,text\ntext,b,1\ntext,b,x\n";

@@ -1,12 +1,13 @@
-//! Why a record is no query: the words for the field at which it goes wrong.
+//! Why a record is no question: the words for the field at which it goes wrong.
 
 use crate::NoMemory;
 use crate::diagnostics::closest::unknown_column;
+use crate::diagnostics::misspelled::why_no_constant;
 use crate::diagnostics::shown::{add_line_ends, shown};
-use bsi_schema::Schema;
+use bsi_logical::TableSchema;
 use bsi_syntax::{
-    Expected, Grammar, MAX_PREDICATE_FIELDS, QuestionError, Stop, lend_fields, read_number,
-    read_question,
+    Expected, Grammar, MAX_PREDICATE_FIELDS, QuestionError, Stop, Vocabulary, lend_fields,
+    read_number, read_question,
 };
 use csv::ByteRecord;
 use std::alloc::Global;
@@ -14,12 +15,12 @@ use std::alloc::Global;
 /// What `bsi ask` alone answers.
 const OF_ASK_ALONE: [&str; 6] = ["rank", "quantile", "distinct", "top", "bottom", "by"];
 
-/// Returns why a record that begins at a line is no query: the first field at which no question goes on, from 1, and
+/// Returns why a record that begins at a line is none of the asks: the first field at which no question goes on, from 1, and
 /// what is wrong with it, or that `bsi ask` alone answers the question. It may be that the closing quote of a field is
 /// missing, so it also tells how many line ends a field takes in.
-pub fn why_no_query(
+pub fn why_no_ask(
     alloc: Global,
-    schema: &Schema,
+    schema: &TableSchema,
     fields: &ByteRecord,
     line: u64,
 ) -> Result<String, NoMemory> {
@@ -36,7 +37,7 @@ pub fn why_no_query(
 /// Returns why no question goes on from a stop.
 fn why_stopped(
     alloc: Global,
-    schema: &Schema,
+    schema: &TableSchema,
     fields: &[&[u8]],
     stop: Stop,
 ) -> Result<String, NoMemory> {
@@ -59,7 +60,7 @@ fn why_stopped(
 /// Returns what is wrong with the field at an index, where something else could stand.
 fn why_no_field(
     alloc: Global,
-    schema: &Schema,
+    schema: &TableSchema,
     fields: &[&[u8]],
     at: usize,
     text: &[u8],
@@ -80,10 +81,10 @@ fn why_no_field(
             format!(in alloc; "'{word}' is no comparison: =, !=, <, <=, > or >=")
         }
         Expected::Summed => format!(in alloc; "the values of '{word}' have no sum"),
-        Expected::Compared if schema.find(text).is_some() => {
+        Expected::Compared if schema.find_column(text).is_some() => {
             format!(in alloc; "the values of '{word}' are of another kind")
         }
-        Expected::Compared => format!(in alloc; "'{word}' is no whole number"),
+        Expected::Compared => why_not_compared(alloc, schema, fields, at, text),
         _ if text == b"not".as_slice() => {
             String::from_str(alloc, "'not' needs a predicate before it")
         }
@@ -91,6 +92,26 @@ fn why_no_field(
             format!(in alloc; "'{word}' needs two predicates before it")
         }
         _ => unknown_column(alloc, schema, text),
+    }
+}
+
+/// Returns why the field at an index is nothing that the column two fields before it compares with.
+fn why_not_compared(
+    alloc: Global,
+    schema: &TableSchema,
+    fields: &[&[u8]],
+    at: usize,
+    text: &[u8],
+) -> Result<String, NoMemory> {
+    let word = shown(alloc, text)?;
+    let TableSchema::Logical(format) = schema else {
+        return format!(in alloc; "'{word}' is no whole number");
+    };
+    let logical = format.logical();
+    let name = fields.get(at.saturating_sub(2)).copied().unwrap_or(&[]);
+    match logical.find_column(name) {
+        Some(c) if c < logical.schema().columns() => why_no_constant(alloc, logical.kind(c), text),
+        _ => format!(in alloc; "'{word}' is no value of the column"),
     }
 }
 
@@ -132,7 +153,11 @@ fn why_unfinished(alloc: Global, fields: &[&[u8]], expected: Expected) -> Result
 }
 
 /// Returns that `bsi ask` alone answers a question: by its word, or by the field that names a second column.
-fn why_of_ask_alone(alloc: Global, schema: &Schema, fields: &[&[u8]]) -> Result<String, NoMemory> {
+fn why_of_ask_alone(
+    alloc: Global,
+    schema: &TableSchema,
+    fields: &[&[u8]],
+) -> Result<String, NoMemory> {
     let word = fields.first().copied().unwrap_or(&[]);
     if is_one_of(word, &OF_ASK_ALONE) {
         let text = shown(alloc, word)?;
@@ -140,7 +165,7 @@ fn why_of_ask_alone(alloc: Global, schema: &Schema, fields: &[&[u8]]) -> Result<
     }
     'fields: for index in 1..fields.len() {
         let text = fields[index];
-        if is_sign(fields[index - 1]) && schema.find(text).is_some() {
+        if is_sign(fields[index - 1]) && schema.find_column(text).is_some() {
             let (name, number) = (shown(alloc, text)?, index.saturating_add(1));
             return format!(in alloc;
                 "field {number}: only 'bsi ask' compares a column with another, '{name}'"

@@ -2,6 +2,7 @@
 
 use crate::NoMemory;
 use crate::diagnostics::shown::{add_line_ends, shown, shown_record};
+use bsi_logical::Refusal;
 use bsi_schema::{ColumnSpec, Schema, SchemaError};
 use bsi_syntax::{field, read_number, read_signed};
 use csv::ByteRecord;
@@ -22,6 +23,19 @@ pub fn why_bad_setup(
     let record = shown_record(alloc, fields)?;
     let why = why_no_setup(alloc, schema, fields)?;
     let mut text = format!(in alloc; "{record}: {why}")?;
+    add_line_ends(fields, line, &mut text)?;
+    Ok(text)
+}
+
+/// Returns why a record of a schema of kinds that begins at a line says nothing, as `why_bad_setup` does.
+pub fn why_refused_setup(
+    alloc: Global,
+    fields: &ByteRecord,
+    line: u64,
+    why: Refusal,
+) -> Result<String, NoMemory> {
+    let record = shown_record(alloc, fields)?;
+    let mut text = format!(in alloc; "{record}: {}", why.text())?;
     add_line_ends(fields, line, &mut text)?;
     Ok(text)
 }

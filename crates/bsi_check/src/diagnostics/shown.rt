@@ -1,5 +1,8 @@
 //! Quotes a field or a record in a reason, cut short and on one line, and adds how many line ends a field takes in.
 
+ghost use Rattle.std.specs.Prelude.{string_bytes, OnOk};
+ghost use Rattle.bsi_check.specs.Judges.{Begins};
+
 use crate::NoMemory;
 use bsi_syntax::field;
 use csv::ByteRecord;
@@ -63,18 +66,36 @@ pub(crate) fn add_line_ends(
     fields: &ByteRecord,
     line: u64,
     text: &mut String,
-) -> Result<(), NoMemory> {
+) -> Result<(), NoMemory>
+    ensures { OnOk result (Begins (string_bytes text.old) (string_bytes text.new)) }
+{
+    let inside = count_first_line_ends(fields);
+    if inside == 0 {
+        return Ok(());
+    }
+    add_line_end_count(line, inside, text)
+}
+
+/// Counts the line ends of the first field that has any.
+fn count_first_line_ends(fields: &ByteRecord) -> u64 {
     'fields: for index in 0..fields.len() {
         let inside = count_line_ends(field(fields, index));
         if inside > 0 {
-            let plural = if inside == 1 { "" } else { "s" };
-            return write!(
-                text,
-                "; the quoted field that begins at line {line} takes in {inside} line end{plural}"
-            );
+            return inside;
         }
     }
-    Ok(())
+    0
+}
+
+/// Adds how many line ends a field takes in of a record that begins at a line.
+fn add_line_end_count(line: u64, inside: u64, text: &mut String) -> Result<(), NoMemory>
+    ensures { OnOk result (Begins (string_bytes text.old) (string_bytes text.new)) }
+{
+    let plural = if inside == 1 { "" } else { "s" };
+    write!(
+        text,
+        "; the quoted field that begins at line {line} takes in {inside} line end{plural}"
+    )
 }
 
 /// Counts the line ends of some bytes: line feeds, and carriage returns that no line feed follows.

@@ -54,6 +54,7 @@ fn read_word(text: &[u8]) -> Option<Word>
 impl LogicalSchema {
     /// Carries out a record: `column` and `limit` as a schema file has them, `dialect,DELIMITER,POINT`, `null,WORD`,
     /// `title,NAME,TITLE`, `kind,NAME,KIND` or `text,NAME,TEXT`. A kind is `decimal,PLACES` (1 to 18 places),
+    /// `decimal,PLACES,rounded` (0 to 18; a field of more places is rounded),
     /// `date,ORDER,SIGN` (ORDER is `ymd`, `dmy` or `mdy`, SIGN one byte), `time,UNIT,ZONE` (UNIT is `s`, `ms` or `us`,
     /// ZONE `local` or `utc`), `time,UNIT,ZONE,ORDER,SIGN`, `boolean,YES,NO` or `text`. If the record says nothing, or
     /// memory is refused, the schema stays as it was.

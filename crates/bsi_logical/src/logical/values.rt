@@ -91,7 +91,7 @@ impl LogicalSchema {
         requires { c < length self.now.schema.columns }
         ensures { result ≡ is_summed (kind_of self.now c) }
     {
-        matches!(self.kind(c), Kind::Decimal(_))
+        matches!(self.kind(c), Kind::Decimal(_) | Kind::Rounded(_))
     }
 }
 
@@ -137,7 +137,7 @@ fn are_alike(first: &Kind, second: &Kind) -> bool
     ensures values { result ≡ true → (n : ℤ) → value_at first.now n ≡ value_at second.now n }
 {
     match (first, second) {
-        (Kind::Decimal(p), Kind::Decimal(q)) => p == q,
+        (Kind::Decimal(p) | Kind::Rounded(p), Kind::Decimal(q) | Kind::Rounded(q)) => p == q,
         (Kind::Date(_), Kind::Date(_)) | (Kind::Boolean(_), Kind::Boolean(_)) => true,
         (Kind::Time(f), Kind::Time(g)) => f.unit == g.unit && f.utc == g.utc,
         (Kind::Text(a), Kind::Text(b)) => a.is_same(b),

@@ -37,9 +37,9 @@ records-preserved-then-asks g c =
       reported = c.records.invariant.reported;
     }
 
--- one that is no query, and is reported
-pub records-preserved-in_ok-add_no_query : goal.records-preserved-in_ok-add_no_query
-records-preserved-in_ok-add_no_query g c =
+-- one that is no question, and is reported
+pub records-preserved-in_ok-add_no_ask : goal.records-preserved-in_ok-add_no_ask
+records-preserved-in_ok-add_no_ask g c =
     let fields = fields_of c.read_next.new.fields in
     let next : ReadRecord g.A.Read.remaining c.records.input c.read_next.new.input true fields = search rules in
     let none = subst (λ (b : Bool). IsAskVerdict c.args.schema.now fields b) c.if-asks.false c.in_ok-asks.ensures in
@@ -50,8 +50,8 @@ records-preserved-in_ok-add_no_query g c =
       plain = c.in_ok-read_next.ensures.plain;
       few = omega (arith, c.records-test.true);
       fewer = omega (arith, c.records.invariant.fewer);
-      reported = first_more c.args.path.now c.records.bad c.args.reasons.now.items c.records.reasons.items c.add_no_query.new.reasons.items
-          (omega (arith, c.if-bad-le-MAX_REASONS.true)) c.records.invariant.reported c.in_ok-add_no_query.ensures;
+      reported = first_more c.args.path.now c.records.bad c.args.reasons.now.items c.records.reasons.items c.add_no_ask.new.reasons.items
+          (omega (arith, c.if-bad-le-MAX_REASONS.true)) c.records.invariant.reported c.in_ok-add_no_ask.ensures;
     }
 
 -- and one past the first 100

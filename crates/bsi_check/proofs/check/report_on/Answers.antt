@@ -1,5 +1,6 @@
 use Rattle.std.proofs.Common.{◌≡◌, List, [], ℕ, length, inr, map, sum, nat_le, subst, arith, ap, rules}
 use Rattle.std.specs.List.{list_all}
+use Rattle.bsi_logical.specs.TableSchemas.{format_of}
 use Rattle.bsi_check.specs.Checks.{has_good_asks, is_clean}
 use Rattle.bsi_check.specs.Reasons.{AddsOneReasonUnless}
 use Rattle.bsi_check.specs.Reports.{good_count, AreAdded, IsFileChecked}
@@ -31,8 +32,8 @@ returns g c =
     let limit = nat_le (sum (map good_count files)) table.limit in
     let limited : AddsOneReasonUnless limit c.args.schema.path.now one two =
     subst (λ (fs : List _). AddsOneReasonUnless (nat_le (sum (map good_count fs)) table.limit) c.args.schema.path.now one two) c.deref.ensures.value c.in_ok-check_limit.ensures in
-    let finding : AreAdded (IsFileChecked rem table.schema) c.args.rows.items files [] one =
-    subst (λ (before : List ℕ). AreAdded (IsFileChecked rem table.schema) c.args.rows.items files before one) none c.in_ok-files.ensures in
+    let finding : AreAdded (IsFileChecked rem (format_of table.schema)) c.args.rows.items files [] one =
+    subst (λ (before : List ℕ). AreAdded (IsFileChecked rem (format_of table.schema)) c.args.rows.items files before one) none c.in_ok-files.ensures in
     inr (record {
       table = table;
       files = files;
@@ -43,7 +44,7 @@ returns g c =
       files_are = finding;
       limit_is = limited;
       asks_are = c.in_ok-check_given.ensures;
-      reported = tells_both (list_all is_clean files) _ [] one three (files_reported rem table.schema c.args.rows.items files [] one finding)
+      reported = tells_both (list_all is_clean files) _ [] one three (files_reported rem (format_of table.schema) c.args.rows.items files [] one finding)
           (tells_both limit (has_good_asks asks) one two three (unless_reported c.args.schema.path.now limit one two limited)
           (given_reported rem table.schema c.args.asks asks two three c.in_ok-check_given.ensures));
       fed_is = search rules;

@@ -1,14 +1,14 @@
-use Rattle.std.proofs.Common.{None, Some, IfSome, rules}
-use Rattle.bsi_input.specs.SchemaTexts.{IsSchemaFault}
+use Rattle.std.proofs.Common.{None, Some, IfSome, inr, rules}
 use Rattle.bsi_input.specs.declared.rows.SourceFault.TheVariants.{Read}
-use Rattle.bsi_input.specs.declared.schema_text.SchemaFault.TheVariants.{NoColumns, Source}
+use Rattle.bsi_logical.specs.SchemaFiles.{IsSchemaFileFault}
+use Rattle.bsi_logical.specs.declared.logical_text.LogicalFault.TheVariants.{NoColumns, Source}
 use Rattle.bsi_check.proofs.schema.check_schema.Goals as goal
 use Rattle.bsi_syntax.specs.Bytes.{KnownBytes}
 
 -- a reader that fails says nothing of the text
-unread : (known : KnownBytes) → IfSome known (λ text. IsSchemaFault text (Source Read))
+unread : (known : KnownBytes) → IfSome known (λ text. IsSchemaFileFault text (Source Read))
 unread None = tt
-unread (Some text) = tt
+unread (Some text) = inr tt
 
 pub returns-in-Err : goal.returns-in-Err
 returns-in-Err g c =

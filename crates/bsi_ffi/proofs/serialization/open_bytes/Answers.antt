@@ -1,9 +1,9 @@
-use Rattle.std.proofs.Common.{◌≡◌, ◌<◌, ℕ, None, Some, length, rules, subst, sym}
+use Rattle.std.proofs.Common.{◌≡◌, ℕ, None, Some, rules, subst, sym}
 use Rattle.std.specs.Prelude.{IfErr}
 use Rattle.bsi_ffi.specs.Calls.{file_refusal, IsFileRefusal}
 use Rattle.bsi_ffi.specs.declared.refusal.Refusal.{Refusal}
 use Rattle.bsi_ffi.specs.declared.refusal.Refusal.TheVariants.{NoMemory}
-use Rattle.bsi_ffi.proofs.FileBytes.{begins_with_file, plain_file, refused_as, refused_first, refused_kinds, refused_memory}
+use Rattle.bsi_ffi.proofs.FileBytes.{begins_with_file, refused_as, refused_first, refused_memory, refused_setting}
 use Rattle.bsi_ffi.proofs.serialization.open_bytes.Goals as goal
 
 pub returns-in-Err-clause-refused : goal.returns-in-Err-clause-refused
@@ -22,15 +22,10 @@ returns-in_err-text-clause-refused c =
     let is : IfErr c.from_residual.result (λ why. why ≡ NoMemory) = search rules in
     refused_memory c.from_residual.result c.args.bytes.now c.in-Ok.loaded.bytes (begins_with_file c.args.bytes.now _ _ _ _ _ _ c.in-Ok.ensures.opened) is
 
-pub returns-then-not-is_empty-clause-refused : goal.returns-then-not-is_empty-clause-refused
-returns-then-not-is_empty-clause-refused c =
+pub returns-in_err-set_kinds-clause-refused : goal.returns-in_err-set_kinds-clause-refused
+returns-in_err-set_kinds-clause-refused c =
     let none : c.in-Ok.loaded.fault ≡ None = search rules in
-    let some : 0 < length c.in-Ok.loaded.kinds.items = search rules in
-    refused_kinds c.args.bytes.now _ _ _ _ _ _ none c.in-Ok.ensures.opened some
-
-pub returns-clause-loaded : goal.returns-clause-loaded
-returns-clause-loaded c =
-    let none : c.in-Ok.loaded.fault ≡ None = search rules in
-    let empty : length c.in-Ok.loaded.kinds.items ≡ 0 = search rules in
-    let file = plain_file c.args.bytes.now _ _ _ _ _ _ none c.in-Ok.ensures.opened empty in
-    rw c.new.ensures.table file
+    let why = c.in_err-set_kinds.field-0.0 in
+    let met : IfErr c.from_residual-in_err-set_kinds.result (λ (w : Refusal). w ≡ why) = search rules in
+    refused_setting c.from_residual-in_err-set_kinds.result c.args.bytes.now _ _ _ _ _ _ _ _ why met none c.in-Ok.ensures.opened c.new-opened.ensures.table
+    c.in_err-set_kinds.ensures

@@ -16,7 +16,10 @@ returns-in-Decimal c =
       | inl one ↦ cc (one.1, text)
       | inr others ↦ elim others [
         | inl one ↦ cc (one.1, text)
-        | inr others ↦ elim others [ inl one ↦ cc (one.1, text) | inr one ↦ cc (one.1, text) ]
+        | inr others ↦ elim others [
+          | inl one ↦ cc (one.1, text)
+          | inr others ↦ elim others [ inl one ↦ cc (one.1, text) | inr one ↦ cc (one.1, text) ]
+        ]
       ]
     ] in
     let written : OnOk c.write.result (Writes c.args.kind.now c.args.number c.args.line.now.items c.write.new.line.items) =

@@ -37,6 +37,14 @@ returns-clause-unsaved g c = λ one command.
           (sym c.by-in-NoMemory.ensures.reported) c.write_run_fault.ensures,
     )
 
+pub returns-clause-undescribed : goal.returns-clause-undescribed
+returns-clause-undescribed g c = λ one command.
+    inr (
+      refl {a = g.O.Write.contents c.args.output.now},
+      subst (λ reported. IsLineWritten reported (g.F.Write.contents c.args.stderr.now) (g.F.Write.contents c.write_run_fault.new.stderr) (fault_line (Run NoMemory)))
+          (sym c.by-in-NoMemory.ensures.reported) c.write_run_fault.ensures,
+    )
+
 pub returns-clause-unadded : goal.returns-clause-unadded
 returns-clause-unadded g c = λ one command.
     inr (
@@ -65,6 +73,9 @@ returns-clause-unshown g c = λ one command.
 pub returns-in-Save-clause-unsaved : goal.returns-in-Save-clause-unsaved
 returns-in-Save-clause-unsaved g c = λ one command. inl (c.in-Save.request, c.answer_save.ensures.reported one)
 
+pub returns-in-Schema-clause-undescribed : goal.returns-in-Schema-clause-undescribed
+returns-in-Schema-clause-undescribed g c = λ one command. inl (c.in-Schema.request, c.answer_schema.ensures.reported one)
+
 pub returns-in-Add-clause-unadded : goal.returns-in-Add-clause-unadded
 returns-in-Add-clause-unadded g c = λ one command. inl (c.in-Add.paths, c.answer_add.ensures.reported one)
 
@@ -77,6 +88,9 @@ returns-in-Show-clause-unshown g c = λ one command. inl (c.in-Show.path, c.answ
 -- and what it did by them
 pub returns-in-Save-clause-saved : goal.returns-in-Save-clause-saved
 returns-in-Save-clause-saved g c = λ zero command. (c.in-Save.request, c.answer_save.ensures.saved zero)
+
+pub returns-in-Schema-clause-described : goal.returns-in-Schema-clause-described
+returns-in-Schema-clause-described g c = λ zero command. (c.in-Schema.request, c.answer_schema.ensures.described zero)
 
 pub returns-in-Add-clause-added : goal.returns-in-Add-clause-added
 returns-in-Add-clause-added g c = λ zero command. (c.in-Add.paths, c.answer_add.ensures.added zero)

@@ -2,7 +2,7 @@ use Rattle.std.proofs.Common.{◌≡◌, ◌<◌, ◌+◌, ℕ, ◌++◌, [], �
 use Rattle.std.proofs.lemmas.List.{length-append}
 use Rattle.bsi_inference.specs.ColumnCandidates.{Accepts}
 use Rattle.bsi_inference.specs.declared.candidates.Candidates.{Candidates}
-use Rattle.bsi_survey.specs.Looking.{IsGrown}
+use Rattle.bsi_survey.specs.Looking.{HasJoined, IsGrown}
 use Rattle.bsi_survey.proofs.Growing.{behind_at, behind_grown, behind_none, behind_weaker, joined, AreBehind, IsJoinedWith}
 use Rattle.bsi_survey.proofs.Lists.{popped_all, popped_at, popped_len}
 use Rattle.bsi_survey.proofs.joining.join_each.Goals as goal
@@ -33,10 +33,12 @@ columns-preserved c =
     let behind : AreBehind (IsJoinedWith all) old now (c.len-c.result + 1) = subst (λ (i : ℕ). AreBehind (IsJoinedWith all) old now i) long inv.2 in
     let within : c.len-c.result < length c.columns.columns =
     omega (arith, number, popped_len all items rest inv.0 item inv.1 popped, inv.2.len, c.requires.len) in
+    let other : (d : Candidates) → get_or all c.len-c.result d ≡ item = λ d. ap (λ n. get_or all n d) number ∙ popped_at all items rest inv.0 item inv.1 popped d in
     let step : IsJoinedWith all c.len-c.result here new = record {
       grown = joined here item new c.in_ok-join.ensures.alike c.in_ok-join.ensures.kinds c.in_ok-join.ensures.preserved;
-      joined = λ d f accepts. c.in_ok-join.ensures.joined f
-          (subst (λ (x : Candidates). Accepts x f) (ap (λ n. get_or all n d) number ∙ popped_at all items rest inv.0 item inv.1 popped d) accepts);
+      joined = λ d f accepts. c.in_ok-join.ensures.joined f (subst (λ (x : Candidates). Accepts x f) (other d) accepts);
+      has = λ d. subst (λ (x : Candidates). HasJoined here x new) (sym (other d))
+          (record { kinds = c.in_ok-join.ensures.kinds; missing = c.in_ok-join.ensures.missing; only = c.in_ok-join.ensures.only });
     } in (
       item ∷ inv.0,
       popped_all all items rest inv.0 item inv.1 popped,
@@ -80,4 +82,13 @@ returns-clause-joined c =
     record {
       len = inv.2.len ∙ sym c.requires.len;
       each = λ j d within. (inv.2.done j d (omega (arith, none)) (omega (arith, within, c.requires.len))).joined d;
+    }
+
+pub returns-clause-kinds : goal.returns-clause-kinds
+returns-clause-kinds c =
+    let inv = c.columns.invariant in
+    let none : length c.columns.others.items ≡ 0 = search rules in
+    record {
+      len = inv.2.len;
+      each = λ j d within. (inv.2.done j d (omega (arith, none)) within).has d;
     }

@@ -37,8 +37,8 @@ columns-preserved c =
       stored = subst (AreEach P) (sym added) (each_more P before one c.columns.invariant.stored (subst (λ (k : ℕ). P k one) (sym c.columns.invariant.len) here));
     }
 
-pub returns : goal.returns
-returns c = record {
+pub returns-clause-stored : goal.returns-clause-stored
+returns-clause-stored c = record {
   len = omega (arith, c.columns.invariant.len, c.columns-test.false);
   each = λ k d within. c.columns.invariant.stored.each k no_column (omega (arith, c.columns.invariant.len, c.columns-test.false, within)) d;
 }

@@ -1,9 +1,13 @@
-use Rattle.std.proofs.Common.{◌≡◌, List, length, ap, sym, subst, All, ◌∙◌, arith}
+use Rattle.std.proofs.Common.{◌≡◌, List, length, ap, sym, subst, All, ◌∙◌, arith, rules}
 use Rattle.bsi_schema.specs.Columns.{Declared}
 use Rattle.bsi_rows.specs.Fields.{Field}
 use Rattle.bsi_inference.specs.declared.decision.Column.{Column}
 use Rattle.bsi_logical.specs.Logical.{Logical}
 use Rattle.bsi_survey.specs.Made.{AreStoredFor, HasNullsOf}
+use Rattle.std.specs.Prelude.{IfErr}
+use Rattle.bsi_survey.specs.declared.schema_refusal.SchemaRefusal.{SchemaRefusal}
+use Rattle.bsi_survey.specs.declared.schema_refusal.SchemaRefusal.TheVariants.{NoMemory}
+use Rattle.bsi_survey.proofs.Late.{late_memory, late_same}
 use Rattle.bsi_survey.proofs.making.make_logical.Goals as goal
 
 -- the columns that are lent are these
@@ -19,7 +23,7 @@ set_titles-requires c =
     let plain = ap (λ (l : Logical). length l.schema.columns) c.in_ok-logical.ensures in
     let dialect = ap (λ (l : Logical). length l.schema.columns) c.in_ok-set_dialect.ensures in
     let lent = ap (λ (cs : List Column). length cs) c.deref.ensures.value in
-    omega (arith, c.requires.len, c.in_ok-schema.ensures.len, lent, plain, dialect)
+    omega (arith, c.requires.len, c.in_ok-schema.ensures.stored.len, lent, plain, dialect)
 
 pub set_kinds-requires-clause-len : goal.set_kinds-requires-clause-len
 set_kinds-requires-clause-len c =
@@ -28,7 +32,7 @@ set_kinds-requires-clause-len c =
     let titles = ap (λ (l : Logical). length l.schema.columns) c.in_ok-set_titles.ensures.same in
     let nulls = ap (λ (l : Logical). length l.schema.columns) c.in_ok-add_nulls.ensures.adds.same in
     let lent = ap (λ (cs : List Column). length cs) c.deref.ensures.value in
-    omega (arith, c.in_ok-schema.ensures.len, lent, plain, dialect, titles, nulls)
+    omega (arith, c.in_ok-schema.ensures.stored.len, lent, plain, dialect, titles, nulls)
 
 -- the schema, the dialect, the titles and the null words are set in turn, and the kinds at last
 pub returns-clause-stored : goal.returns-clause-stored
@@ -39,7 +43,7 @@ returns-clause-stored c =
     let dialect = ap (λ (l : Logical). l.schema) c.in_ok-set_dialect.ensures in
     let plain = ap (λ (l : Logical). l.schema) c.in_ok-logical.ensures in
     subst (λ (s : Declared). AreStoredFor c.args.columns.items s) (sym (kinds ∙ nulls ∙ titles ∙ dialect ∙ plain))
-    (subst (λ (cs : List Column). AreStoredFor cs c.in_ok-schema.schema) c.deref.ensures.value c.in_ok-schema.ensures)
+    (subst (λ (cs : List Column). AreStoredFor cs c.in_ok-schema.schema) c.deref.ensures.value c.in_ok-schema.ensures.stored)
 
 pub returns-clause-dialect : goal.returns-clause-dialect
 returns-clause-dialect c =
@@ -62,3 +66,14 @@ returns-clause-titles c =
     let kinds = ap (λ (l : Logical). l.titles) c.in_ok-set_kinds.ensures.same in
     let nulls = ap (λ (l : Logical). l.titles) c.in_ok-add_nulls.ensures.adds.same in
     kinds ∙ nulls ∙ c.in_ok-set_titles.ensures.titles
+
+pub returns-in_err-schema-clause-late : goal.returns-in_err-schema-clause-late
+returns-in_err-schema-clause-late c =
+    let why = c.in_err-schema.field-0.0 in
+    let same : IfErr c.from_residual.result (λ (e : SchemaRefusal). e ≡ why) = search rules in
+    late_same c.from_residual.result why c.in_err-schema.ensures.late same
+
+pub returns-in_err-logical-clause-late : goal.returns-in_err-logical-clause-late
+returns-in_err-logical-clause-late c =
+    let none : IfErr c.from_residual-in_err-logical.result (λ (e : SchemaRefusal). e ≡ NoMemory) = search rules in
+    late_memory c.from_residual-in_err-logical.result none

@@ -1,4 +1,4 @@
-use Rattle.std.proofs.Common.{◌≡◌, ◌<◌, [], ℕ, List, Vec, Global, get_or, length, map, set, refl, sym, ap, ◌∙◌, arith, below_more, ext_get_or, get_or-set_other, get_or-set_same}
+use Rattle.std.proofs.Common.{◌≡◌, ◌<◌, [], ℕ, List, Vec, Global, get_or, length, map, refl, sym, ap, ◌∙◌, arith, below_more, ext_get_or, get_or-set_other, get_or-set_same}
 use Rattle.std.proofs.Math.ListN.{length-set}
 use Rattle.std.proofs.lemmas.List.{length-map}
 use Rattle.bsi_schema.specs.Columns.{Declared}

@@ -4,4 +4,4 @@ use Rattle.bsi_survey.proofs.repeated.find_repeated.Given as goal
 
 -- no column so far is repeated
 abbrev pub invariant-columns : goal.invariant-columns
-invariant-columns l = (k : ℕ) → k < l.c → IsRepeated (map (λ (field : Vec ℕ Global). field.items) l.header) k → ⊥
+invariant-columns l = (k : ℕ) → k < l.c → IsRepeated (map (λ (title : Vec ℕ Global). title.items) l.titles) k → ⊥

@@ -1,8 +1,8 @@
 use Rattle.std.proofs.Common.{◌≡◌, ℕ, ◌<◌, Vec, Global, map}
-use Rattle.bsi_survey.specs.Titles.{field_of}
+use Rattle.bsi_survey.specs.Titles.{title_in}
 use Rattle.bsi_survey.proofs.repeated.is_repeated.Given as goal
 
--- the columns so far have other fields
+-- the columns so far have other titles
 abbrev pub invariant-columns : goal.invariant-columns
 invariant-columns l =
-    (j : ℕ) → j < l.k → field_of (map (λ (field : Vec ℕ Global). field.items) l.header) j ≡ field_of (map (λ (field : Vec ℕ Global). field.items) l.header) l.c → ⊥
+    (j : ℕ) → j < l.k → title_in (map (λ (title : Vec ℕ Global). title.items) l.titles) j ≡ title_in (map (λ (title : Vec ℕ Global). title.items) l.titles) l.c → ⊥

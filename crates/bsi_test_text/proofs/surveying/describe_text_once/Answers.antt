@@ -6,6 +6,6 @@ use Rattle.bsi_test_text.proofs.surveying.describe_text_once.Goals as goal
 -- a survey that was read looks for each kind, or for texts alone
 pub describe-requires : goal.describe-requires
 describe-requires c = record {
-  texts = c.args.options.now.texts.items;
-  each = subst (λ (d : Dialect). AreLookedFor d.point c.args.options.now.texts.items c.in-Ok.survey.columns.items) (sym c.in-Ok.ensures.dialect) c.in-Ok.ensures.looked;
+  starts = c.args.options.now.starts.items;
+  each = subst (λ (d : Dialect). AreLookedFor d.point c.args.options.now.starts.items c.in-Ok.survey.columns.items) (sym c.in-Ok.ensures.dialect) c.in-Ok.ensures.looked;
 }

@@ -1,5 +1,5 @@
 use Rattle.std.proofs.Common.{List, ℕ, sym}
-use Rattle.bsi_kinds.specs.declared.kind.Kind.TheVariants.{Decimal}
+use Rattle.bsi_kinds.specs.declared.kind.Kind.TheVariants.{Decimal, Rounded}
 use Rattle.bsi_inference.specs.ColumnCandidates.{Accepts}
 use Rattle.bsi_inference.specs.Decisions.{Decides, DecidesTexts, IsColumnOf, IsDecidedFor}
 use Rattle.bsi_inference.proofs.Outcomes.{column_meant, column_takes, if_ok, texts_take}
@@ -9,6 +9,11 @@ pub returns-in-Decimals-clause-accepts : goal.returns-in-Decimals-clause-accepts
 returns-in-Decimals-clause-accepts c =
     if_ok c.make_column.result (IsColumnOf (Decimal c.in-Decimals.places) c.in-Decimals.span c.args.self.nulls) (λ d. (f : List ℕ) → Accepts c.args.self f → IsDecidedFor c.args.self d f)
     (column_takes c.args.self (Decimal c.in-Decimals.places) c.in-Decimals.span c.in-Decimals.ensures.accepts) c.make_column.ensures
+
+pub returns-in-Rounded-clause-accepts : goal.returns-in-Rounded-clause-accepts
+returns-in-Rounded-clause-accepts c =
+    if_ok c.make_column-in-Rounded.result (IsColumnOf (Rounded c.in-Rounded.places) c.in-Rounded.span c.args.self.nulls) (λ d. (f : List ℕ) → Accepts c.args.self f → IsDecidedFor c.args.self d f)
+    (column_takes c.args.self (Rounded c.in-Rounded.places) c.in-Rounded.span c.in-Rounded.ensures.accepts) c.make_column-in-Rounded.ensures
 
 pub returns-in-Form-clause-accepts : goal.returns-in-Form-clause-accepts
 returns-in-Form-clause-accepts c =

@@ -1,11 +1,15 @@
 use Rattle.std.proofs.Common.{option_map, ap, ◌∙◌}
 use Rattle.bsi_kinds.specs.Comparisons.{comparison}
-use Rattle.bsi_kinds.proofs.Kinded.{by_boolean, by_date, by_decimal, by_time}
+use Rattle.bsi_kinds.proofs.Kinded.{by_boolean, by_date, by_decimal, by_rounded, by_time}
 use Rattle.bsi_kinds.proofs.kind.Kind.compare.Goals as goal
 
 pub returns-in-Decimal-clause-some : goal.returns-in-Decimal-clause-some
 returns-in-Decimal-clause-some c =
     by_decimal c.args.op _ c.args.self.now c.args.point c.args.text.now c.compare_decimal.result c.in-Decimal.is c.compare_decimal.ensures.some
+
+pub returns-in-Rounded-clause-some : goal.returns-in-Rounded-clause-some
+returns-in-Rounded-clause-some c =
+    by_rounded c.args.op _ c.args.self.now c.args.point c.args.text.now c.compare_decimal-in-Rounded.result c.in-Rounded.is c.compare_decimal-in-Rounded.ensures.some
 
 pub returns-in-Date-clause-some : goal.returns-in-Date-clause-some
 returns-in-Date-clause-some c =

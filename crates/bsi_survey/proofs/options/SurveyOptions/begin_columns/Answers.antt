@@ -1,7 +1,7 @@
 use Rattle.std.proofs.Common.{◌≡◌, ◌∷◌, ◌++◌, [], ℕ, length, sym, subst, ap, ◌∙◌, arith, rules}
 use Rattle.std.proofs.lemmas.List.{length-append}
 use Rattle.bsi_inference.specs.declared.candidates.Candidates.{Candidates}
-use Rattle.bsi_survey.specs.Looking.{is_of_texts, IsLookedFor, IsNewBy}
+use Rattle.bsi_survey.specs.Looking.{start_at, IsLookedFor, IsNewBy}
 use Rattle.bsi_survey.proofs.Lists.{each_more, AreEach}
 use Rattle.bsi_survey.proofs.options.SurveyOptions.begin_columns.Goals as goal
 
@@ -10,8 +10,8 @@ pub columns-preserved : goal.columns-preserved
 columns-preserved c =
     let before = c.columns.columns.items in
     let one = c.in_ok-column.column in
-    let P : ℕ → Candidates → Type 0 = λ k column. IsNewBy c.args.self.now.dialect.point c.args.self.now.order (is_of_texts c.args.self.now.texts.items k) column
-    × IsLookedFor c.args.self.now.dialect.point (is_of_texts c.args.self.now.texts.items k) column in
+    let P : ℕ → Candidates → Type 0 = λ k column. IsNewBy c.args.self.now.dialect.point c.args.self.now.order (start_at c.args.self.now.starts.items k) column
+    × IsLookedFor c.args.self.now.dialect.point (start_at c.args.self.now.starts.items k) column in
     let is : c.push.new.self.items ≡ before ++ one ∷ [] = search rules in
     record {
       len = ap length is ∙ length-append before (one ∷ []) ∙ omega (arith, c.columns.invariant.len);

@@ -1,5 +1,5 @@
 use Rattle.std.proofs.Common.{◌≡◌, length}
-use Rattle.bsi_survey.specs.Looking.{is_of_texts, IsLookedFor, IsNewBy}
+use Rattle.bsi_survey.specs.Looking.{start_at, IsLookedFor, IsNewBy}
 use Rattle.bsi_survey.proofs.Lists.{AreEach}
 use Rattle.bsi_survey.proofs.options.SurveyOptions.begin_columns.Given as goal
 
@@ -7,6 +7,6 @@ use Rattle.bsi_survey.proofs.options.SurveyOptions.begin_columns.Given as goal
 abbrev pub invariant-columns : goal.invariant-columns
 invariant-columns l = record {
   len : length l.columns.items ≡ l.c;
-  each : AreEach (λ k column. IsNewBy l.self.dialect.point l.self.order (is_of_texts l.self.texts.items k) column
-      × IsLookedFor l.self.dialect.point (is_of_texts l.self.texts.items k) column) l.columns.items;
+  each : AreEach (λ k column. IsNewBy l.self.dialect.point l.self.order (start_at l.self.starts.items k) column
+      × IsLookedFor l.self.dialect.point (start_at l.self.starts.items k) column) l.columns.items;
 }

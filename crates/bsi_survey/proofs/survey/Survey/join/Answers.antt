@@ -1,6 +1,6 @@
 use Rattle.std.proofs.Common.{◌≡◌, ◌++◌, ℕ, List, length, take, drop, arith, subst, sym}
 use Rattle.bsi_inference.specs.declared.candidates.Candidates.{Candidates}
-use Rattle.bsi_survey.specs.Looking.{AreGrown}
+use Rattle.bsi_survey.specs.Looking.{AreGrown, HaveJoined}
 use Rattle.bsi_survey.proofs.Growing.{grown_more, kinds_looked}
 use Rattle.bsi_survey.proofs.Lists.{written}
 use Rattle.bsi_survey.proofs.survey.Survey.join.Goals as goal
@@ -10,6 +10,12 @@ back : (old lent new : List Candidates) (n : ℕ) → n ≡ length old → lent 
 back old lent new n many value grown =
     let own : AreGrown old new = subst (λ (cs : List Candidates). AreGrown cs new) value grown in
     subst (AreGrown old) (sym (written old new n many own.len)) own
+
+back_joined : (old lent others new : List Candidates) (n : ℕ) → n ≡ length old → lent ≡ old → HaveJoined lent others new
+    → HaveJoined old others (take n (new ++ drop (length new) old))
+back_joined old lent others new n many value joined =
+    let own : HaveJoined old others new = subst (λ (cs : List Candidates). HaveJoined cs others new) value joined in
+    subst (HaveJoined old others) (sym (written old new n many own.len)) own
 
 pub returns-in_err-join_each-clause-preserved : goal.returns-in_err-join_each-clause-preserved
 returns-in_err-join_each-clause-preserved c =
@@ -26,3 +32,8 @@ returns-clause-preserved c =
 pub returns-clause-looked : goal.returns-clause-looked
 returns-clause-looked c = λ point looks. kinds_looked point _ _
     (back c.args.self.now.columns.items c.deref_mut.result.now c.join_each.new.columns c.args.self.now.columns.len (omega (arith, c.args.self.now.columns.ok.0)) c.deref_mut.ensures.value c.join_each.ensures.grown) looks
+
+pub returns-clause-kinds : goal.returns-clause-kinds
+returns-clause-kinds c =
+    back_joined c.args.self.now.columns.items c.deref_mut.result.now c.args.other.columns.items c.join_each.new.columns c.args.self.now.columns.len
+    (omega (arith, c.args.self.now.columns.ok.0)) c.deref_mut.ensures.value c.in_ok-join_each.ensures.kinds

@@ -1,4 +1,4 @@
-use Rattle.std.proofs.Common.{◌≡◌, ◌++◌, ℕ, List, Vec, Global, true, false, length, map, take, drop, ap, arith, refl, rules, subst, sym, ◌∙◌}
+use Rattle.std.proofs.Common.{◌≡◌, ◌++◌, ℕ, List, Vec, Global, true, length, map, take, drop, ap, arith, refl, rules, subst, sym, ◌∙◌}
 use Rattle.csv.specs.Reading.{ReadRecord}
 use Rattle.csv.specs.Records.{fields_of}
 use Rattle.bsi_inference.specs.declared.candidates.Candidates.{Candidates}
@@ -31,15 +31,15 @@ returns-clause-sees g c = λ _.
     let new = c.observe_all.new.columns in
     let words = map seen c.deref-3.result.now in
     let read : ReadRecord rem a b true header = search rules in
-    let all : HaveObservedAll rem words b first new old.counts c.observe_all.new.counts =
-    subst (λ (cs : List Candidates). HaveObservedAll rem words b cs new old.counts c.observe_all.new.counts) c.deref_mut.ensures.value c.in_ok-observe_all.ensures.observed in
+    let all : HaveObservedAll rem old.choice words b first new old.counts c.observe_all.new.counts =
+    subst (λ (cs : List Candidates). HaveObservedAll rem old.choice words b cs new old.counts c.observe_all.new.counts) c.deref_mut.ensures.value c.in_ok-observe_all.ensures.observed in
     let same : take old.columns.len (new ++ drop (length new) first) ≡ new = written first new old.columns.len (omega (arith, old.columns.ok.0)) all.observed.len in
     let headers : map seen old.header.items ≡ header =
-    sym (ap (λ (fs : List (Vec ℕ Global)). map seen fs) c.deref.ensures.value) ∙ sym (c.are_same_fields.ensures c.if-not-are_same_fields.false)
+    sym (ap (λ (fs : List (Vec ℕ Global)). map seen fs) c.deref.ensures.value) ∙ sym (c.are_same_fields.ensures.same c.if-not-are_same_fields.false)
     ∙ ap (λ (fs : List (Vec ℕ Global)). map seen fs) c.deref-2.ensures.value ∙ c.in_ok-header.ensures in
     sees_more rem _ a b header first words old.counts c.observe_all.new.counts (rem c.args.reader) c.record_reader-input.ensures.config c.record_reader-input.ensures.start
     c.record_reader-input.ensures.source read headers
-    (subst (λ (cs : List Candidates). HaveObservedAll rem words b first cs old.counts c.observe_all.new.counts) (sym same) all)
+    (subst (λ (cs : List Candidates). HaveObservedAll rem old.choice words b first cs old.counts c.observe_all.new.counts) (sym same) all)
 
 pub returns-clause-preserved : goal.returns-clause-preserved
 returns-clause-preserved g c = λ bytes sees.
@@ -50,10 +50,10 @@ returns-clause-preserved g c = λ bytes sees.
     let first = old.columns.items in
     let new = c.observe_all.new.columns in
     let words = map seen c.deref-3.result.now in
-    let all : HaveObservedAll rem words b first new old.counts c.observe_all.new.counts =
-    subst (λ (cs : List Candidates). HaveObservedAll rem words b cs new old.counts c.observe_all.new.counts) c.deref_mut.ensures.value c.in_ok-observe_all.ensures.observed in
+    let all : HaveObservedAll rem old.choice words b first new old.counts c.observe_all.new.counts =
+    subst (λ (cs : List Candidates). HaveObservedAll rem old.choice words b cs new old.counts c.observe_all.new.counts) c.deref_mut.ensures.value c.in_ok-observe_all.ensures.observed in
     let same : take old.columns.len (new ++ drop (length new) first) ≡ new = written first new old.columns.len (omega (arith, old.columns.ok.0)) all.observed.len in
-    sees_still old _ bytes refl refl (subst (AreGrown first) (sym same) (each_grown words all.records first new all.observed)) sees
+    sees_still old _ bytes refl refl refl (subst (AreGrown first) (sym same) (each_grown old.choice words all.records first new all.observed)) sees
 
 pub returns-clause-looked : goal.returns-clause-looked
 returns-clause-looked g c = λ texts looks.
@@ -64,8 +64,8 @@ returns-clause-looked g c = λ texts looks.
     let first = old.columns.items in
     let new = c.observe_all.new.columns in
     let words = map seen c.deref-3.result.now in
-    let all : HaveObservedAll rem words b first new old.counts c.observe_all.new.counts =
-    subst (λ (cs : List Candidates). HaveObservedAll rem words b cs new old.counts c.observe_all.new.counts) c.deref_mut.ensures.value c.in_ok-observe_all.ensures.observed in
+    let all : HaveObservedAll rem old.choice words b first new old.counts c.observe_all.new.counts =
+    subst (λ (cs : List Candidates). HaveObservedAll rem old.choice words b cs new old.counts c.observe_all.new.counts) c.deref_mut.ensures.value c.in_ok-observe_all.ensures.observed in
     let same : take old.columns.len (new ++ drop (length new) first) ≡ new = written first new old.columns.len (omega (arith, old.columns.ok.0)) all.observed.len in
-    let grown : AreGrown first (take old.columns.len (new ++ drop (length new) first)) = subst (AreGrown first) (sym same) (each_grown words all.records first new all.observed) in
+    let grown : AreGrown first (take old.columns.len (new ++ drop (length new) first)) = subst (AreGrown first) (sym same) (each_grown old.choice words all.records first new all.observed) in
     all_looked first _ grown old.dialect.point texts looks
