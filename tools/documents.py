@@ -1,7 +1,9 @@
 #!/usr/bin/env python3
-"""Checks the documents against the repository: sizes, links, the version, quoted code, the examples, and what runs print.
+"""Checks the documents against the repository: sizes, words, links, the version, quoted code, the examples, and what runs print.
 
-- No page is too long. A link to a file of the repository leads to one, and behind a # to a heading; so does each name docs/X.md.
+- No page is too long. Those for people have at most 24,000 words together, and docs/PROMISES.md has at most 2,800: a word has spaces around
+  it, and a letter or a digit, so it is no bar of a table.
+- A link to a file of the repository leads to one, and behind a # to a heading; so does each name docs/X.md.
 - The version in VERSION is that of the manual page, whose date is that of the newest heading of CHANGELOG.md, of that
   heading, of README.md, and as a number of include/bsi.h.
 - The lines of a block ```rust stand so, one below the other, in a file of crates/bsi_examples/src.
@@ -52,6 +54,11 @@ MAX_SIZES = {
     "docs/PYTHON.md": 10_650,
     "docs/TOOLS.md": 5_700,
 }
+# How many words some pages may have together: all that are for people, and the one for reviewers.
+MAX_WORDS = (
+    (24_000, "README.md", "CHANGELOG.md", "CONTRIBUTING.md", "docs/*.md", "examples/README.md", "python/README.md", "man/bsi.1"),
+    (2_800, "docs/PROMISES.md"),
+)
 # What the program of the tarball finds on a machine without the kit.
 PATH = "/usr/local/bin:/usr/bin:/bin"
 
@@ -82,6 +89,16 @@ def fault_in_sizes(top):
         size, most = os.path.getsize(os.path.join(top, document)), MAX_SIZES.get(document, MAX_SIZE)
         if size > most:
             return f"{document} has {size} bytes, more than {most}"
+    return None
+
+
+def fault_in_words(top):
+    """Returns which pages have too many words, or None."""
+    for most, *patterns in MAX_WORDS:
+        paths = [path for pattern in patterns for path in glob.glob(os.path.join(top, pattern))]
+        count = sum(any(map(str.isalnum, word)) for path in paths for word in text_of(path).split())
+        if count > most:
+            return f"{', '.join(patterns)}: {count} words, more than {most}"
     return None
 
 
@@ -330,6 +347,7 @@ def fault_in_tarball(top):
 
 CHECKS = (
     ("sizes", fault_in_sizes),
+    ("words", fault_in_words),
     ("links within the repository", fault_in_links),
     ("the version", fault_in_version),
     ("lines of Rattle", fault_in_rattle),

@@ -119,6 +119,12 @@ def answer(machine, record):
         return files_model.BAD
 
 
+def notice(out):
+    """Returns what a command that gave rows says on standard error of bad records, if some are, by the lines that it wrote."""
+    bad = sum(int(line.split()[3]) for line in out.splitlines() if line.startswith(b"fed "))
+    return b"bsi: bad records: %d; bsi check says which\n" % bad if bad else b""
+
+
 class Table:
     """A random table. `segments` has the rows of each segment, each with its feeder, and `ends` where it ends in the file."""
 
@@ -201,4 +207,5 @@ class Table:
             return files_model.Written(b"", fault.line, 1)
         self.segments.append(rows)
         lines = [b"fed %d %d %d" % (file, len(good), bad) for file, (good, bad) in enumerate(read)]
-        return files_model.Written(script_model.text_of([*lines, b"%s %d" % (word, len(rows))]), b"", 0)
+        out = script_model.text_of([*lines, b"%s %d" % (word, len(rows))])
+        return files_model.Written(out, notice(out), 0)

@@ -1,5 +1,5 @@
 -- The text of a schema that was found, written or cut.
-use Rattle.std.proofs.Common.{ℕ, List, Result, Ok, Err, length}
+use Rattle.std.proofs.Common.{Result, Ok, Err, length}
 use Rattle.std.specs.Io.KnownBytes.{Appends}
 use Rattle.std.specs.Prelude.{IfErr, OnOk}
 use Rattle.bsi_shell.specs.StoreRuns.{HasDescribedRows, IsCutByWrite, LeavesDescribed}

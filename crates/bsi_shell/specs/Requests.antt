@@ -3,7 +3,7 @@ use Rattle.std.specs.Prelude.{◌≡◌, ⊤}
 use Rattle.bsi_shell.specs.declared.request.Request.{Request}
 use Rattle.bsi_shell.specs.declared.request.Request.TheVariants as request
 use Rattle.bsi_shell.specs.declared.request.Subcommand.{Subcommand}
-use Rattle.bsi_shell.specs.declared.request.Subcommand.TheVariants.{Script, Files, Check, Save, Schema, Add, Ask, Show}
+use Rattle.bsi_shell.specs.declared.request.Subcommand.TheVariants.{Script, Files, Check, Save, Schema, Add, Ask, Show, Help}
 
 -- The request is one of this command, if it carries out a command.
 abbrev pub IsRequestOf : Subcommand → Request → Type 0
@@ -15,5 +15,6 @@ IsRequestOf command (request.Schema asked) = command ≡ Schema
 IsRequestOf command (request.Add paths) = command ≡ Add
 IsRequestOf command (request.Ask paths) = command ≡ Ask
 IsRequestOf command (request.Show path) = command ≡ Show
+IsRequestOf command request.Help = command ≡ Help
 IsRequestOf command request.Wrong = ⊤
 IsRequestOf command request.NoMemory = ⊤

@@ -2,9 +2,9 @@
 use Rattle.std.specs.Io.KnownBytes.{Appends, Keeps}
 use Rattle.std.specs.Borrow.{Bor}
 use Rattle.std.specs.List.{Contains}
-use Rattle.std.specs.Prelude.{◌≡◌, ◌⊎◌, ℕ, List, IfSome, IsOk, MatchOption, Result, Err, length}
+use Rattle.std.specs.Prelude.{◌≡◌, ◌⊎◌, ℕ, zero, suc, List, [], IfSome, IsOk, MatchOption, Result, Err, length}
 use Rattle.bsi_logical.specs.Logical.{Logical}
-use Rattle.bsi_store.specs.Saving.{HasAdded, HasSaved, HasSavedKinds, IsAddFault, IsSaveFault, IsSaveKindsFault, LeavesReported}
+use Rattle.bsi_store.specs.Saving.{HasAdded, HasAddedBeside, HasSaved, HasSavedBeside, HasSavedKinds, HasSavedKindsBeside, IsAddFault, IsSaveFault, IsSaveKindsFault, LeavesReported}
 use Rattle.bsi_store.specs.Surveyed.{HasDescribed, HasSurveyed}
 use Rattle.bsi_shell.specs.declared.request.SaveRequest.{SaveRequest}
 use Rattle.bsi_shell.specs.declared.row_options.SchemaRequest.{SchemaRequest}
@@ -13,9 +13,9 @@ use Rattle.bsi_store.specs.declared.save.SavePaths.{SavePaths}
 use Rattle.bsi_answers.specs.declared.faults.FilesFault.TheVariants.{NoMemory, Write}
 use Rattle.bsi_input.specs.BufferedOutput.{AppendsPrefix}
 use Rattle.bsi_input.specs.declared.writing.WriteFault.{WriteFault}
-use Rattle.bsi_shell.specs.FaultLines.{IsLineWritten, IsSomeTextWritten}
+use Rattle.bsi_shell.specs.FaultLines.{help_text, IsLineWritten, IsSomeTextWritten}
 use Rattle.bsi_store.specs.Asked.{HasAsked, HasShown, LeavesAnswers, LeavesShown}
-use Rattle.bsi_store.specs.Faults.{store_fault_line, IsOfFile, NamesPath}
+use Rattle.bsi_store.specs.Faults.{bad_records_line, store_fault_line, IsOfFile, NamesPath}
 use Rattle.bsi_store.specs.declared.ask.AskPaths.{AskPaths}
 use Rattle.bsi_store.specs.declared.fault.StoreFault.{StoreFault}
 use Rattle.bsi_store.specs.declared.fault.StoreFault.TheVariants.{Run}
@@ -27,28 +27,45 @@ pub record IsFlushed (Is : KnownBytes → KnownBytes → Type 0) (before after :
   pub is : Is before middle
   pub flushed : Keeps middle after
 
+-- What a command says of so many bad records: nothing of none.
+abbrev pub bad_records_notice : ℕ → List ℕ
+bad_records_notice zero = []
+bad_records_notice (suc less) = bad_records_line (suc less)
+
+-- A command gave the rows of row files to an index, and so many of their records are bad: `Is` holds of what was written to
+-- the output, which was flushed, and the notice of the bad records was written to stderr or, if that failed, a prefix.
+pub record HasGivenRows (Is : ℕ → KnownBytes → KnownBytes → Type 0) (before after : KnownBytes)
+    (reported : Result (Unit {0}) WriteFault) (stderr_before stderr_after : KnownBytes) : Type 0 where
+  pub bad : ℕ
+  pub given : IsFlushed (Is bad) before after
+  pub noticed : IsLineWritten reported stderr_before stderr_after (bad_records_notice bad)
+
+-- So many records are bad, or so many others.
+abbrev pub OfSome : (ℕ → KnownBytes → KnownBytes → Type 0) → KnownBytes → KnownBytes → Type 0
+OfSome Is before after = (bad : ℕ) × Is bad before after
+
 -- The rows of the row files were saved by a schema file.
-abbrev pub HasSavedDeclared : {S : Type 0} → (S → KnownBytes) → (S → KnownBytes) → SavePaths → KnownBytes → KnownBytes → Type 0
-HasSavedDeclared rem put paths before after = HasSaved rem put (length paths.rows.items) before after
+abbrev pub HasSavedDeclared : {S : Type 0} → (S → KnownBytes) → (S → KnownBytes) → SavePaths → ℕ → KnownBytes → KnownBytes → Type 0
+HasSavedDeclared rem put paths bad before after = HasSavedBeside rem put (length paths.rows.items) bad before after
 
 -- The rows of the row files were saved by a schema of kinds.
-abbrev pub HasSavedBy : {S : Type 0} → (S → KnownBytes) → (S → KnownBytes) → Logical → SavePaths → KnownBytes → KnownBytes → Type 0
-HasSavedBy rem put logical paths before after = HasSavedKinds rem put logical (length paths.rows.items) before after
+abbrev pub HasSavedBy : {S : Type 0} → (S → KnownBytes) → (S → KnownBytes) → Logical → SavePaths → ℕ → KnownBytes → KnownBytes → Type 0
+HasSavedBy rem put logical paths bad before after = HasSavedKindsBeside rem put logical (length paths.rows.items) bad before after
 
 -- The rows of the row files were saved by a schema of kinds that was found in row files.
-pub record HasSavedFound {S : Type 0} (rem put : S → KnownBytes) (paths : SavePaths) (before after : KnownBytes) : Type 0 where
+pub record HasSavedFound {S : Type 0} (rem put : S → KnownBytes) (paths : SavePaths) (bad : ℕ) (before after : KnownBytes) : Type 0 where
   -- The schema.
   pub logical : Logical
   -- Row files that were opened fit the schema.
   pub found : HasSurveyed rem (length paths.rows.items) logical
   -- The rows of row files were saved by it.
-  pub saved : HasSavedBy rem put logical paths before after
+  pub saved : HasSavedBy rem put logical paths bad before after
 
 -- The rows of the row files were saved: by a schema file, or by a schema that was found.
-abbrev pub HasSavedRows : {S : Type 0} → (S → KnownBytes) → (S → KnownBytes) → SaveRequest → KnownBytes → KnownBytes → Type 0
-HasSavedRows rem put request before after =
-    MatchOption request.schema (HasSavedFound rem put request.paths before after)
-    (λ schema. HasSavedDeclared rem put request.paths before after)
+abbrev pub HasSavedRows : {S : Type 0} → (S → KnownBytes) → (S → KnownBytes) → SaveRequest → ℕ → KnownBytes → KnownBytes → Type 0
+HasSavedRows rem put request bad before after =
+    MatchOption request.schema (HasSavedFound rem put request.paths bad before after)
+    (λ schema. HasSavedDeclared rem put request.paths bad before after)
 
 -- The text of a schema that was found in row files was written to the output.
 pub record HasDescribedRows {S : Type 0} (rem : S → KnownBytes) (request : SchemaRequest) (before after : KnownBytes) : Type 0 where
@@ -57,8 +74,8 @@ pub record HasDescribedRows {S : Type 0} (rem : S → KnownBytes) (request : Sch
   pub written : Appends before after text
 
 -- The rows of the row files were added to a saved index.
-abbrev pub HasAddedRows : {S : Type 0} → (S → KnownBytes) → (S → KnownBytes) → AddPaths → KnownBytes → KnownBytes → Type 0
-HasAddedRows rem put paths before after = HasAdded rem put paths.so_far (length paths.rows.items) before after
+abbrev pub HasAddedRows : {S : Type 0} → (S → KnownBytes) → (S → KnownBytes) → AddPaths → ℕ → KnownBytes → KnownBytes → Type 0
+HasAddedRows rem put paths bad before after = HasAddedBeside rem put paths.so_far (length paths.rows.items) bad before after
 
 -- The questions of an opened file, or those of the input, were answered over a saved index.
 abbrev pub HasAskedEither : {S : Type 0} → (S → KnownBytes) → KnownBytes → AskPaths → KnownBytes → KnownBytes → Type 0
@@ -69,8 +86,14 @@ HasAskedEither rem input paths before after =
 abbrev pub HasDone : {P : Type 0} → (P → KnownBytes → KnownBytes → Type 0) → KnownBytes → KnownBytes → Type 0
 HasDone {P} Is before after = (paths : P) × IsFlushed (Is paths) before after
 
+-- The command gave the rows of some paths to an index.
+abbrev pub HasDoneRows : {P : Type 0} → (P → ℕ → KnownBytes → KnownBytes → Type 0) → KnownBytes → KnownBytes → Result (Unit {0}) WriteFault
+    → KnownBytes → KnownBytes → Type 0
+HasDoneRows {P} Is before after reported stderr_before stderr_after =
+    (paths : P) × HasGivenRows (Is paths) before after reported stderr_before stderr_after
+
 -- A run ended by this fault, or it ended well and the output could not be flushed. The line of the fault was written.
-pub record EndedByFault (run : Result (Unit {0}) StoreFault) (reported : Result (Unit {0}) WriteFault) (stderr_before stderr_after : KnownBytes) : Type 0 where
+pub record EndedByFault {T : Type 0} (run : Result T StoreFault) (reported : Result (Unit {0}) WriteFault) (stderr_before stderr_after : KnownBytes) : Type 0 where
   pub fault : StoreFault
   pub is : (run ≡ Err fault) ⊎ (IsOk run × (fault ≡ Run Write))
   pub line : IsLineWritten reported stderr_before stderr_after (store_fault_line fault)
@@ -96,17 +119,17 @@ OrNoMemory HasFailed before after reported stderr_before stderr_after = HasFaile
 -- What a fault of `bsi save` says about its paths and its files, and what it leaves in the output.
 pub record LeavesSave {S : Type 0} (rem put : S → KnownBytes) (schema : Bor (List ℕ)) (paths : SavePaths) (fault : StoreFault) (before after : KnownBytes) : Type 0 where
   pub named : NamesPath (λ named. (named ≡ schema) ⊎ ((named ≡ paths.to) ⊎ Contains paths.rows.items named)) fault
-  pub partial : LeavesReported (HasSavedDeclared rem put paths) (IsSaveFault rem (length paths.rows.items)) fault before after
+  pub partial : LeavesReported (HasSaved rem put (length paths.rows.items)) (IsSaveFault rem paths.strict (length paths.rows.items)) fault before after
 
 -- The same of a save by a schema of kinds.
 pub record LeavesSaveBy {S : Type 0} (rem put : S → KnownBytes) (logical : Logical) (paths : SavePaths) (fault : StoreFault) (before after : KnownBytes) : Type 0 where
   pub named : NamesPath (λ named. (named ≡ paths.to) ⊎ Contains paths.rows.items named) fault
-  pub partial : LeavesReported (HasSavedBy rem put logical paths) (IsSaveKindsFault rem logical (length paths.rows.items)) fault before after
+  pub partial : LeavesReported (HasSavedKinds rem put logical (length paths.rows.items)) (IsSaveKindsFault rem logical paths.strict (length paths.rows.items)) fault before after
 
 -- What a fault of `bsi add` says and leaves.
 pub record LeavesAdd {S : Type 0} (rem put : S → KnownBytes) (paths : AddPaths) (fault : StoreFault) (before after : KnownBytes) : Type 0 where
   pub named : NamesPath (λ named. (named ≡ paths.index) ⊎ Contains paths.rows.items named) fault
-  pub partial : LeavesReported (HasAddedRows rem put paths) (IsAddFault rem paths.so_far (length paths.rows.items)) fault before after
+  pub partial : LeavesReported (HasAdded rem put paths.so_far (length paths.rows.items)) (IsAddFault rem paths.so_far paths.strict (length paths.rows.items)) fault before after
 
 -- What a fault of `bsi ask` says and leaves, for the questions of an opened file or of the input.
 pub record LeavesAsk {S : Type 0} (rem : S → KnownBytes) (input : KnownBytes) (paths : AskPaths) (fault : StoreFault) (before after : KnownBytes) : Type 0 where
@@ -127,14 +150,14 @@ abbrev pub HasFailedFound : {S : Type 0} → (S → KnownBytes) → (S → Known
     → Result (Unit {0}) WriteFault → KnownBytes → KnownBytes → Type 0
 HasFailedFound rem put paths before after reported stderr_before stderr_after =
     ((after ≡ before) × IsSomeTextWritten reported stderr_before stderr_after)
-    ⊎ ((logical : Logical) × HasFailedStore (LeavesSaveBy rem put logical paths) (HasSavedBy rem put logical paths) before after reported stderr_before stderr_after)
+    ⊎ ((logical : Logical) × HasFailedStore (LeavesSaveBy rem put logical paths) (OfSome (HasSavedBy rem put logical paths)) before after reported stderr_before stderr_after)
 
 -- A save failed, by a schema file or by a schema that is to be found.
 abbrev pub HasFailedSaveOf : {S : Type 0} → (S → KnownBytes) → (S → KnownBytes) → SaveRequest → KnownBytes → KnownBytes
     → Result (Unit {0}) WriteFault → KnownBytes → KnownBytes → Type 0
 HasFailedSaveOf rem put request before after reported stderr_before stderr_after =
     MatchOption request.schema (HasFailedFound rem put request.paths before after reported stderr_before stderr_after)
-    (λ schema. HasFailedStore (LeavesSave rem put schema request.paths) (HasSavedDeclared rem put request.paths) before after reported stderr_before stderr_after)
+    (λ schema. HasFailedStore (LeavesSave rem put schema request.paths) (OfSome (HasSavedDeclared rem put request.paths)) before after reported stderr_before stderr_after)
 
 -- A write that failed has appended a prefix of a text.
 pub record IsCutByWrite (text : Bytes) (fault : StoreFault) (before after : KnownBytes) : Type 0 where
@@ -164,7 +187,7 @@ HasFailedSave rem put before after reported stderr_before stderr_after =
 
 abbrev pub HasFailedAdd : {S : Type 0} → (S → KnownBytes) → (S → KnownBytes) → KnownBytes → KnownBytes → Result (Unit {0}) WriteFault → KnownBytes → KnownBytes → Type 0
 HasFailedAdd rem put before after reported stderr_before stderr_after =
-    OrNoMemory ((paths : AddPaths) × HasFailedStore (LeavesAdd rem put paths) (HasAddedRows rem put paths) before after reported stderr_before stderr_after) before after reported stderr_before stderr_after
+    OrNoMemory ((paths : AddPaths) × HasFailedStore (LeavesAdd rem put paths) (OfSome (HasAddedRows rem put paths)) before after reported stderr_before stderr_after) before after reported stderr_before stderr_after
 
 abbrev pub HasFailedAsk : {S : Type 0} → (S → KnownBytes) → KnownBytes → KnownBytes → KnownBytes → Result (Unit {0}) WriteFault → KnownBytes → KnownBytes → Type 0
 HasFailedAsk rem input before after reported stderr_before stderr_after =
@@ -173,3 +196,9 @@ HasFailedAsk rem input before after reported stderr_before stderr_after =
 abbrev pub HasFailedShow : {S : Type 0} → (S → KnownBytes) → KnownBytes → KnownBytes → Result (Unit {0}) WriteFault → KnownBytes → KnownBytes → Type 0
 HasFailedShow rem before after reported stderr_before stderr_after =
     OrNoMemory ((path : Bor (List ℕ)) × HasFailedStore (LeavesShow rem path) (HasShown rem) before after reported stderr_before stderr_after) before after reported stderr_before stderr_after
+
+-- The text of `bsi help` could not be written.
+abbrev pub HasFailedHelp : KnownBytes → KnownBytes → Result (Unit {0}) WriteFault → KnownBytes → KnownBytes → Type 0
+HasFailedHelp before after reported stderr_before stderr_after =
+    OrNoMemory (HasFailedStore (IsCutByWrite help_text) (λ start end. Appends start end help_text) before after reported stderr_before stderr_after)
+    before after reported stderr_before stderr_after

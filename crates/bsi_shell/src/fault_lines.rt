@@ -1,7 +1,7 @@
-//! Writes the line of a fault on stderr, or the usage line of a command.
+//! Writes the line of a fault on stderr, or the usage line of a command; and the text of `bsi help` (`HELP`).
 ghost use Rattle.std.specs.Prelude.{◌≡◌, ◌≤◌, ◌++◌, codes, length};
 ghost use Rattle.bsi_answers.specs.FaultTexts.{max_fault_text};
-ghost use Rattle.bsi_store.specs.Faults.{file_fault_text, store_fault_line};
+ghost use Rattle.bsi_store.specs.Faults.{bad_records_line, file_fault_text, store_fault_line};
 ghost use Rattle.bsi_shell.specs.FaultLines.{fault_line, usage_of, IsLineWritten};
 
 use crate::files::RunFault;
@@ -10,10 +10,30 @@ use arrayvec::ArrayString;
 use bsi_files::MAX_FAULT_TEXT;
 use bsi_store::{FileFault, MAX_FILE_TEXT, StoreFault};
 use bsi_text::{WriteFault, write_bytes};
+use itoa::Buffer;
 use std::io::Write;
+
+/// What `bsi help` writes.
+pub(crate) const HELP: &str =
+    "bsi keeps the rows of CSV files in bitmap indexes, and answers questions about them.\n\
+    \n  \
+    bsi save [--schema FILE] --to FILE CSV..        saves the rows of CSV files as an index in a file\n  \
+    bsi schema CSV..                                writes the schema that save would find\n  \
+    bsi add FILE CSV..                              adds rows to a saved index\n  \
+    bsi ask FILE [--asks FILE]                      answers the questions of a file or of standard input\n  \
+    bsi show FILE                                   describes a saved index\n  \
+    bsi check --schema FILE [--asks FILE] CSV..     says which records and questions are bad, and why\n  \
+    bsi files --schema FILE --asks FILE CSV..       answers questions about CSV files, saving no index\n  \
+    bsi script                                      carries out the events of standard input\n  \
+    bsi help                                        writes this\n\
+    \n\
+    A question is a line as count,all or by,station,median,price,day,>=,2026-01-31: see man bsi.\n";
 
 /// The most bytes of the line of a fault that names no path.
 const MAX_LINE: usize = MAX_FAULT_TEXT + 1;
+
+/// The most bytes of the line of bad records: those of its texts, and of a number of 20 digits.
+const MAX_BAD_LINE: usize = 18 + 20 + 23;
 
 /// The most bytes of what follows a path, with its line end.
 const MAX_FILE_LINE: usize = 2 + MAX_FILE_TEXT + 1;
@@ -54,8 +74,28 @@ pub(crate) fn write_store_fault<F: Write>(
         StoreFault::CannotOpen(path) => write_message("bsi: cannot open ", path, "\n", stderr),
         StoreFault::CannotWrite(path) => write_message("bsi: cannot write ", path, "\n", stderr),
         StoreFault::Unusable(path, fault) => write_unusable_file(path, fault, stderr),
+        StoreFault::BadRecords(bad) => write_bad_records(bad, stderr),
         StoreFault::Run(fault) => write_fault(fault.text().as_str(), stderr),
     }
+}
+
+/// Writes the line that says how many records of row files are bad.
+pub(crate) fn write_bad_records<F: Write>(bad: u64, stderr: &mut F) -> Result<(), WriteFault>
+    ensures { IsLineWritten result (F.contents stderr.old) (F.contents stderr.new)
+        (bad_records_line bad) }
+{
+    write_bytes(stderr, bad_records_line(bad).as_str().as_bytes())
+}
+
+/// Makes the line that says how many records of row files are bad.
+fn bad_records_line(bad: u64) -> ArrayString<MAX_BAD_LINE>
+    ensures { result.bytes ≡ bad_records_line bad }
+{
+    let mut line = ArrayString::<MAX_BAD_LINE>::new();
+    line.push_str("bsi: bad records: ");
+    line.push_str(Buffer::new().format(bad));
+    line.push_str("; bsi check says which\n");
+    line
 }
 
 /// Writes the line of what is wrong with the file of a path.
@@ -106,12 +146,13 @@ fn usage_of(command: Subcommand) -> &'static str
         }
         Subcommand::Check => "usage: bsi check --schema FILE [--asks FILE] CSV..\n",
         Subcommand::Save =>
-            "usage: bsi save [--force] [--schema FILE | --delimiter C --decimal C --dates dmy|mdy --null WORD --columns NAME,.. --round PLACES] --to FILE CSV..\n",
+            "usage: bsi save [--force] [--strict] [--schema FILE | --delimiter C --decimal C --dates dmy|mdy --null WORD --columns NAME,.. --round PLACES] --to FILE CSV..\n",
         Subcommand::Schema => {
             "usage: bsi schema [--delimiter C --decimal C --dates dmy|mdy --null WORD --columns NAME,.. --round PLACES] CSV..\n"
         }
-        Subcommand::Add => "usage: bsi add [--so-far] FILE CSV..\n",
+        Subcommand::Add => "usage: bsi add [--so-far] [--strict] FILE CSV..\n",
         Subcommand::Ask => "usage: bsi ask [--so-far] FILE [--asks FILE]\n",
         Subcommand::Show => "usage: bsi show FILE\n",
+        Subcommand::Help => "usage: bsi help\n",
     }
 }

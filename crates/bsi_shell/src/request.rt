@@ -2,8 +2,8 @@
 //!
 //! A further command is a variant of `Subcommand` and of `Request`, a line of `COMMANDS`, `subcommand_of` and
 //! `parse_words`, and one function of `words.rt`.
-ghost use Rattle.std.specs.Prelude.{◌≡◌, ◌<◌, length, IfOk};
-ghost use Rattle.bsi_shell.specs.Commands.{subcommand_of};
+ghost use Rattle.std.specs.Prelude.{◌≡◌, ◌<◌, length, option_map, string_bytes, IfOk};
+ghost use Rattle.bsi_shell.specs.Commands.{asks_help, named_by, subcommand_of};
 ghost use Rattle.bsi_shell.specs.Requests.{IsRequestOf};
 
 use crate::paths::{CheckPaths, Paths};
@@ -32,6 +32,8 @@ pub(crate) enum Subcommand {
     Ask,
     /// Says what a saved index is.
     Show,
+    /// Says which commands there are.
+    Help,
 }
 
 /// An argument of a command.
@@ -65,6 +67,8 @@ enum Argument {
     SoFar,
     /// Whether a file that is no index is replaced.
     Force,
+    /// Whether bad records are refused.
+    Strict,
     /// The row files, one or more.
     Rows,
 }
@@ -81,6 +85,7 @@ const COMMANDS: [(&str, &[Argument]); 8] = [
         "save",
         &[
             Argument::Force,
+            Argument::Strict,
             Argument::SchemaIfGiven,
             Argument::Delimiter,
             Argument::Decimal,
@@ -104,7 +109,15 @@ const COMMANDS: [(&str, &[Argument]); 8] = [
             Argument::Rows,
         ],
     ),
-    ("add", &[Argument::SoFar, Argument::Index, Argument::Rows]),
+    (
+        "add",
+        &[
+            Argument::SoFar,
+            Argument::Strict,
+            Argument::Index,
+            Argument::Rows,
+        ],
+    ),
     (
         "ask",
         &[Argument::SoFar, Argument::Index, Argument::AsksIfGiven],
@@ -130,6 +143,7 @@ impl Argument {
             Argument::Index => Arg::new(alloc, "index").required(true),
             Argument::SoFar => option(alloc, "so-far").action(ArgAction::SetTrue),
             Argument::Force => option(alloc, "force").action(ArgAction::SetTrue),
+            Argument::Strict => option(alloc, "strict").action(ArgAction::SetTrue),
             Argument::Rows => Arg::new(alloc, "rows")
                 .required(true)
                 .num_args(1..)
@@ -173,16 +187,21 @@ pub(crate) enum Request<'a> {
     Ask(AskPaths<'a>),
     /// Say what the saved index of this path is.
     Show(&'a str),
+    /// Say which commands there are.
+    Help,
     /// The words are not a command.
     Wrong,
     /// Memory was refused while the words were read.
     NoMemory,
 }
 
-/// Reads the words. A request for help is not a command.
+/// Reads the words. A request for help that `subcommand_of` does not name is not a command.
 pub(crate) fn read_request<'a>(alloc: Global, words: &'a [String]) -> Request<'a>
     ensures { IsRequestOf (subcommand_of words.now) result }
 {
+    if let Subcommand::Help = subcommand_of(words) {
+        return Request::Help;
+    }
     match parse_words(alloc, words) {
         Ok(request) => request,
         Err(error) if error.kind() == ErrorKind::OutOfMemory => Request::NoMemory,
@@ -209,11 +228,34 @@ fn parse_words<'a>(alloc: Global, words: &'a [String]) -> Result<Request<'a>, Er
     }
 }
 
-/// Returns the command that the first word names, and `script` where it names no other.
+/// Returns the command that the first words name: that of the first one, or `script` if it names none. Behind a word that
+/// names another command than `script` and `files`, `--help` asks for help.
 pub(crate) fn subcommand_of(words: &[String]) -> Subcommand
     ensures { result ≡ subcommand_of words.now }
 {
-    let Some(word) = words.first() else {
+    match named_by(words.first()) {
+        Subcommand::Script => Subcommand::Script,
+        Subcommand::Files => Subcommand::Files,
+        _ if asks_help(words.get(1)) => Subcommand::Help,
+        command => command,
+    }
+}
+
+/// Returns whether a word is `--help`.
+fn asks_help(word: Option<&String>) -> bool
+    ensures { result ≡ asks_help (option_map (λ w. string_bytes w.now) word.entry) }
+{
+    match word {
+        Some(word) => word.as_str() == "--help",
+        None => false,
+    }
+}
+
+/// Returns the command that a word names, and `script` if it names no other.
+fn named_by(word: Option<&String>) -> Subcommand
+    ensures { result ≡ named_by (option_map (λ w. string_bytes w.now) word.entry) }
+{
+    let Some(word) = word else {
         return Subcommand::Script;
     };
     if word.as_str() == "files" {
@@ -236,6 +278,9 @@ pub(crate) fn subcommand_of(words: &[String]) -> Subcommand
     }
     if word.as_str() == "show" {
         return Subcommand::Show;
+    }
+    if word.as_str() == "help" {
+        return Subcommand::Help;
     }
     Subcommand::Script
 }
@@ -312,8 +357,12 @@ fn read_save_paths<'a>(alloc: Global, given: &ArgMatches<'a>) -> Result<Request<
         return Ok(Request::Wrong);
     };
     let rows = rows.to_vec(alloc)?;
-    let force = given.get_flag("force");
-    let paths = SavePaths { to, rows, force };
+    let paths = SavePaths {
+        to,
+        rows,
+        force: given.get_flag("force"),
+        strict: given.get_flag("strict"),
+    };
     Ok(Request::Save(SaveRequest {
         schema,
         options,
@@ -349,11 +398,11 @@ fn read_add_paths<'a>(alloc: Global, given: &ArgMatches<'a>) -> Result<Request<'
         return Ok(Request::Wrong);
     }
     let rows = rows.to_vec(alloc)?;
-    let so_far = given.get_flag("so-far");
     Ok(Request::Add(AddPaths {
         index,
         rows,
-        so_far,
+        so_far: given.get_flag("so-far"),
+        strict: given.get_flag("strict"),
     }))
 }
 

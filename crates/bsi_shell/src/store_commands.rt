@@ -1,13 +1,14 @@
-//! Carries out the commands over a saved index: `bsi save`, `bsi add`, `bsi ask` and `bsi show`.
-ghost use Rattle.std.specs.Prelude.{◌≡◌, ◌<◌, ◌≤◌, IfErr, IfOk, IsOk, OnOk, false, length};
+//! Carries out the commands over a saved index: `bsi save`, `bsi schema`, `bsi add`, `bsi ask` and `bsi show`; and `bsi
+//! help`.
+ghost use Rattle.std.specs.Prelude.{◌≡◌, ◌<◌, ◌≤◌, IfErr, IfOk, IsOk, IsOkAnd, OnOk, false, length};
 ghost use Rattle.std.specs.Io.KnownBytes.{Appends, Keeps};
-ghost use Rattle.bsi_shell.specs.StoreRuns.{EndedByFault, HasAddedRows, HasAskedEither, HasDescribedRows, HasFailedFound, HasFailedSaveOf, HasFailedSchemaOf, HasFailedStore, HasSavedBy, HasSavedDeclared, HasSavedFound, HasSavedRows, IsCutByWrite, IsFlushed, LeavesAdd, LeavesAsk, LeavesSave, LeavesSaveBy, LeavesShow};
-ghost use Rattle.bsi_shell.specs.FaultLines.{IsLineWritten};
+ghost use Rattle.bsi_shell.specs.StoreRuns.{bad_records_notice, EndedByFault, HasAddedRows, HasAskedEither, HasDescribedRows, HasFailedFound, HasFailedSaveOf, HasFailedSchemaOf, HasFailedStore, HasGivenRows, HasSavedBy, HasSavedDeclared, HasSavedFound, HasSavedRows, IsCutByWrite, IsFlushed, LeavesAdd, LeavesAsk, LeavesSave, LeavesSaveBy, LeavesShow, OfSome};
+ghost use Rattle.bsi_shell.specs.FaultLines.{help_text, IsLineWritten};
 ghost use Rattle.bsi_store.specs.Asked.{HasShown};
 ghost use Rattle.bsi_store.specs.Faults.{store_fault_line};
 ghost use Rattle.bsi_store.specs.Surveyed.{HasDescribed, HasSurveyed};
 
-use crate::fault_lines::write_store_fault;
+use crate::fault_lines::{HELP, write_bad_records, write_store_fault};
 use crate::request::SaveRequest;
 use crate::row_options::{RowOptions, SchemaRequest};
 use crate::survey_lines::write_survey_fault;
@@ -38,13 +39,12 @@ pub(crate) fn answer_save<
 >(rt: &R, request: &SaveRequest<'a>, output: &mut O, stderr: &mut F, gate: &G) -> CommandEnd
     requires { G.STOPS ≡ false }
     ensures status { result.status ≤ 1 }
-    ensures saved { result.status ≡ 0 →
-        IsFlushed (HasSavedRows S.remaining S.contents request.now)
-        (O.contents output.old) (O.contents output.new) }
+    ensures saved { result.status ≡ 0 → HasGivenRows
+        (HasSavedRows S.remaining S.contents request.now) (O.contents output.old)
+        (O.contents output.new) result.reported (F.contents stderr.old) (F.contents stderr.new) }
     ensures reported { result.status ≡ 1 →
         HasFailedSaveOf S.remaining S.contents request.now
         (O.contents output.old) (O.contents output.new) result.reported (F.contents stderr.old) (F.contents stderr.new) }
-    ensures stderr_unchanged { result.status ≡ 0 → F.contents stderr.new ≡ F.contents stderr.old }
 {
     match request.schema {
         Some(schema) => save_declared(rt, schema, &request.paths, output, stderr, gate),
@@ -70,17 +70,16 @@ fn save_declared<
 ) -> CommandEnd
     requires { G.STOPS ≡ false }
     ensures status { result.status ≤ 1 }
-    ensures saved { result.status ≡ 0 →
-        IsFlushed (HasSavedDeclared S.remaining S.contents paths.now)
-        (O.contents output.old) (O.contents output.new) }
+    ensures saved { result.status ≡ 0 → HasGivenRows
+        (HasSavedDeclared S.remaining S.contents paths.now) (O.contents output.old)
+        (O.contents output.new) result.reported (F.contents stderr.old) (F.contents stderr.new) }
     ensures reported { result.status ≡ 1 →
         HasFailedStore (LeavesSave S.remaining S.contents schema.entry paths.now)
-        (HasSavedDeclared S.remaining S.contents paths.now)
+        (OfSome (HasSavedDeclared S.remaining S.contents paths.now))
         (O.contents output.old) (O.contents output.new) result.reported (F.contents stderr.old) (F.contents stderr.new) }
-    ensures stderr_unchanged { result.status ≡ 0 → F.contents stderr.new ≡ F.contents stderr.old }
 {
     let run = save_rows(rt, schema, paths, output, gate);
-    finish_command(run, output, stderr)
+    finish_rows(run, output, stderr)
 }
 
 /// Saves rows by a schema of kinds that is found in them.
@@ -101,13 +100,12 @@ fn save_found<
 ) -> CommandEnd
     requires { G.STOPS ≡ false }
     ensures status { result.status ≤ 1 }
-    ensures saved { result.status ≡ 0 →
-        IsFlushed (HasSavedFound S.remaining S.contents paths.now)
-        (O.contents output.old) (O.contents output.new) }
+    ensures saved { result.status ≡ 0 → HasGivenRows
+        (HasSavedFound S.remaining S.contents paths.now) (O.contents output.old)
+        (O.contents output.new) result.reported (F.contents stderr.old) (F.contents stderr.new) }
     ensures reported { result.status ≡ 1 →
         HasFailedFound S.remaining S.contents paths.now
         (O.contents output.old) (O.contents output.new) result.reported (F.contents stderr.old) (F.contents stderr.new) }
-    ensures stderr_unchanged { result.status ≡ 0 → F.contents stderr.new ≡ F.contents stderr.old }
 {
     match find_format(rt, options, &paths.rows) {
         Ok(format) => save_by_kinds(rt, &format, paths, output, stderr, gate),
@@ -136,25 +134,24 @@ fn save_by_kinds<
 ) -> CommandEnd
     requires { G.STOPS ≡ false }
     ensures status { result.status ≤ 1 }
-    ensures saved { result.status ≡ 0 →
-        IsFlushed (HasSavedBy S.remaining S.contents format.now paths.now)
-        (O.contents output.old) (O.contents output.new) }
+    ensures saved { result.status ≡ 0 → HasGivenRows
+        (HasSavedBy S.remaining S.contents format.now paths.now) (O.contents output.old)
+        (O.contents output.new) result.reported (F.contents stderr.old) (F.contents stderr.new) }
     ensures reported { result.status ≡ 1 →
         HasFailedStore (LeavesSaveBy S.remaining S.contents format.now paths.now)
-        (HasSavedBy S.remaining S.contents format.now paths.now)
+        (OfSome (HasSavedBy S.remaining S.contents format.now paths.now))
         (O.contents output.old) (O.contents output.new) result.reported (F.contents stderr.old) (F.contents stderr.new) }
-    ensures stderr_unchanged { result.status ≡ 0 → F.contents stderr.new ≡ F.contents stderr.old }
 {
     let run = save_kinds(rt, format, paths, output, gate);
-    finish_command(run, output, stderr)
+    finish_rows(run, output, stderr)
 }
 
 /// Finds the schema of kinds of row files, as the format of these.
-fn find_format<'a, R: AllocGlobal + Files<File = S>, S: Read + OpenFile + Drop>(
-    rt: &R,
-    options: &RowOptions,
-    rows: &[&'a str],
-) -> Result<LogicalFormat, SurveyFault<'a>>
+fn find_format<
+    'a,
+    R: AllocGlobal + Files<File = S> + Threads + Sync,
+    S: Read + OpenFile + Drop + Send,
+>(rt: &R, options: &RowOptions, rows: &[&'a str]) -> Result<LogicalFormat, SurveyFault<'a>>
     requires { 0 < length rows.now }
     ensures { IfOk result (HasSurveyed S.remaining (length rows.now)) }
 {
@@ -182,8 +179,8 @@ fn find_options<'a, R: AllocGlobal + Files<File = S>, S: Read + OpenFile + Drop>
 /// Carries out `bsi schema`.
 pub(crate) fn answer_schema<
     'a,
-    R: AllocGlobal + Files<File = S>,
-    S: Read + OpenFile + Drop,
+    R: AllocGlobal + Files<File = S> + Threads + Sync,
+    S: Read + OpenFile + Drop + Send,
     O: Write,
     F: Write,
 >(rt: &R, request: &SchemaRequest<'a>, output: &mut O, stderr: &mut F) -> CommandEnd
@@ -209,10 +206,11 @@ pub(crate) fn answer_schema<
 }
 
 /// Makes the text of the schema that is found of row files.
-fn find_schema_text<'a, R: AllocGlobal + Files<File = S>, S: Read + OpenFile + Drop>(
-    rt: &R,
-    request: &SchemaRequest<'a>,
-) -> Result<Vec<u8>, SurveyFault<'a>>
+fn find_schema_text<
+    'a,
+    R: AllocGlobal + Files<File = S> + Threads + Sync,
+    S: Read + OpenFile + Drop + Send,
+>(rt: &R, request: &SchemaRequest<'a>) -> Result<Vec<u8>, SurveyFault<'a>>
     ensures { IfOk result (λ text. HasDescribed S.remaining (length request.now.rows.items) text.items) }
 {
     let mut options = find_options(rt, &request.options, &request.rows)?;
@@ -241,16 +239,16 @@ pub(crate) fn answer_add<
 >(rt: &R, paths: &AddPaths<'a>, output: &mut O, stderr: &mut F, gate: &G) -> CommandEnd
     requires { G.STOPS ≡ false }
     ensures status { result.status ≤ 1 }
-    ensures added { result.status ≡ 0 →
-        IsFlushed (HasAddedRows S.remaining S.contents paths.now)
-        (O.contents output.old) (O.contents output.new) }
+    ensures added { result.status ≡ 0 → HasGivenRows
+        (HasAddedRows S.remaining S.contents paths.now) (O.contents output.old)
+        (O.contents output.new) result.reported (F.contents stderr.old) (F.contents stderr.new) }
     ensures reported { result.status ≡ 1 →
-        HasFailedStore (LeavesAdd S.remaining S.contents paths.now) (HasAddedRows S.remaining S.contents paths.now)
+        HasFailedStore (LeavesAdd S.remaining S.contents paths.now)
+        (OfSome (HasAddedRows S.remaining S.contents paths.now))
         (O.contents output.old) (O.contents output.new) result.reported (F.contents stderr.old) (F.contents stderr.new) }
-    ensures stderr_unchanged { result.status ≡ 0 → F.contents stderr.new ≡ F.contents stderr.old }
 {
     let run = add_rows(rt, paths, output, gate);
-    finish_command(run, output, stderr)
+    finish_rows(run, output, stderr)
 }
 
 /// Carries out `bsi ask`.
@@ -296,6 +294,20 @@ pub(crate) fn answer_show<
     finish_command(run, output, stderr)
 }
 
+/// Carries out `bsi help`.
+pub(crate) fn answer_help<O: Write, F: Write>(output: &mut O, stderr: &mut F) -> CommandEnd
+    ensures status { result.status ≤ 1 }
+    ensures helped { result.status ≡ 0 → IsFlushed
+        (λ before after. Appends before after help_text) (O.contents output.old) (O.contents output.new) }
+    ensures reported { result.status ≡ 1 → HasFailedStore (IsCutByWrite help_text)
+        (λ before after. Appends before after help_text)
+        (O.contents output.old) (O.contents output.new) result.reported (F.contents stderr.old) (F.contents stderr.new) }
+    ensures stderr_unchanged { result.status ≡ 0 → F.contents stderr.new ≡ F.contents stderr.old }
+{
+    let run = put_text(HELP.as_bytes(), output);
+    finish_command(run, output, stderr)
+}
+
 /// Answers the questions of the file of a path, or those of the input.
 fn ask_either<
     'a,
@@ -334,6 +346,38 @@ fn finish_command<O: Write, F: Write>(
         Ok(()) if flushed.is_err() => fail(StoreFault::from(WriteFault), stderr),
         Ok(()) => CommandEnd::by(0, Ok(())),
     }
+}
+
+/// Ends a command that gave the rows of row files to an index, as `finish_command` does, and says how many records are
+/// bad, if some are.
+fn finish_rows<O: Write, F: Write>(
+    run: Result<u64, StoreFault<'_>>,
+    output: &mut O,
+    stderr: &mut F,
+) -> CommandEnd
+    ensures status { result.status ≤ 1 }
+    ensures noticed { result.status ≡ 0 → IsOkAnd run.entry (λ bad. IsLineWritten result.reported (F.contents stderr.old) (F.contents stderr.new)
+        (bad_records_notice bad)) }
+    ensures flushed { Keeps (O.contents output.old) (O.contents output.new) }
+    ensures reported { result.status ≡ 1 →
+        EndedByFault run.entry result.reported (F.contents stderr.old) (F.contents stderr.new) }
+{
+    let flushed = output.flush();
+    match run {
+        Err(fault) => fail(fault, stderr),
+        Ok(_) if flushed.is_err() => fail(StoreFault::from(WriteFault), stderr),
+        Ok(bad) => CommandEnd::by(0, notice_bad_records(bad, stderr)),
+    }
+}
+
+/// Writes how many records are bad, if some are.
+fn notice_bad_records<F: Write>(bad: u64, stderr: &mut F) -> Result<(), WriteFault>
+    ensures { IsLineWritten result (F.contents stderr.old) (F.contents stderr.new) (bad_records_notice bad) }
+{
+    if bad == 0 {
+        return Ok(());
+    }
+    write_bad_records(bad, stderr)
 }
 
 /// Ends a command by a fault, and writes its line.

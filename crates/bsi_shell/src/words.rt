@@ -1,10 +1,11 @@
 //! Runs a command line (`run_words`): carries out what its words ask for, and returns the status to end with.
-ghost use Rattle.std.specs.Prelude.{◌≡◌, ◌≤◌, IfErr, OnErr, OnOk, false};
+ghost use Rattle.std.specs.Prelude.{◌≡◌, ◌≢◌, ◌≤◌, IfErr, OnErr, OnOk, false};
+ghost use Rattle.std.specs.Io.KnownBytes.{Appends};
 ghost use Rattle.bsi_shell.specs.Checks.{HasChecked, HasFailedCheck};
 ghost use Rattle.bsi_shell.specs.Commands.{subcommand_of};
-ghost use Rattle.bsi_shell.specs.FaultLines.{usage_of, IsLineWritten};
+ghost use Rattle.bsi_shell.specs.FaultLines.{help_text, usage_of, IsLineWritten};
 ghost use Rattle.bsi_shell.specs.FileRuns.{HasFailedFiles, HasRunOver};
-ghost use Rattle.bsi_shell.specs.StoreRuns.{HasAddedRows, HasAskedEither, HasDescribedRows, HasDone, HasFailedAdd, HasFailedAsk, HasFailedSave, HasFailedSchema, HasFailedShow, HasSavedRows, IsFlushed};
+ghost use Rattle.bsi_shell.specs.StoreRuns.{HasAddedRows, HasAskedEither, HasDescribedRows, HasDone, HasDoneRows, HasFailedAdd, HasFailedAsk, HasFailedHelp, HasFailedSave, HasFailedSchema, HasFailedShow, HasSavedRows, IsFlushed};
 ghost use Rattle.bsi_store.specs.Asked.{HasShown};
 ghost use Rattle.bsi_shell.specs.ScriptRuns.{HasFailedScript, LeavesScript};
 ghost use Rattle.bsi_input.specs.Texts.{IfBytesKnown, IsAnswered, WrotePrefix};
@@ -14,7 +15,9 @@ use crate::fault_lines::{write_fault, write_run_fault, write_usage};
 use crate::files::{RunFault, run_paths};
 use crate::paths::{CheckPaths, Paths};
 use crate::request::{Request, Subcommand, read_request, subcommand_of};
-use crate::store_commands::{answer_add, answer_ask, answer_save, answer_schema, answer_show};
+use crate::store_commands::{
+    answer_add, answer_ask, answer_help, answer_save, answer_schema, answer_show,
+};
 use bsi_files::{FilesFault, Gate, Stopping};
 use bsi_store::LockFile;
 use bsi_text::{ScriptFault, WriteFault, run_script};
@@ -31,7 +34,7 @@ use std::time::Clock;
 pub struct CommandEnd {
     /// The status that the program ends with.
     pub status: u8,
-    /// Whether the line of a fault or of wrong words, if there is one, was written whole.
+    /// Whether the line of a fault, of wrong words or of bad records, if there is one, was written whole.
     pub reported: Result<(), WriteFault>,
 }
 
@@ -46,8 +49,8 @@ impl CommandEnd {
 
 /// Carries out what the words after the program's name ask for. The status is 0, or 1 with one line on `stderr` for
 /// the fault that was met, or 2 with the usage line for words that are not a command. A check ends with status 1 and
-/// no such line where it has written reasons. The status does not depend on whether the line can be written. Where
-/// rows are read from files, the feeders call the gate.
+/// no such line if it has written reasons. The status does not depend on whether the line can be written. If rows are
+/// read from files, the feeders call the gate.
 pub fn run_words<
     R: AllocGlobal + Clock + Files<File = S> + Threads + Wait + Sync,
     S: Read + Write + OpenFile + LockFile + Drop + Send,
@@ -88,12 +91,15 @@ pub fn run_words<
 
     // Where it is a command over a saved index, it has done this by some paths after status 0. After status 1 `stderr`
     // has the line of a fault, as above: which fault of which of these paths, and which first lines were written.
+    // After status 0 of a command that gave rows to an index, `stderr` has how many records are bad, if some are.
     ensures saved { result.status ≡ 0 → subcommand_of words.items ≡ Subcommand.Save →
-        HasDone (HasSavedRows S.remaining S.contents) (O.contents output.old) (O.contents output.new) }
+        HasDoneRows (HasSavedRows S.remaining S.contents) (O.contents output.old)
+        (O.contents output.new) result.reported (F.contents stderr.old) (F.contents stderr.new) }
     ensures described { result.status ≡ 0 → subcommand_of words.items ≡ Subcommand.Schema →
         HasDone (HasDescribedRows S.remaining) (O.contents output.old) (O.contents output.new) }
     ensures added { result.status ≡ 0 → subcommand_of words.items ≡ Subcommand.Add →
-        HasDone (HasAddedRows S.remaining S.contents) (O.contents output.old) (O.contents output.new) }
+        HasDoneRows (HasAddedRows S.remaining S.contents) (O.contents output.old)
+        (O.contents output.new) result.reported (F.contents stderr.old) (F.contents stderr.new) }
     ensures asked { result.status ≡ 0 → subcommand_of words.items ≡ Subcommand.Ask →
         HasDone (HasAskedEither S.remaining (I.remaining input))
         (O.contents output.old) (O.contents output.new) }
@@ -115,9 +121,18 @@ pub fn run_words<
         HasFailedShow S.remaining (O.contents output.old) (O.contents output.new)
         result.reported (F.contents stderr.old) (F.contents stderr.new) }
 
-    // In each case: a run with no fault says nothing. After status 2 nothing was written, and `stderr` has the usage
-    // line, as above.
-    ensures stderr_unchanged { result.status ≡ 0 → F.contents stderr.new ≡ F.contents stderr.old }
+    // Where the words ask for help, the output has that after status 0.
+    ensures helped { result.status ≡ 0 → subcommand_of words.items ≡ Subcommand.Help →
+        IsFlushed (λ before after. Appends before after help_text)
+        (O.contents output.old) (O.contents output.new) }
+    ensures unhelped { result.status ≡ 1 → subcommand_of words.items ≡ Subcommand.Help →
+        HasFailedHelp (O.contents output.old) (O.contents output.new)
+        result.reported (F.contents stderr.old) (F.contents stderr.new) }
+
+    // Other commands than those that give rows to an index say nothing if they met no fault. After status 2 nothing was
+    // written, and `stderr` has the usage line, as above.
+    ensures stderr_unchanged { result.status ≡ 0 → subcommand_of words.items ≢ Subcommand.Save →
+        subcommand_of words.items ≢ Subcommand.Add → F.contents stderr.new ≡ F.contents stderr.old }
     ensures wrong { result.status ≡ 2 → O.contents output.new ≡ O.contents output.old }
     ensures usage { result.status ≡ 2 →
         IsLineWritten result.reported (F.contents stderr.old) (F.contents stderr.new)
@@ -132,6 +147,7 @@ pub fn run_words<
         Request::Add(paths) => answer_add(rt, &paths, output, stderr, gate),
         Request::Ask(paths) => answer_ask(rt, &paths, input, output, stderr),
         Request::Show(path) => answer_show(rt, path, output, stderr),
+        Request::Help => answer_help(output, stderr),
         Request::Wrong => CommandEnd::by(2, write_usage(subcommand_of(&words), stderr)),
         Request::NoMemory => {
             CommandEnd::by(

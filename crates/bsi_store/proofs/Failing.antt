@@ -109,11 +109,11 @@ too_many_logical rem logical files more = record {
 }
 
 -- rows that were to be added were not loaded
-pub not_loaded : {S : Type 0} (rem : S → KnownBytes) (so_far : Bool) (saved : Table) (opened : IsSavedIn rem so_far saved) (schema : TableSchema)
+pub not_loaded : {S : Type 0} (rem : S → KnownBytes) (so_far strict : Bool) (saved : Table) (opened : IsSavedIn rem so_far saved) (schema : TableSchema)
     (says : SaysSchema opened.kinds saved schema) (files : List S) (path : Bor (List ℕ)) (fault : StoreFault)
     → IsNotAboutBytes fault ⊎ (((saved.feeders < length files) × (fault ≡ Unusable path (file.TooManyFiles saved.feeders))) ⊎ IsRunFaultOver (format_of schema) saved.limit (map rem files) fault)
-    → IsAddFault rem so_far (length files) fault
-not_loaded rem so_far saved opened schema says files path fault (inl none) = inl (inl none)
-not_loaded rem so_far saved opened schema says files path fault (inr (inl many)) = inr (inl (path, saved, opened, many.0, many.1))
-not_loaded rem so_far saved opened schema says files path fault (inr (inr reported)) =
-    inr (inr (inr (record { saved = saved; opened = opened; schema = schema; says = says; files = files; many = refl; reported = reported })))
+    → IsAddFault rem so_far strict (length files) fault
+not_loaded rem so_far strict saved opened schema says files path fault (inl none) = inl (inl none)
+not_loaded rem so_far strict saved opened schema says files path fault (inr (inl many)) = inr (inl (path, saved, opened, many.0, many.1))
+not_loaded rem so_far strict saved opened schema says files path fault (inr (inr reported)) =
+    inr (inr (inr (inl (record { saved = saved; opened = opened; schema = schema; says = says; files = files; many = refl; reported = reported }))))

@@ -13,7 +13,7 @@ use Rattle.bsi_store.specs.Kinds.{SaysNoSchema}
 use Rattle.bsi_store.specs.declared.fault.FileFault.{FileFault}
 use Rattle.bsi_store.specs.declared.fault.FileFault.TheVariants.{BadKinds, CutShort, Damaged, InUse, LongKinds, NotAnIndex, OtherVersion, Read, TooManyFiles}
 use Rattle.bsi_store.specs.declared.fault.StoreFault.{StoreFault}
-use Rattle.bsi_store.specs.declared.fault.StoreFault.TheVariants.{CannotOpen, CannotWrite, Unusable, Run}
+use Rattle.bsi_store.specs.declared.fault.StoreFault.TheVariants.{BadRecords, CannotOpen, CannotWrite, Unusable, Run}
 use Rattle.bsi_syntax.specs.Bytes.{Bytes, KnownBytes}
 
 -- The text that says what is wrong with a file.
@@ -28,11 +28,16 @@ file_fault_text (TooManyFiles feeders) = codes "more than " ++ decimal feeders +
 file_fault_text BadKinds = codes "of kinds that are not known"
 file_fault_text LongKinds = codes "texts past 64 MiB"
 
+-- The line that says how many records of row files are bad.
+abbrev pub bad_records_line : ℕ → List ℕ
+bad_records_line bad = codes "bsi: bad records: " ++ decimal bad ++ codes "; bsi check says which\n"
+
 -- The line of a fault.
 abbrev pub store_fault_line : StoreFault → List ℕ
 store_fault_line (CannotOpen path) = codes "bsi: cannot open " ++ path.now ++ codes "\n"
 store_fault_line (CannotWrite path) = codes "bsi: cannot write " ++ path.now ++ codes "\n"
 store_fault_line (Unusable path fault) = codes "bsi: " ++ path.now ++ (codes ": " ++ (file_fault_text fault ++ codes "\n"))
+store_fault_line (BadRecords bad) = bad_records_line bad
 store_fault_line (Run fault) = fault_text fault ++ codes "\n"
 
 -- If the fault names a path, the path satisfies `Is`.
@@ -40,6 +45,7 @@ abbrev pub NamesPath : (Bor (List ℕ) → Type 0) → StoreFault → Type 0
 NamesPath Is (CannotOpen path) = Is path
 NamesPath Is (CannotWrite path) = Is path
 NamesPath Is (Unusable path fault) = Is path
+NamesPath Is (BadRecords bad) = Unit {0}
 NamesPath Is (Run fault) = Unit {0}
 
 -- The fault of a file after `rows` rows that were opened.
@@ -96,4 +102,5 @@ IsUnrecoverable path bytes reported = IsFirstFileFault path bytes reported ⊎ (
 -- A fault of a file is that of one which was opened.
 abbrev pub IsOfFile : {S : Type 0} → (S → KnownBytes) → StoreFault → Type 0
 IsOfFile {S} rem (Unusable path why) = (file : S) × IsFileFault path (rem file) (Unusable path why)
+IsOfFile rem (BadRecords bad) = ⊥
 IsOfFile rem fault = Unit {0}

@@ -1,9 +1,10 @@
 -- What `bsi save` and `bsi add` write to the index file and report (`HasSaved`, `HasAdded`), and their faults.
 use Rattle.std.specs.Borrow.{Bor}
-use Rattle.std.specs.Prelude.{◌≡◌, ◌≢◌, ◌⊎◌, ◌+◌, ◌<◌, ◌≤◌, ◌++◌, ℕ, Bool, false, List, [], Some, IfSome, codes, length, map}
+use Rattle.std.specs.Prelude.{◌≡◌, ◌≢◌, ◌⊎◌, ◌+◌, ◌-◌, ◌^◌, ◌<◌, ◌≤◌, ◌++◌, ℕ, Bool, false, true, List, [], Some, IfSome, codes, length, map, min}
 use Rattle.std.specs.Io.KnownBytes.{Appends}
-use Rattle.std.specs.List.{concat}
+use Rattle.std.specs.List.{concat, sum_by}
 use Rattle.bsi_rows.specs.Rows.{SourcedRow}
+use Rattle.bsi_schema.specs.Columns.{Declared}
 use Rattle.bsi_rows.specs.Table.{max_feeders, Table}
 use Rattle.bsi_input.specs.Formats.{Format}
 use Rattle.bsi_input.specs.RowFiles.{plain_format}
@@ -28,7 +29,7 @@ use Rattle.bsi_store.specs.Faults.{IsFileFault}
 use Rattle.bsi_store.specs.declared.fault.FileFault.TheVariants as file
 use Rattle.bsi_store.specs.declared.fault.FileFault.TheVariants.{InUse, LongKinds}
 use Rattle.bsi_store.specs.declared.fault.StoreFault.{StoreFault}
-use Rattle.bsi_store.specs.declared.fault.StoreFault.TheVariants.{Run, Unusable}
+use Rattle.bsi_store.specs.declared.fault.StoreFault.TheVariants.{BadRecords, Run, Unusable}
 use Rattle.bsi_store.specs.Kinds.{SaysSchema}
 use Rattle.bsi_store.specs.Lines.{number_line}
 use Rattle.bsi_syntax.specs.Bytes.{Bytes, KnownBytes}
@@ -36,6 +37,10 @@ use Rattle.bsi_syntax.specs.Bytes.{Bytes, KnownBytes}
 -- The summary of a load: the line of each row file, and the number of rows after this word.
 abbrev pub loaded_lines : List ℕ → List FedCounts → ℕ → List ℕ
 loaded_lines word counts number = concat (fed_lines 0 counts) ++ number_line word number
+
+-- How many bad records row files have, at most 2^64 - 1.
+abbrev pub bad_total : List FedCounts → ℕ
+bad_total counts = min (sum_by (λ file. file.bad) counts) (2 ^ 64 - 1)
 
 -- The rows of some files were written to an index file, as one segment of version 2.
 pub record WroteSegment {S : Type 0} (rem put : S → KnownBytes) (count : ℕ) (word : List ℕ) (format : Format) (limit : ℕ)
@@ -90,6 +95,16 @@ pub record HasSavedKinds {S : Type 0} (rem put : S → KnownBytes) (logical : Lo
   -- The table was written as one segment, without notes, and is reported under the word `saved`.
   pub saved : WroteSegment rem put count (codes "saved") (logical_format logical) logical.limit [] kinds table before after
 
+-- A new index was saved, and so many records of the row files are bad.
+abbrev pub HasSavedBeside : {S : Type 0} → (S → KnownBytes) → (S → KnownBytes) → ℕ → ℕ → KnownBytes → KnownBytes → Type 0
+HasSavedBeside rem put count bad before after =
+    (done : HasSaved rem put count before after) × (bad ≡ bad_total done.saved.counts)
+
+abbrev pub HasSavedKindsBeside : {S : Type 0} → (S → KnownBytes) → (S → KnownBytes) → Logical → ℕ → ℕ → KnownBytes → KnownBytes
+    → Type 0
+HasSavedKindsBeside rem put logical count bad before after =
+    (done : HasSavedKinds rem put logical count before after) × (bad ≡ bad_total done.saved.counts)
+
 -- A saved index was read.
 pub record IsReadOf {S : Type 0} (rem : S → KnownBytes) (so_far : Bool) (t : Table) (notes kinds : Bytes) (left : KnownBytes)
     : Type 0 where
@@ -128,11 +143,17 @@ pub record HasAdded {S : Type 0} (rem put : S → KnownBytes) (so_far : Bool) (c
   -- The file that was written to had left what the read left of the index file.
   pub same : rem added.old ≡ opened.after
 
+-- Rows were added, and so many records of the row files are bad.
+abbrev pub HasAddedBeside : {S : Type 0} → (S → KnownBytes) → (S → KnownBytes) → Bool → ℕ → ℕ → KnownBytes → KnownBytes → Type 0
+HasAddedBeside rem put so_far count bad before after =
+    (done : HasAdded rem put so_far count before after) × (bad ≡ bad_total done.added.counts)
+
 -- A fault that says nothing about the bytes of a file.
 abbrev pub IsNotAboutBytes : StoreFault → Type 0
 IsNotAboutBytes (Unusable path InUse) = Unit {0}
 IsNotAboutBytes (Unusable path LongKinds) = Unit {0}
 IsNotAboutBytes (Unusable path why) = ⊥
+IsNotAboutBytes (BadRecords bad) = ⊥
 IsNotAboutBytes (Run NoMemory) = Unit {0}
 IsNotAboutBytes (Run fault) = ⊥
 IsNotAboutBytes fault = Unit {0}
@@ -140,6 +161,23 @@ IsNotAboutBytes fault = Unit {0}
 -- If the fault says something about the bytes of a file, a file with this fault was opened.
 abbrev pub IsMet : {S : Type 0} → (S → KnownBytes) → StoreFault → Type 0
 IsMet {S} rem fault = IsNotAboutBytes fault ⊎ ((path : Bor (List ℕ)) × (file : S) × IsFileFault path (rem file) fault)
+
+-- Row files were loaded, and have bad records. The fault says how many.
+pub record HaveBadRecords {S : Type 0} (rem : S → KnownBytes) (format : Format) (limit count : ℕ) (fault : StoreFault) : Type 0 where
+  -- The row files.
+  pub files : List S
+  -- There are `count` row files.
+  pub many : length files ≡ count
+  -- The rows of the files.
+  pub rows : List SourcedRow
+  -- The numbers of accepted rows and of bad records of each file.
+  pub counts : List FedCounts
+  -- If the bytes of the files are known, the rows are exactly their good rows, which are counted.
+  pub loaded : (texts : List Bytes) → map rem files ≡ map Some texts → HasLoaded format limit texts rows counts
+  -- Some record is bad.
+  pub some : 0 < bad_total counts
+  -- The fault says how many are.
+  pub fault_is : fault ≡ BadRecords (bad_total counts)
 
 -- ---- of saving
 
@@ -171,14 +209,28 @@ pub record HasFailedLogical {S : Type 0} (rem : S → KnownBytes) (logical : Log
   -- The fault is not one of writing to the output.
   pub unwritten : fault ≢ Write
 
--- The fault of a command that saves no rows by a schema of kinds.
-abbrev pub IsSaveKindsFault : {S : Type 0} → (S → KnownBytes) → Logical → ℕ → StoreFault → Type 0
-IsSaveKindsFault rem logical count fault =
-    IsMet rem fault ⊎ ((run : FilesFault) × (fault ≡ Run run) × HasFailedLogical rem logical count run)
+-- The fault of a command that saves no rows by a schema of kinds. No record may be bad if the command is strict.
+abbrev pub IsSaveKindsFault : {S : Type 0} → (S → KnownBytes) → Logical → Bool → ℕ → StoreFault → Type 0
+IsSaveKindsFault rem logical strict count fault =
+    IsMet rem fault ⊎ (((run : FilesFault) × (fault ≡ Run run) × HasFailedLogical rem logical count run)
+    ⊎ ((strict ≡ true) × HaveBadRecords rem (logical_format logical) logical.limit count fault))
 
--- The fault of a command that saves no rows by a schema file.
-abbrev pub IsSaveFault : {S : Type 0} → (S → KnownBytes) → ℕ → StoreFault → Type 0
-IsSaveFault rem count fault = IsMet rem fault ⊎ ((run : FilesFault) × (fault ≡ Run run) × HasFailedRun rem count run)
+-- Row files were loaded by a schema file, and have bad records.
+pub record HaveBadDeclared {S : Type 0} (rem : S → KnownBytes) (count : ℕ) (fault : StoreFault) : Type 0 where
+  -- The schema file.
+  pub schema_file : S
+  -- The columns and the limit that it declares.
+  pub columns : Declared
+  pub limit : ℕ
+  pub declared : IfSome (rem schema_file) (λ bytes. IsSchemaText bytes columns limit)
+  -- The bad records.
+  pub bad : HaveBadRecords rem (plain_format columns) limit count fault
+
+-- The fault of a command that saves no rows by a schema file. No record may be bad if the command is strict.
+abbrev pub IsSaveFault : {S : Type 0} → (S → KnownBytes) → Bool → ℕ → StoreFault → Type 0
+IsSaveFault rem strict count fault =
+    IsMet rem fault ⊎ (((run : FilesFault) × (fault ≡ Run run) × HasFailedRun rem count run)
+    ⊎ ((strict ≡ true) × HaveBadDeclared rem count fault))
 
 -- ---- of adding
 
@@ -242,11 +294,24 @@ pub record ExceedLimit {S : Type 0} (rem : S → KnownBytes) (so_far : Bool) (co
   -- The rows of the table to add to, and of the files, exceed the limit of that table.
   pub past : saved.limit < length saved.rows + length rows
 
--- The fault of a command that adds no rows.
-abbrev pub IsAddFault : {S : Type 0} → (S → KnownBytes) → Bool → ℕ → StoreFault → Type 0
-IsAddFault rem so_far count fault =
+-- Row files were loaded by the schema of a saved table, and have bad records.
+pub record HaveBadMore {S : Type 0} (rem : S → KnownBytes) (so_far : Bool) (count : ℕ) (fault : StoreFault) : Type 0 where
+  -- The saved table.
+  pub saved : Table
+  -- The table was opened from an index file.
+  pub opened : IsSavedIn rem so_far saved
+  -- The schema of the saved table.
+  pub schema : TableSchema
+  -- The file says this schema.
+  pub says : SaysSchema opened.kinds saved schema
+  -- The bad records.
+  pub bad : HaveBadRecords rem (format_of schema) saved.limit count fault
+
+-- The fault of a command that adds no rows. No record may be bad if the command is strict.
+abbrev pub IsAddFault : {S : Type 0} → (S → KnownBytes) → Bool → Bool → ℕ → StoreFault → Type 0
+IsAddFault rem so_far strict count fault =
     IsMet rem fault ⊎ (IsTooMany rem so_far count fault ⊎ (((fault ≡ Run IndexFull) × ExceedLimit rem so_far count)
-    ⊎ HasFailedLoad rem so_far count fault))
+    ⊎ (HasFailedLoad rem so_far count fault ⊎ ((strict ≡ true) × HaveBadMore rem so_far count fault))))
 
 -- ---- what is reported
 

@@ -1,6 +1,6 @@
 //! Adds the rows of row files to a saved index.
 
-ghost use Rattle.std.specs.Prelude.{◌≡◌, ◌+◌, ◌<◌, ◌≤◌, ◌⊎◌, IfErr, IfOk, List, OnOk, Some, false, length, map, ℕ};
+ghost use Rattle.std.specs.Prelude.{◌≡◌, ◌+◌, ◌<◌, ◌≤◌, ◌⊎◌, IfErr, IfOk, List, OnOk, Some, false, true, length, map, ℕ};
 ghost use Rattle.std.specs.Io.KnownBytes.{Appends};
 ghost use Rattle.bsi_answers.specs.RowFiles.{fed_counts};
 ghost use Rattle.bsi_answers.specs.Runs.{HasLoaded};
@@ -8,7 +8,7 @@ ghost use Rattle.bsi_logical.specs.TableSchemas.{format_of};
 ghost use Rattle.bsi_rows.specs.Table.{max_feeders, no_rows, with_rows};
 ghost use Rattle.bsi_storage.specs.Faults.{AcceptsRowsOf};
 ghost use Rattle.bsi_storage.specs.Saved.{head_segment, max_kinds, max_notes, MayBeSaved};
-ghost use Rattle.bsi_store.specs.Saving.{HasAdded, IsAddFault, IsMet, IsNotAboutBytes, IsReadOf, IsRunFaultOver, LeavesReported, ReportsOn};
+ghost use Rattle.bsi_store.specs.Saving.{HasAdded, HasAddedBeside, IsAddFault, IsMet, IsNotAboutBytes, IsReadOf, IsRunFaultOver, LeavesReported, ReportsOn};
 ghost use Rattle.std.specs.List.{Contains};
 ghost use Rattle.bsi_store.specs.Faults.{IsFileFault, NamesPath};
 ghost use Rattle.bsi_store.specs.Kinds.{SaysNoSchema, SaysSchema};
@@ -16,7 +16,7 @@ ghost use Rattle.bsi_table.specs.Index.{table_of};
 
 use crate::add_file::{lock_to_add, open_each, open_to_add};
 use crate::opening::read_table_schema;
-use crate::summary::summary_lines;
+use crate::summary::{Summary, refuse_bad, summarize};
 use crate::{FileFault, LockFile, StoreFault, read_saved};
 use bsi_files::{FilesFault, Gate, Loaded, Stopping, load_files};
 use bsi_input::write_bytes;
@@ -40,32 +40,37 @@ pub struct AddPaths<'a> {
     pub rows: Vec<&'a str>,
     /// Whether rows are added behind the whole segments before a fault of the file. What follows them is cut off.
     pub so_far: bool,
+    /// Whether nothing is added if a record is bad.
+    pub strict: bool,
     ghost some: { 0 < length rows.items },
 }
 
 /// Loads row files as a run over files does, by the schema of a saved index, and adds their rows to its file. Row file
-/// k is feeder k. It writes the line of each file, and how many rows were added. After a fault the file has the rows
-/// that it had, unless only these lines could not be written: then the rows are added.
+/// k is feeder k. It writes the line of each file, and how many rows were added, and returns how many records are bad, at
+/// most 2^64 - 1. After a fault the file has the rows that it had, unless only these lines could not be written: then the
+/// rows are added.
 pub fn add_rows<
     'a,
     R: AllocGlobal + Clock + Files<File = S> + Threads + Wait + Sync,
     S: Read + Write + OpenFile + LockFile + Drop + Send,
     O: Write,
     G: Gate + Stopping + Sync,
->(rt: &R, paths: &AddPaths<'a>, output: &mut O, gate: &G) -> Result<(), StoreFault<'a>>
+>(rt: &R, paths: &AddPaths<'a>, output: &mut O, gate: &G) -> Result<u64, StoreFault<'a>>
     requires { G.STOPS ≡ false }
-    ensures added { OnOk result (HasAdded S.remaining S.contents paths.now.so_far
-        (length paths.now.rows.items) (O.contents output.old) (O.contents output.new)) }
+    ensures added { IfOk result (λ bad. HasAddedBeside S.remaining S.contents paths.now.so_far
+        (length paths.now.rows.items) bad (O.contents output.old) (O.contents output.new)) }
+    ensures strict { IfOk result (λ bad. paths.now.strict ≡ true → bad ≡ 0) }
     ensures named { IfErr result
         (NamesPath (λ named. (named ≡ paths.now.index) ⊎ Contains paths.now.rows.items named)) }
     ensures prefix { IfErr result (λ fault. LeavesReported
         (HasAdded S.remaining S.contents paths.now.so_far (length paths.now.rows.items))
-        (IsAddFault S.remaining paths.now.so_far (length paths.now.rows.items)) fault
+        (IsAddFault S.remaining paths.now.so_far paths.now.strict (length paths.now.rows.items))
+        fault
         (O.contents output.old) (O.contents output.new)) }
 {
-    let text = add_and_summarize(rt, paths, gate)?;
-    write_bytes(output, text.as_slice())?;
-    Ok(())
+    let summary = add_and_summarize(rt, paths, gate)?;
+    write_bytes(output, summary.text.as_slice())?;
+    Ok(summary.bad)
 }
 
 /// Adds rows as `add_rows` does, and returns its summary.
@@ -74,12 +79,13 @@ fn add_and_summarize<
     R: AllocGlobal + Clock + Files<File = S> + Threads + Wait + Sync,
     S: Read + Write + OpenFile + LockFile + Drop + Send,
     G: Gate + Stopping + Sync,
->(rt: &R, paths: &AddPaths<'a>, gate: &G) -> Result<Vec<u8>, StoreFault<'a>>
+>(rt: &R, paths: &AddPaths<'a>, gate: &G) -> Result<Summary, StoreFault<'a>>
     requires { G.STOPS ≡ false }
-    ensures added { IfOk result (λ text. ReportsOn (HasAdded S.remaining S.contents
-        paths.now.so_far (length paths.now.rows.items)) text.items) }
-    ensures fault { IfErr result
-        (IsAddFault S.remaining paths.now.so_far (length paths.now.rows.items)) }
+    ensures added { IfOk result (λ summary. ReportsOn (HasAddedBeside S.remaining S.contents
+        paths.now.so_far (length paths.now.rows.items) summary.bad) summary.text.items) }
+    ensures strict { IfOk result (λ summary. paths.now.strict ≡ true → summary.bad ≡ 0) }
+    ensures fault { IfErr result (IsAddFault S.remaining paths.now.so_far paths.now.strict
+        (length paths.now.rows.items)) }
     ensures named { IfErr result
         (NamesPath (λ named. (named ≡ paths.now.index) ⊎ Contains paths.now.rows.items named)) }
 {
@@ -90,13 +96,14 @@ fn add_and_summarize<
     let schema = read_table_schema(rt.alloc(), paths.index, &saved)?;
     let rows = open_each(rt, &paths.rows)?;
     let more = load_more(rt, paths.index, &saved.index, &schema, rows, gate)?;
-    let text = summary_lines(rt.alloc(), "added", &more)?;
+    let summary = summarize(rt.alloc(), "added", &more)?;
+    refuse_bad(paths.strict, summary.bad)?;
     lock_to_add(rt, paths.index, &file)?;
     let saved = reread_if_changed(rt.alloc(), paths.index, saved, &mut file, paths.so_far)?;
     check_same_schema(rt.alloc(), paths.index, &saved, &schema)?;
     check_rows_fit(paths.index, &saved, &more.table)?;
     append_segment(rt.alloc(), paths.index, &saved, &more.table, &mut file)?;
-    Ok(text)
+    Ok(summary)
 }
 
 /// Reads the index of a file, as `read_saved` does. It refuses segments behind it of a version that is not known, which

@@ -48,6 +48,8 @@ pub enum StoreFault<'a> {
     CannotWrite(&'a str),
     /// This is wrong with the file of this path.
     Unusable(&'a str, FileFault),
+    /// So many records of the row files are bad, and none was to be.
+    BadRecords(u64),
     /// The run over the row files or the questions met a fault.
     Run(FilesFault),
 }

@@ -1,6 +1,6 @@
 //! Saves the rows of row files as an index of kinds in a file.
 
-ghost use Rattle.std.specs.Prelude.{◌≡◌, ◌<◌, ◌≤◌, ◌⊎◌, IfErr, IfOk, List, OnOk, Some, false, length, map, ℕ};
+ghost use Rattle.std.specs.Prelude.{◌≡◌, ◌<◌, ◌≤◌, ◌⊎◌, IfErr, IfOk, List, Some, false, true, length, map, ℕ};
 ghost use Rattle.std.specs.List.{Contains};
 ghost use Rattle.bsi_answers.specs.RowFiles.{fed_counts};
 ghost use Rattle.bsi_answers.specs.Runs.{HasLoaded};
@@ -9,12 +9,12 @@ ghost use Rattle.bsi_logical.specs.LogicalTexts.{IsLogicalText};
 ghost use Rattle.bsi_rows.specs.Table.{max_feeders};
 ghost use Rattle.bsi_storage.specs.Saved.{max_kinds};
 ghost use Rattle.bsi_store.specs.Faults.{NamesPath};
-ghost use Rattle.bsi_store.specs.Saving.{HasFailedLogical, HasSavedKinds, IsNotAboutBytes, IsSaveKindsFault, LeavesReported, ReportsOn};
+ghost use Rattle.bsi_store.specs.Saving.{HasFailedLogical, HasSavedKinds, HasSavedKindsBeside, IsNotAboutBytes, IsSaveKindsFault, LeavesReported, ReportsOn};
 
 use crate::add_file::open_each;
 use crate::new_file::NewFile;
 use crate::save::{SavePaths, write_or_remove};
-use crate::summary::summary_lines;
+use crate::summary::{Summary, refuse_bad, summarize};
 use crate::target::SaveTarget;
 use crate::{FileFault, LockFile, StoreFault};
 use bsi_files::{FilesFault, Gate, Loaded, Stopping, load_files};
@@ -43,20 +43,21 @@ pub fn save_kinds<
     paths: &SavePaths<'a>,
     output: &mut O,
     gate: &G,
-) -> Result<(), StoreFault<'a>>
+) -> Result<u64, StoreFault<'a>>
     requires { G.STOPS ≡ false }
-    ensures saved { OnOk result (HasSavedKinds S.remaining S.contents format.now
-        (length paths.now.rows.items) (O.contents output.old) (O.contents output.new)) }
+    ensures saved { IfOk result (λ bad. HasSavedKindsBeside S.remaining S.contents format.now
+        (length paths.now.rows.items) bad (O.contents output.old) (O.contents output.new)) }
+    ensures strict { IfOk result (λ bad. paths.now.strict ≡ true → bad ≡ 0) }
     ensures named { IfErr result (NamesPath (λ named. (named ≡ paths.now.to)
         ⊎ Contains paths.now.rows.items named)) }
     ensures prefix { IfErr result (λ fault. LeavesReported
         (HasSavedKinds S.remaining S.contents format.now (length paths.now.rows.items))
-        (IsSaveKindsFault S.remaining format.now (length paths.now.rows.items)) fault
+        (IsSaveKindsFault S.remaining format.now paths.now.strict (length paths.now.rows.items)) fault
         (O.contents output.old) (O.contents output.new)) }
 {
-    let text = save_and_summarize(rt, format, paths, gate)?;
-    write_bytes(output, text.as_slice())?;
-    Ok(())
+    let summary = save_and_summarize(rt, format, paths, gate)?;
+    write_bytes(output, summary.text.as_slice())?;
+    Ok(summary.bad)
 }
 
 /// Saves rows as `save_kinds` does, and returns its summary.
@@ -70,12 +71,13 @@ fn save_and_summarize<
     format: &LogicalFormat,
     paths: &SavePaths<'a>,
     gate: &G,
-) -> Result<Vec<u8>, StoreFault<'a>>
+) -> Result<Summary, StoreFault<'a>>
     requires { G.STOPS ≡ false }
-    ensures saved { IfOk result (λ text. ReportsOn (HasSavedKinds S.remaining S.contents
-        format.now (length paths.now.rows.items)) text.items) }
-    ensures fault { IfErr result
-        (IsSaveKindsFault S.remaining format.now (length paths.now.rows.items)) }
+    ensures saved { IfOk result (λ summary. ReportsOn (HasSavedKindsBeside S.remaining S.contents
+        format.now (length paths.now.rows.items) summary.bad) summary.text.items) }
+    ensures strict { IfOk result (λ summary. paths.now.strict ≡ true → summary.bad ≡ 0) }
+    ensures fault { IfErr result (IsSaveKindsFault S.remaining format.now paths.now.strict
+        (length paths.now.rows.items)) }
     ensures named { IfErr result (NamesPath (λ named. (named ≡ paths.now.to)
         ⊎ Contains paths.now.rows.items named)) }
 {
@@ -83,11 +85,12 @@ fn save_and_summarize<
     let target = SaveTarget::find(rt, paths.to, paths.force)?;
     let kinds = make_kinds(rt.alloc(), paths.to, format.logical())?;
     let loaded = load_logical(rt, format, rows, gate)?;
-    let text = summary_lines(rt.alloc(), "saved", &loaded)?;
+    let summary = summarize(rt.alloc(), "saved", &loaded)?;
+    refuse_bad(paths.strict, summary.bad)?;
     let mut new = NewFile::begin(rt, target)?;
     write_or_remove(rt, &loaded.table, &kinds, &mut new)?;
     new.sync_folder()?;
-    Ok(text)
+    Ok(summary)
 }
 
 /// Makes the text of kinds of a schema. It refuses one that is longer than a file has for it.

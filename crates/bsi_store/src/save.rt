@@ -1,8 +1,8 @@
 //! Saves the rows of row files as an index in a file.
 
-ghost use Rattle.std.specs.Prelude.{◌≡◌, ◌<◌, ◌≤◌, ◌⊎◌, [], IfErr, IfOk, IfSome, List, OnOk, Some, false, length, map, ℕ};
+ghost use Rattle.std.specs.Prelude.{◌≡◌, ◌<◌, ◌≤◌, ◌⊎◌, [], IfErr, IfOk, IfSome, List, OnOk, Some, false, true, length, map, ℕ};
 ghost use Rattle.std.specs.Io.KnownBytes.{Appends};
-ghost use Rattle.bsi_store.specs.Saving.{HasFailedRun, HasSaved, IsNotAboutBytes, IsSaveFault, LeavesReported, ReportsOn};
+ghost use Rattle.bsi_store.specs.Saving.{HasFailedRun, HasSaved, HasSavedBeside, IsNotAboutBytes, IsSaveFault, LeavesReported, ReportsOn};
 ghost use Rattle.bsi_answers.specs.RowFiles.{fed_counts};
 ghost use Rattle.bsi_answers.specs.Runs.{HasLoaded};
 ghost use Rattle.bsi_input.specs.RowFiles.{plain_format};
@@ -15,7 +15,7 @@ ghost use Rattle.bsi_store.specs.Faults.{NamesPath};
 
 use crate::add_file::open_each;
 use crate::new_file::NewFile;
-use crate::summary::summary_lines;
+use crate::summary::{Summary, refuse_bad, summarize};
 use crate::target::SaveTarget;
 use crate::{LockFile, StoreFault, open_file};
 use bsi_files::{FilesFault, Gate, Loaded, Stopping, load_files};
@@ -38,12 +38,15 @@ pub struct SavePaths<'a> {
     pub rows: Vec<&'a str>,
     /// Whether a file is replaced that is no index.
     pub force: bool,
+    /// Whether nothing is saved if a record is bad.
+    pub strict: bool,
     ghost some: { 0 < length rows.items },
 }
 
 /// Loads row files by a schema file as a run over files does, and saves their rows in the file of a path, in place of the index that it
-/// had. Row file k is feeder k. It writes the line of each file, and how many rows were saved. After a fault the file
-/// is as it was, unless the folder could not be stored or only these lines could not be written: then it is replaced.
+/// had. Row file k is feeder k. It writes the line of each file, and how many rows were saved, and returns how many
+/// records are bad, at most 2^64 - 1. After a fault the file is as it was, unless the folder could not be stored or only
+/// these lines could not be written: then it is replaced.
 pub fn save_rows<
     'a,
     R: AllocGlobal + Files<File = S> + Threads + Wait + Sync,
@@ -56,20 +59,21 @@ pub fn save_rows<
     paths: &SavePaths<'a>,
     output: &mut O,
     gate: &G,
-) -> Result<(), StoreFault<'a>>
+) -> Result<u64, StoreFault<'a>>
     requires { G.STOPS ≡ false }
-    ensures saved { OnOk result (HasSaved S.remaining S.contents (length paths.now.rows.items)
-        (O.contents output.old) (O.contents output.new)) }
+    ensures saved { IfOk result (λ bad. HasSavedBeside S.remaining S.contents
+        (length paths.now.rows.items) bad (O.contents output.old) (O.contents output.new)) }
+    ensures strict { IfOk result (λ bad. paths.now.strict ≡ true → bad ≡ 0) }
     ensures named { IfErr result (NamesPath (λ named. (named ≡ schema.entry)
         ⊎ ((named ≡ paths.now.to) ⊎ Contains paths.now.rows.items named))) }
     ensures prefix { IfErr result (λ fault. LeavesReported
         (HasSaved S.remaining S.contents (length paths.now.rows.items))
-        (IsSaveFault S.remaining (length paths.now.rows.items)) fault
+        (IsSaveFault S.remaining paths.now.strict (length paths.now.rows.items)) fault
         (O.contents output.old) (O.contents output.new)) }
 {
-    let text = save_and_summarize(rt, schema, paths, gate)?;
-    write_bytes(output, text.as_slice())?;
-    Ok(())
+    let summary = save_and_summarize(rt, schema, paths, gate)?;
+    write_bytes(output, summary.text.as_slice())?;
+    Ok(summary.bad)
 }
 
 /// Saves rows as `save_rows` does, and returns its summary. The new file is made once the rows are loaded, so that a
@@ -79,11 +83,13 @@ fn save_and_summarize<
     R: AllocGlobal + Files<File = S> + Threads + Wait + Sync,
     S: Read + Write + OpenFile + LockFile + Drop + Send,
     G: Gate + Stopping + Sync,
->(rt: &R, schema: &'a str, paths: &SavePaths<'a>, gate: &G) -> Result<Vec<u8>, StoreFault<'a>>
+>(rt: &R, schema: &'a str, paths: &SavePaths<'a>, gate: &G) -> Result<Summary, StoreFault<'a>>
     requires { G.STOPS ≡ false }
-    ensures saved { IfOk result (λ text. ReportsOn
-        (HasSaved S.remaining S.contents (length paths.now.rows.items)) text.items) }
-    ensures fault { IfErr result (IsSaveFault S.remaining (length paths.now.rows.items)) }
+    ensures saved { IfOk result (λ summary. ReportsOn (HasSavedBeside S.remaining S.contents
+        (length paths.now.rows.items) summary.bad) summary.text.items) }
+    ensures strict { IfOk result (λ summary. paths.now.strict ≡ true → summary.bad ≡ 0) }
+    ensures fault { IfErr result
+        (IsSaveFault S.remaining paths.now.strict (length paths.now.rows.items)) }
     ensures named { IfErr result (NamesPath (λ named. (named ≡ schema.entry)
         ⊎ ((named ≡ paths.now.to) ⊎ Contains paths.now.rows.items named))) }
 {
@@ -91,11 +97,12 @@ fn save_and_summarize<
     let rows = open_each(rt, &paths.rows)?;
     let target = SaveTarget::find(rt, paths.to, paths.force)?;
     let loaded = load_declared(rt, schema, rows, gate)?;
-    let text = summary_lines(rt.alloc(), "saved", &loaded)?;
+    let summary = summarize(rt.alloc(), "saved", &loaded)?;
+    refuse_bad(paths.strict, summary.bad)?;
     let mut new = NewFile::begin(rt, target)?;
     write_or_remove(rt, &loaded.table, &[], &mut new)?;
     new.sync_folder()?;
-    Ok(text)
+    Ok(summary)
 }
 
 /// Loads row files by the columns and the limit that a schema file declares.

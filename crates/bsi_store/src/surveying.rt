@@ -1,20 +1,25 @@
 //! Surveys row files, and makes the schema of kinds of all of them.
 
-ghost use Rattle.std.specs.Prelude.{◌≡◌, ◌<◌, ◌⊎◌, All, IfErr, IfOk, IfSome, length};
-ghost use Rattle.bsi_survey.specs.Looking.{AreLookedFor};
-ghost use Rattle.bsi_survey.specs.Surveys.{LooksFor, SeesText};
-ghost use Rattle.bsi_store.specs.Surveyed.{HasDescribed, HasSeen, HasSurveyed};
+ghost use Rattle.std.specs.Prelude.{◌≡◌, ◌<◌, [], All, IfOk, length};
+ghost use Rattle.std.specs.List.{AllZip};
+ghost use Rattle.bsi_store.specs.Surveyed.{AreSurveyed, HasDescribed, HasSurveyed};
 
+use crate::add_file::open_each;
 use crate::{StoreFault, open_file};
 use bsi_answers::FilesFault;
 use bsi_inference::Doubt;
 use bsi_input::SourceFault;
 use bsi_logical::{LogicalSchema, describe_logical};
-use bsi_survey::{ColumnStart, SchemaRefusal, Survey, SurveyError, SurveyOptions, find_delimiter};
+use bsi_survey::{
+    ColumnStart, JoinError, SchemaRefusal, Survey, SurveyError, SurveyOptions, find_delimiter,
+};
 use bsi_table::NoMemory;
+use rayon::prelude::*;
+use std::alloc::Global;
 use std::fs::OpenFile;
 use std::io::Read;
 use std::rt::Files;
+use std::thread::Threads;
 
 /// How many of the first bytes of a file are looked at for the byte between its fields.
 const FIRST_BYTES: usize = 1 << 16;
@@ -62,12 +67,12 @@ impl From<SchemaRefusal> for SurveyFault<'_> {
 
 /// Goes over row files with one header, and makes a schema of kinds by which each record that is as long as the header is
 /// a row. If a column turns out to have texts behind other values, or decimals that are to be rounded, the options say
-/// so, and the files are read again.
-pub fn survey_rows<'a, R: AllocGlobal + Files<File = S>, S: Read + OpenFile + Drop>(
-    rt: &R,
-    paths: &[&'a str],
-    options: &mut SurveyOptions,
-) -> Result<LogicalSchema, SurveyFault<'a>>
+/// so, and the files are read again. At first there is a thread for each file, as far as there are processors.
+pub fn survey_rows<
+    'a,
+    R: AllocGlobal + Files<File = S> + Threads + Sync,
+    S: Read + OpenFile + Drop + Send,
+>(rt: &R, paths: &[&'a str], options: &mut SurveyOptions) -> Result<LogicalSchema, SurveyFault<'a>>
     requires { 0 < length paths.now }
     ensures { IfOk result (HasSurveyed S.remaining (length paths.now)) }
 {
@@ -83,11 +88,11 @@ pub fn survey_rows<'a, R: AllocGlobal + Files<File = S>, S: Read + OpenFile + Dr
 }
 
 /// Makes the text of the schema of kinds of row files that `survey_rows` makes.
-pub fn describe_rows<'a, R: AllocGlobal + Files<File = S>, S: Read + OpenFile + Drop>(
-    rt: &R,
-    paths: &[&'a str],
-    options: &mut SurveyOptions,
-) -> Result<Vec<u8>, SurveyFault<'a>>
+pub fn describe_rows<
+    'a,
+    R: AllocGlobal + Files<File = S> + Threads + Sync,
+    S: Read + OpenFile + Drop + Send,
+>(rt: &R, paths: &[&'a str], options: &mut SurveyOptions) -> Result<Vec<u8>, SurveyFault<'a>>
     requires { 0 < length paths.now }
     ensures { IfOk result (λ text. HasDescribed S.remaining (length paths.now) text.items) }
 {
@@ -96,11 +101,11 @@ pub fn describe_rows<'a, R: AllocGlobal + Files<File = S>, S: Read + OpenFile + 
 }
 
 /// Makes a schema of kinds of row files by going over them once.
-fn survey_once<'a, R: AllocGlobal + Files<File = S>, S: Read + OpenFile + Drop>(
-    rt: &R,
-    paths: &[&'a str],
-    options: &SurveyOptions,
-) -> Result<LogicalSchema, SurveyFault<'a>>
+fn survey_once<
+    'a,
+    R: AllocGlobal + Files<File = S> + Threads + Sync,
+    S: Read + OpenFile + Drop + Send,
+>(rt: &R, paths: &[&'a str], options: &SurveyOptions) -> Result<LogicalSchema, SurveyFault<'a>>
     requires { 0 < length paths.now }
     ensures { IfOk result (HasSurveyed S.remaining (length paths.now)) }
 {
@@ -184,18 +189,112 @@ fn is_header_utf8(first: &[u8]) -> bool {
 }
 
 /// Goes once over row files with one header.
-fn survey_all<'a, R: AllocGlobal + Files<File = S>, S: Read + OpenFile + Drop>(
+fn survey_all<
+    'a,
+    R: AllocGlobal + Files<File = S> + Threads + Sync,
+    S: Read + OpenFile + Drop + Send,
+>(rt: &R, paths: &[&'a str], options: &SurveyOptions) -> Result<Survey, SurveyFault<'a>>
+    requires { 0 < length paths.now }
+    ensures { IfOk result (AreSurveyed S.remaining options.now (length paths.now)) }
+{
+    // Surveys are joined if the columns began alike, with each kind.
+    if paths.len() > 1 && options.starts.is_empty() {
+        let files = open_each(rt, paths)?;
+        check_each_regular(&files, paths)?;
+        let surveys = survey_each(rt, rt.alloc(), files, options)?;
+        return join_surveys::<S>(options, paths, surveys);
+    }
+    survey_in_turn(rt, paths, options)
+}
+
+/// Goes over each of several row files, on as many threads as there are processors. The surveys are in order of the files.
+fn survey_each<R: Threads + Sync, S: Read + Drop + Send>(
+    rt: &R,
+    alloc: Global,
+    files: Vec<S>,
+    options: &SurveyOptions,
+) -> Result<Vec<Result<Survey, SurveyError>>, NoMemory>
+    ensures { IfOk result (λ surveys. AllZip
+        (λ _ survey. IfOk survey (AreSurveyed S.remaining options.now 1)) files.items surveys.items) }
+{
+    files
+        .into_par_iter()
+        .map(
+            |file: S| -> Result<Survey, SurveyError>
+                ensures { IfOk result (AreSurveyed S.remaining options.entry.now 1) }
+            { survey_file(alloc, file, options) },
+        )
+        .collect(rt, alloc)
+}
+
+/// Goes over a row file, and over no other.
+fn survey_file<S: Read + Drop>(
+    alloc: Global,
+    file: S,
+    options: &SurveyOptions,
+) -> Result<Survey, SurveyError>
+    ensures { IfOk result (AreSurveyed S.remaining options.now 1) }
+{
+    Survey::read(alloc, file, options)
+}
+
+/// Joins the surveys of row files, one of each, which have one header.
+fn join_surveys<'a, S: Read>(
+    options: &SurveyOptions,
+    paths: &[&'a str],
+    surveys: Vec<Result<Survey, SurveyError>>,
+) -> Result<Survey, SurveyFault<'a>>
+    requires many { length surveys.items ≡ length paths.now }
+    requires starts { options.now.starts.items ≡ [] }
+    requires each { All (λ survey. IfOk survey (AreSurveyed S.remaining options.now 1)) surveys.items }
+    ensures { IfOk result (AreSurveyed S.remaining options.now (length paths.now)) }
+{
+    let mut joined = None;
+    let mut k = 0;
+    'files: for next in surveys {
+        let Some(path) = paths.get(k) else {
+            return Err(SurveyFault::from(NoMemory));
+        };
+        let next = match next {
+            Ok(next) => next,
+            Err(why) => return Err(survey_fault(path, why)),
+        };
+        joined = match joined {
+            None => Some(next),
+            Some(mut survey) => match survey.join(next) {
+                Ok(()) => Some(survey),
+                Err(why) => return Err(join_fault(path, why)),
+            },
+        };
+        k += 1;
+    }
+    // There is a file.
+    joined.ok_or(SurveyFault::from(NoMemory))
+}
+
+/// Returns the fault of a file of a path whose survey does not join those of the files before.
+fn join_fault(path: &str, why: JoinError) -> SurveyFault<'_> {
+    match why {
+        JoinError::OtherHeader => SurveyFault::OtherHeader(path),
+        JoinError::TooLong => SurveyFault::Unread(path, SourceFault::TooLong),
+        JoinError::NoMemory => SurveyFault::from(NoMemory),
+    }
+}
+
+/// Goes once over row files with one header, one after the other.
+fn survey_in_turn<'a, R: AllocGlobal + Files<File = S>, S: Read + OpenFile + Drop>(
     rt: &R,
     paths: &[&'a str],
     options: &SurveyOptions,
 ) -> Result<Survey, SurveyFault<'a>>
     requires { 0 < length paths.now }
-    ensures seen { IfOk result (HasSeen S.remaining (length paths.now)) }
-    ensures looks { IfOk result LooksFor }
+    ensures { IfOk result (AreSurveyed S.remaining options.now (length paths.now)) }
 {
     let mut survey = survey_first(rt, paths[0], options)?;
     'files: for k in 1..paths.len() {
-        let path = paths[k];
+        let Some(path) = paths.get(k) else {
+            return Err(SurveyFault::from(NoMemory));
+        };
         let file = open_regular(rt, path)?;
         match survey.read_more(rt.alloc(), file) {
             Ok(true) => {}
@@ -206,20 +305,26 @@ fn survey_all<'a, R: AllocGlobal + Files<File = S>, S: Read + OpenFile + Drop>(
     Ok(survey)
 }
 
-/// Goes over the first row file.
+/// Goes over a row file, and before any other.
 fn survey_first<'a, R: AllocGlobal + Files<File = S>, S: Read + OpenFile + Drop>(
     rt: &R,
     path: &'a str,
     options: &SurveyOptions,
 ) -> Result<Survey, SurveyFault<'a>>
-    ensures seen { IfOk result (HasSeen S.remaining 1) }
-    ensures looks { IfOk result LooksFor }
+    ensures { IfOk result (AreSurveyed S.remaining options.now 1) }
 {
     let file = open_regular(rt, path)?;
-    match Survey::read(rt.alloc(), file, options) {
+    match survey_file(rt.alloc(), file, options) {
         Ok(survey) => Ok(survey),
-        Err(SurveyError::Source(fault)) => Err(SurveyFault::Unread(path, fault)),
-        Err(SurveyError::NoColumn(title)) => Err(SurveyFault::NoColumn(path, title)),
+        Err(why) => Err(survey_fault(path, why)),
+    }
+}
+
+/// Returns the fault of a file of a path that was not surveyed.
+fn survey_fault(path: &str, why: SurveyError) -> SurveyFault<'_> {
+    match why {
+        SurveyError::Source(fault) => SurveyFault::Unread(path, fault),
+        SurveyError::NoColumn(title) => SurveyFault::NoColumn(path, title),
     }
 }
 
@@ -229,8 +334,25 @@ fn open_regular<'a, R: Files<File = S>, S: Read + OpenFile + Drop>(
     path: &'a str,
 ) -> Result<S, SurveyFault<'a>> {
     let file = open_file(rt, path)?;
+    check_regular(&file, path)?;
+    Ok(file)
+}
+
+/// Refuses a file of several that is no regular one.
+fn check_each_regular<'a, S: OpenFile>(
+    files: &[S],
+    paths: &[&'a str],
+) -> Result<(), SurveyFault<'a>> {
+    'files: for (file, path) in files.iter().zip(paths) {
+        check_regular(file, *path)?;
+    }
+    Ok(())
+}
+
+/// Refuses the file of a path that is no regular one, and can't be read twice.
+fn check_regular<'a, S: OpenFile>(file: &S, path: &'a str) -> Result<(), SurveyFault<'a>> {
     match file.metadata() {
-        Ok(metadata) if metadata.is_file() => Ok(file),
+        Ok(metadata) if metadata.is_file() => Ok(()),
         Ok(_) | Err(_) => Err(SurveyFault::NotTwice(path)),
     }
 }

@@ -126,6 +126,12 @@ module _ (old new : List Candidates) (grown : AreGrown old new) where
       let low : c < length old = omega (arith, grown.len, within) in
       (grown.each c d low).looked point _ (looks c d low)
 
+-- what others accept
+pub accepted_more : (first second : List Candidates) → AcceptMore first second → (fields : List Field) → AcceptsRecord first fields → AcceptsRecord second fields
+accepted_more first second more fields accepts = λ c d within.
+    let low : c < length first = omega (arith, more.len, within) in
+    more.each c d low (get_or fields c []) (accepts c d low)
+
 pub whole_still : (choice : Choice) (old new : List Candidates) → AreGrown old new → (records : List (List Field)) → AcceptsWhole choice old records → AcceptsWhole choice new records
 whole_still choice old new grown records all = λ k d within whole. accepted_still old new grown (chosen_fields choice (get_or records k d)) (all k d within whole)
 

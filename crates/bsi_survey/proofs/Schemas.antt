@@ -1,5 +1,5 @@
 -- The schema of all columns: each field that was accepted is good by it.
-use Rattle.std.proofs.Common.{◌≡◌, ℕ, zero, suc, ◌<◌, ◌≤◌, All, List, [], ◌∷◌, length, get_or, Result, Ok, Err, IfOk, refl, sym, subst, ◌∙◌, arith, Bool}
+use Rattle.std.proofs.Common.{◌≡◌, ℕ, zero, suc, ◌<◌, ◌≤◌, All, List, [], ◌∷◌, length, get_or, Result, Ok, Err, IfOk, refl, sym, subst, ◌∙◌, arith}
 use Rattle.bsi_rows.specs.Fields.{Field}
 use Rattle.bsi_kinds.specs.Kinds.{IsKind}
 use Rattle.bsi_inference.specs.ColumnCandidates.{Accepts}

@@ -1,25 +1,25 @@
 -- Texts that a survey has seen, and the schema that is made of it.
-use Rattle.std.proofs.Common.{◌≡◌, ◌∷◌, ℕ, true, List, length, get_or, IfOk, IfSome, IsTrue, Result, Ok, Err, option_map, sym, subst, ◌∙◌, eq-eqb}
+use Rattle.std.proofs.Common.{◌≡◌, ◌∷◌, ℕ, true, List, length, get_or, nat_eq, IfOk, IfSome, IsTrue, Result, Ok, Err, option_map, sym, subst, ◌∙◌, eq-eqb}
 use Rattle.std.specs.Prelude.{IsSome}
 use Rattle.csv.specs.Reading.{ReadRecord, reader_config, reader_state, source_of, strip_bom}
 use Rattle.csv.specs.declared.parser.State.TheVariants as st
 use Rattle.csv.specs.declared.reader.Reader.{Reader}
 use Rattle.bsi_syntax.specs.Bytes.{KnownBytes}
 use Rattle.bsi_rows.specs.Fields.{Field}
-use Rattle.bsi_input.specs.Formats.{config_of, good_row}
+use Rattle.bsi_input.specs.Formats.{config_of, fields_at, good_row}
 use Rattle.bsi_inference.specs.declared.candidates.Candidates.{Candidates}
 use Rattle.bsi_logical.specs.Logical.{Logical}
 use Rattle.bsi_logical.specs.LogicalRows.{has_titles, logical_format}
 use Rattle.bsi_logical.specs.declared.dialect.Dialect.{Dialect}
 use Rattle.bsi_survey.specs.Choices.{chosen_fields}
-use Rattle.bsi_survey.specs.Looking.{AcceptsRecord, AreGrown}
+use Rattle.bsi_survey.specs.Looking.{AcceptMore, AcceptsRecord, AreGrown}
 use Rattle.bsi_survey.specs.Surveys.{header_of, AcceptsWhole, FitsText, HaveObservedAll, SeesText, Surveys}
 use Rattle.bsi_survey.specs.TextRecords.{AreTextRecords}
 use Rattle.bsi_survey.specs.declared.choice.Choice.{Choice}
 use Rattle.bsi_survey.specs.declared.counts.Counts.{Counts}
 use Rattle.bsi_survey.specs.declared.options.SurveyOptions.{SurveyOptions}
 use Rattle.bsi_survey.specs.declared.survey.Survey.{Survey}
-use Rattle.bsi_survey.proofs.Growing.{whole_still}
+use Rattle.bsi_survey.proofs.Growing.{accepted_more, whole_still}
 use Rattle.bsi_survey.proofs.Records.{all_records}
 use Rattle.bsi_survey.proofs.Surveying.{if_some}
 
@@ -44,6 +44,21 @@ sees_still old new bytes choice dialect header grown sees = record {
       (subst (λ (h : List Field). AreTextRecords old.dialect.delimiter bytes (h ∷ sees.records)) (sym header) sees.all);
   accepted = subst (λ (h : Choice). AcceptsWhole h new.columns.items sees.records) (sym choice)
       (whole_still old.choice old.columns.items new.columns.items grown sees.records sees.accepted);
+}
+
+-- what another survey saw is seen by columns that have joined its own
+pub sees_joined : (other new : Survey) (bytes : List ℕ) → new.dialect ≡ other.dialect → header_of new ≡ header_of other
+    → other.choice.indexes.items ≡ new.choice.indexes.items → other.choice.many ≡ new.choice.many → AcceptMore other.columns.items new.columns.items
+    → SeesText other bytes → SeesText new bytes
+sees_joined other new bytes dialect header indexes many more sees = record {
+  records = sees.records;
+  all = subst (λ (d : Dialect). AreTextRecords d.delimiter bytes (header_of new ∷ sees.records)) (sym dialect)
+      (subst (λ (h : List Field). AreTextRecords other.dialect.delimiter bytes (h ∷ sees.records)) (sym header) sees.all);
+  accepted = λ k d within whole.
+      let fields = get_or sees.records k d in
+      accepted_more other.columns.items new.columns.items more (chosen_fields new.choice fields)
+      (subst (λ (is : List ℕ). AcceptsRecord other.columns.items (fields_at is fields)) indexes
+      (sees.accepted k d within (subst (λ (n : ℕ). IsTrue (nat_eq (length fields) n)) (sym many) whole)));
 }
 
 -- a further text

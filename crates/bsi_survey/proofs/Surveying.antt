@@ -1,5 +1,5 @@
 -- What a survey says of a text that was read.
-use Rattle.std.proofs.Common.{◌≡◌, ℕ, ◌∷◌, [], true, Bool, List, get_or, Some, None, IfSome, option_map, sym, subst}
+use Rattle.std.proofs.Common.{◌≡◌, ℕ, ◌∷◌, [], true, List, get_or, Some, None, IfSome, option_map, sym, subst}
 use Rattle.csv.specs.Reading.{ReadRecord, reader_config, reader_state, source_of, strip_bom}
 use Rattle.csv.specs.declared.parser.State.TheVariants as st
 use Rattle.csv.specs.declared.reader.Reader.{Reader}

@@ -1,5 +1,5 @@
 -- What the candidates of a column look for, and what they are once they observed fields, one after another.
-use Rattle.std.specs.Prelude.{◌≡◌, ◌⊎◌, ℕ, ◌<◌, Bool, true, false, List, [], ◌∷◌, length, get_or, slice_index_or, Option}
+use Rattle.std.specs.Prelude.{◌≡◌, ◌⊎◌, ℕ, ◌<◌, true, false, List, [], ◌∷◌, length, get_or, slice_index_or, Option}
 use Rattle.bsi_rows.specs.Fields.{Field}
 use Rattle.bsi_kinds.specs.declared.date.DateOrder.{DateOrder}
 use Rattle.bsi_inference.specs.ColumnCandidates.{is_null_field, Accepts, AddsOnlyField, AddsOnlyOther, GathersOn, HasJoinedKinds, HasNextKinds, HasSameKinds, HaveSameForms, IsNewColumn, IsNewRoundedColumn, IsNewTextColumn, LooksFor, LooksForRounded, MissesTexts}

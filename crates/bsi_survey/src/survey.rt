@@ -122,6 +122,7 @@ impl Survey {
     ) -> Result<bool, SourceFault>
         ensures sees { IfOk result (λ same. same ≡ true → IfSome (R.remaining reader) (SeesText self.new)) }
         ensures preserved { OnOk result ((bytes : List ℕ) → SeesText self.old bytes → SeesText self.new bytes) }
+        ensures dialect { OnOk result (self.new.dialect ≡ self.old.dialect) }
         ensures looked { OnOk result ((starts : List ColumnStart) →
             AreLookedFor self.old.dialect.point starts self.old.columns.items →
             AreLookedFor self.new.dialect.point starts self.new.columns.items) }
@@ -164,6 +165,9 @@ impl Survey {
         ensures looked { (point : ℕ) → All (LooksForKinds point) self.old.columns.items →
             All (LooksForKinds point) self.new.columns.items }
         ensures joined { OnOk result (AcceptMore other.columns.items self.new.columns.items) }
+        ensures still { OnOk result ((bytes : List ℕ) → SeesText self.old bytes → SeesText self.new bytes) }
+        ensures sees { OnOk result (other.dialect ≡ self.old.dialect →
+            (bytes : List ℕ) → SeesText other bytes → SeesText self.new bytes) }
         ensures good { OnOk result (self.new.counts.good ≡ self.old.counts.good + other.counts.good) }
         ensures bad { OnOk result (self.new.counts.bad ≡ self.old.counts.bad + other.counts.bad) }
         ensures kinds { OnOk result

@@ -13,3 +13,8 @@ pub returns-in-CannotWrite : goal.returns-in-CannotWrite
 returns-in-CannotWrite g c =
     subst (λ (fault : StoreFault). IsLineWritten c.write_message-in-CannotWrite.result (g.F.Write.contents c.args.stderr.now) (g.F.Write.contents c.write_message-in-CannotWrite.new.stderr) (store_fault_line fault))
     (sym c.in-CannotWrite.is) c.write_message-in-CannotWrite.ensures
+
+pub returns-in-BadRecords : goal.returns-in-BadRecords
+returns-in-BadRecords g c =
+    subst (λ (fault : StoreFault). IsLineWritten c.write_bad_records.result (g.F.Write.contents c.args.stderr.now) (g.F.Write.contents c.write_bad_records.new.stderr) (store_fault_line fault))
+    (sym c.in-BadRecords.is) c.write_bad_records.ensures

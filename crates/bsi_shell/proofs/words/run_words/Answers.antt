@@ -69,7 +69,18 @@ returns-clause-unshown g c = λ one command.
           (sym c.by-in-NoMemory.ensures.reported) c.write_run_fault.ensures,
     )
 
+pub returns-clause-unhelped : goal.returns-clause-unhelped
+returns-clause-unhelped g c = λ one command.
+    inr (
+      refl {a = g.O.Write.contents c.args.output.now},
+      subst (λ reported. IsLineWritten reported (g.F.Write.contents c.args.stderr.now) (g.F.Write.contents c.write_run_fault.new.stderr) (fault_line (Run NoMemory)))
+          (sym c.by-in-NoMemory.ensures.reported) c.write_run_fault.ensures,
+    )
+
 -- each command, by what it took from the words
+pub returns-in-Help-clause-unhelped : goal.returns-in-Help-clause-unhelped
+returns-in-Help-clause-unhelped g c = λ one command. inl (c.answer_help.ensures.reported one)
+
 pub returns-in-Save-clause-unsaved : goal.returns-in-Save-clause-unsaved
 returns-in-Save-clause-unsaved g c = λ one command. inl (c.in-Save.request, c.answer_save.ensures.reported one)
 

@@ -1,4 +1,4 @@
-use Rattle.std.proofs.Common.{◌≡◌, ℕ, List, [], ap, inr, length, map, rules, subst, ◌∙◌}
+use Rattle.std.proofs.Common.{◌≡◌, ◌<◌, ℕ, List, [], ap, inl, inr, length, map, rules, subst, sym, ◌∙◌}
 use Rattle.std.specs.Io.KnownBytes.{Appends}
 use Rattle.std.specs.Prelude.{IfErr}
 use Rattle.bsi_answers.proofs.Passing.{if_err}
@@ -7,8 +7,8 @@ use Rattle.bsi_logical.specs.LogicalTexts.{IsLogicalText}
 use Rattle.bsi_segments.specs.declared.version.Version.TheVariants.{Two}
 use Rattle.bsi_storage.specs.Saved.{head_segment, MayBeSaved}
 use Rattle.bsi_store.specs.declared.fault.StoreFault.{StoreFault}
-use Rattle.bsi_store.specs.declared.fault.StoreFault.TheVariants.{Run}
-use Rattle.bsi_store.specs.Saving.{HasFailedLogical}
+use Rattle.bsi_store.specs.declared.fault.StoreFault.TheVariants.{BadRecords, Run}
+use Rattle.bsi_store.specs.Saving.{bad_total, HasFailedLogical, IsSaveKindsFault}
 use Rattle.bsi_store.proofs.logical_save.save_and_summarize.Goals as goal
 use Rattle.bsi_table.specs.Index.{table_of}
 
@@ -16,27 +16,29 @@ pub returns-clause-saved : goal.returns-clause-saved
 returns-clause-saved g c = λ before after reported.
     let table = c.in_ok-loaded.loaded.table in
     let logical_is : c.logical.result.now ≡ c.args.format.now = search rules in
-    let many : length c.in_ok-rows.rows.items ≡ length c.args.paths.now.rows.items = c.in_ok-rows.ensures.many ∙ ap length c.deref.ensures.value in
-    record {
-      table = table_of table;
-      kinds = c.in_ok-kinds.kinds.items;
-      says = subst (IsLogicalText c.in_ok-kinds.kinds.items) logical_is c.in_ok-kinds.ensures.says;
-      feeders_are = c.in_ok-loaded.ensures.feeders ∙ many;
-      saved = record {
-        files = c.in_ok-rows.rows.items;
-        many = many;
-        counts = map fed_counts c.in_ok-loaded.loaded.fed.items;
-        schema_is = c.in_ok-loaded.ensures.schema;
-        limit_is = c.in_ok-loaded.ensures.limit;
-        loaded = c.in_ok-loaded.ensures.rows;
-        old = c.in_ok-new.new.file;
-        new = c.write_or_remove.new.new.file;
-        valid = subst (λ (kinds : List ℕ). MayBeSaved Two (table_of table) [] kinds) c.deref-2.ensures.value c.in_ok-write_or_remove.ensures.valid;
-        appended = subst (λ (kinds : List ℕ). Appends (g.S.Write.contents c.in_ok-new.new.file) (g.S.Write.contents c.write_or_remove.new.new.file) (head_segment (table_of table) [] kinds))
-            c.deref-2.ensures.value c.in_ok-write_or_remove.ensures.appended;
-        lines = subst (λ (bytes : List ℕ). Appends before after bytes) c.in_ok-text.ensures reported;
-      };
-    }
+    let many : length c.in_ok-rows.rows.items ≡ length c.args.paths.now.rows.items = c.in_ok-rows.ensures.many ∙ ap length c.deref.ensures.value in (
+      record {
+        table = table_of table;
+        kinds = c.in_ok-kinds.kinds.items;
+        says = subst (IsLogicalText c.in_ok-kinds.kinds.items) logical_is c.in_ok-kinds.ensures.says;
+        feeders_are = c.in_ok-loaded.ensures.feeders ∙ many;
+        saved = record {
+          files = c.in_ok-rows.rows.items;
+          many = many;
+          counts = map fed_counts c.in_ok-loaded.loaded.fed.items;
+          schema_is = c.in_ok-loaded.ensures.schema;
+          limit_is = c.in_ok-loaded.ensures.limit;
+          loaded = c.in_ok-loaded.ensures.rows;
+          old = c.in_ok-new.new.file;
+          new = c.write_or_remove.new.new.file;
+          valid = subst (λ (kinds : List ℕ). MayBeSaved Two (table_of table) [] kinds) c.deref-2.ensures.value c.in_ok-write_or_remove.ensures.valid;
+          appended = subst (λ (kinds : List ℕ). Appends (g.S.Write.contents c.in_ok-new.new.file) (g.S.Write.contents c.write_or_remove.new.new.file) (head_segment (table_of table) [] kinds))
+              c.deref-2.ensures.value c.in_ok-write_or_remove.ensures.appended;
+          lines = subst (λ (bytes : List ℕ). Appends before after bytes) c.in_ok-summary.ensures.text reported;
+        };
+      },
+      c.in_ok-summary.ensures.bad,
+    )
 
 -- the rows were not loaded
 pub returns-in_err-loaded-clause-fault : goal.returns-in_err-loaded-clause-fault
@@ -47,4 +49,27 @@ returns-in_err-loaded-clause-fault g c =
     let failed : HasFailedLogical g.S.Read.remaining logical (length c.args.paths.now.rows.items) run =
     subst (λ (n : ℕ). HasFailedLogical g.S.Read.remaining logical n run) many c.in_err-loaded.ensures.fault in
     let met : IfErr c.from_residual-in_err-loaded.result (λ (fault : StoreFault). fault ≡ Run run) = search rules in
-    if_err c.from_residual-in_err-loaded.result (λ fault is. inr (run, is, failed)) met
+    if_err c.from_residual-in_err-loaded.result (λ fault is. inr (inl (run, is, failed))) met
+
+-- some records are bad
+pub returns-in_err-refuse_bad-clause-fault : goal.returns-in_err-refuse_bad-clause-fault
+returns-in_err-refuse_bad-clause-fault g c =
+    let reported = c.in_err-refuse_bad.field-0.0 in
+    let logical = c.args.format.now in
+    let many : length c.in_ok-rows.rows.items ≡ length c.args.paths.now.rows.items = c.in_ok-rows.ensures.many ∙ ap length c.deref.ensures.value in
+    let refused = c.in_err-refuse_bad.ensures.refused in
+    let bad_is : c.in_ok-summary.summary.bad ≡ bad_total (map fed_counts c.in_ok-loaded.loaded.fed.items) = c.in_ok-summary.ensures.bad in
+    let failed : IsSaveKindsFault g.S.Read.remaining logical c.args.paths.now.strict (length c.args.paths.now.rows.items) reported = inr (inr (
+      refused.0,
+      record {
+        files = c.in_ok-rows.rows.items;
+        many = many;
+        rows = c.in_ok-loaded.loaded.table.rows;
+        counts = map fed_counts c.in_ok-loaded.loaded.fed.items;
+        loaded = c.in_ok-loaded.ensures.rows;
+        some = subst (λ (n : ℕ). 0 < n) bad_is refused.1;
+        fault_is = refused.2 ∙ ap BadRecords bad_is;
+      },
+    )) in
+    let met : IfErr c.from_residual-in_err-refuse_bad.result (λ (fault : StoreFault). fault ≡ reported) = search rules in
+    if_err c.from_residual-in_err-refuse_bad.result (λ fault is. subst (IsSaveKindsFault g.S.Read.remaining logical c.args.paths.now.strict (length c.args.paths.now.rows.items)) (sym is) failed) met
