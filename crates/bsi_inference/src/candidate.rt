@@ -46,17 +46,14 @@ impl Candidate {
         }
     }
 
-    /// Returns the candidate once the column has this field, which is not null.
-    pub(crate) fn with(self, field: &[u8]) -> Candidate
-        ensures { IsNext field.now self result }
+    /// Observes a field of the column, which is not null.
+    fn observe(&mut self, field: &[u8])
+        ensures { IsNext field.now self.old self.new }
     {
-        match self.seen {
-            Seen::RuledOut => self,
-            seen => Candidate {
-                form: self.form,
-                seen: seen.with(self.form.read(field)),
-            },
+        if let Seen::RuledOut = self.seen {
+            return;
         }
+        self.seen = self.seen.with(self.form.read(field));
     }
 }
 
@@ -108,6 +105,6 @@ pub(crate) fn observe_each(candidates: &mut [Candidate], field: &[u8])
     ensures { AreNext field.now candidates.old candidates.new }
 {
     'candidates: for i in 0..candidates.len() {
-        candidates[i] = candidates[i].with(field);
+        candidates[i].observe(field);
     }
 }
