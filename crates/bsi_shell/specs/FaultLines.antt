@@ -27,8 +27,8 @@ IsSomeTextWritten reported before after = (text : List ℕ) × IsLineWritten rep
 -- The usage line of a command. Those of `script` and `files` are one.
 abbrev pub usage_of : Subcommand → List ℕ
 usage_of Check = codes "usage: bsi check --schema FILE [--asks FILE] CSV..\n"
-usage_of Save = codes "usage: bsi save [--force] [--strict] [--schema FILE | --delimiter C --decimal C --dates dmy|mdy --null WORD --columns NAME,.. --round PLACES] --to FILE CSV..\n"
-usage_of Schema = codes "usage: bsi schema [--delimiter C --decimal C --dates dmy|mdy --null WORD --columns NAME,.. --round PLACES] CSV..\n"
+usage_of Save = codes "usage: bsi save [--force] [--strict] [--schema FILE | --delimiter C --decimal C --dates dmy|mdy --null WORD --columns TITLE,.. --round PLACES] --to FILE CSV..\n"
+usage_of Schema = codes "usage: bsi schema [--delimiter C --decimal C --dates dmy|mdy --null WORD --columns TITLE,.. --round PLACES] CSV..\n"
 usage_of Add = codes "usage: bsi add [--so-far] [--strict] FILE CSV..\n"
 usage_of Ask = codes "usage: bsi ask [--so-far] FILE [--asks FILE]\n"
 usage_of Show = codes "usage: bsi show FILE\n"

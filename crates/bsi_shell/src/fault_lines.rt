@@ -146,9 +146,9 @@ fn usage_of(command: Subcommand) -> &'static str
         }
         Subcommand::Check => "usage: bsi check --schema FILE [--asks FILE] CSV..\n",
         Subcommand::Save =>
-            "usage: bsi save [--force] [--strict] [--schema FILE | --delimiter C --decimal C --dates dmy|mdy --null WORD --columns NAME,.. --round PLACES] --to FILE CSV..\n",
+            "usage: bsi save [--force] [--strict] [--schema FILE | --delimiter C --decimal C --dates dmy|mdy --null WORD --columns TITLE,.. --round PLACES] --to FILE CSV..\n",
         Subcommand::Schema => {
-            "usage: bsi schema [--delimiter C --decimal C --dates dmy|mdy --null WORD --columns NAME,.. --round PLACES] CSV..\n"
+            "usage: bsi schema [--delimiter C --decimal C --dates dmy|mdy --null WORD --columns TITLE,.. --round PLACES] CSV..\n"
         }
         Subcommand::Add => "usage: bsi add [--so-far] [--strict] FILE CSV..\n",
         Subcommand::Ask => "usage: bsi ask [--so-far] FILE [--asks FILE]\n",

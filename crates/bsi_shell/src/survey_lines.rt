@@ -101,7 +101,7 @@ fn push_refusal(
 ) -> Result<(), NoMemory> {
     match refusal {
         SchemaRefusal::TooManyColumns => push_each(
-            &["bsi: more than 64 columns: --columns NAME,.. chooses some\n"],
+            &["bsi: more than 64 columns: --columns TITLE,.. chooses some\n"],
             text,
         ),
         SchemaRefusal::RepeatedTitle(c) => {
