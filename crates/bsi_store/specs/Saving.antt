@@ -4,22 +4,24 @@ use Rattle.std.specs.Prelude.{◌≡◌, ◌≢◌, ◌⊎◌, ◌+◌, ◌-◌,
 use Rattle.std.specs.Io.KnownBytes.{Appends}
 use Rattle.std.specs.List.{concat, sum_by}
 use Rattle.bsi_rows.specs.Rows.{SourcedRow}
-use Rattle.bsi_schema.specs.Columns.{Declared}
 use Rattle.bsi_rows.specs.Table.{max_feeders, Table}
 use Rattle.bsi_input.specs.Formats.{Format}
-use Rattle.bsi_input.specs.RowFiles.{plain_format}
 use Rattle.bsi_logical.specs.Logical.{Logical}
 use Rattle.bsi_logical.specs.LogicalRows.{logical_format}
 use Rattle.bsi_logical.specs.LogicalTexts.{IsLogicalText}
 use Rattle.bsi_logical.specs.TableSchemas.{format_of}
+use Rattle.bsi_logical.specs.SchemaFiles.{DeclaresSchema, IsSchemaFileFault}
+use Rattle.bsi_logical.specs.declared.logical_text.LogicalFault.{LogicalFault}
+use Rattle.bsi_logical.specs.declared.logical_text.LogicalFault.TheVariants as said
 use Rattle.bsi_logical.specs.declared.table_schema.TableSchema.{TableSchema}
+use Rattle.bsi_logical.specs.declared.table_schema.TableSchema.TheVariants as by
 use Rattle.bsi_answers.specs.RowFiles.{FedCounts}
 use Rattle.bsi_answers.specs.Runs.{fed_lines, HasLoaded}
-use Rattle.bsi_answers.specs.Writing.{WhereFilesKnown}
 use Rattle.bsi_answers.specs.declared.faults.FilesFault.{FilesFault}
-use Rattle.bsi_answers.specs.declared.faults.FilesFault.TheVariants.{IndexFull, NoMemory, TooManyFiles, Write}
-use Rattle.bsi_files.specs.RunFaults.{IsFaultOf, IsFaultOver}
-use Rattle.bsi_input.specs.SchemaTexts.{IsSchemaText}
+use Rattle.bsi_answers.specs.Faults.{text_fault}
+use Rattle.bsi_answers.specs.declared.faults.FilesFault.TheVariants.{BadSchema, IndexFull, NoColumns, NoMemory, TooManyFiles, Write}
+use Rattle.bsi_answers.specs.declared.faults.Which.TheVariants.{SchemaFile}
+use Rattle.bsi_files.specs.RunFaults.{IsFaultOver}
 use Rattle.bsi_input.specs.BufferedOutput.{AppendsPrefix}
 use Rattle.bsi_segments.specs.declared.version.Version.TheVariants.{Two}
 use Rattle.bsi_storage.specs.Saved.{head_segment, MayBeSaved}
@@ -68,42 +70,54 @@ pub record WroteSegment {S : Type 0} (rem put : S → KnownBytes) (count : ℕ) 
   -- The summary was written to the output.
   pub lines : Appends before after (loaded_lines word counts (length table.rows))
 
--- A new index of whole numbers was saved.
-pub record HasSaved {S : Type 0} (rem put : S → KnownBytes) (count : ℕ) (before after : KnownBytes) : Type 0 where
-  -- The schema file that was read.
-  pub schema_file : S
+-- The rows of row files were saved as a new index, with a text of kinds, and so many records of the files are bad.
+pub record HasSavedFiles {S : Type 0} (rem put : S → KnownBytes) (format : Format) (limit : ℕ) (kinds : Bytes) (count bad : ℕ)
+    (before after : KnownBytes) : Type 0 where
   -- The table that was saved.
   pub table : Table
-  -- The schema file declares the schema and the limit of the table.
-  pub declared : IfSome (rem schema_file) (λ bytes. IsSchemaText bytes table.schema table.limit)
   -- The table has a feeder for each row file.
   pub feeders_are : table.feeders ≡ count
-  -- The table was written as one segment, without notes and kinds, and is reported under the word `saved`.
-  pub saved : WroteSegment rem put count (codes "saved") (plain_format table.schema) table.limit [] [] table before after
+  -- The table was written as one segment, without notes, and is reported under the word `saved`.
+  pub saved : WroteSegment rem put count (codes "saved") format limit [] kinds table before after
+  -- The bad records are those that were counted.
+  pub bad_is : bad ≡ bad_total saved.counts
 
--- A new index of kinds was saved.
-pub record HasSavedKinds {S : Type 0} (rem put : S → KnownBytes) (logical : Logical) (count : ℕ) (before after : KnownBytes)
+-- The text of kinds says the schema; of one of whole numbers it has no bytes.
+abbrev pub SaysKinds : Bytes → TableSchema → Type 0
+SaysKinds kinds (by.Plain schema) = kinds ≡ []
+SaysKinds kinds (by.Logical logical) = IsLogicalText kinds logical
+
+-- A new index was saved by a schema file, and so many records are bad.
+pub record HasSavedBeside {S : Type 0} (rem put : S → KnownBytes) (count bad : ℕ) (before after : KnownBytes) : Type 0 where
+  -- The schema file that was read.
+  pub schema_file : S
+  -- The schema and the limit that it declares.
+  pub schema : TableSchema
+  pub limit : ℕ
+  pub declared : IfSome (rem schema_file) (λ bytes. DeclaresSchema bytes schema limit)
+  -- The text of kinds.
+  pub kinds : Bytes
+  -- The text says the schema.
+  pub says : SaysKinds kinds schema
+  -- The rows were saved by these.
+  pub saved : HasSavedFiles rem put (format_of schema) limit kinds count bad before after
+
+-- A new index of kinds was saved, and so many records are bad.
+pub record HasSavedKindsBeside {S : Type 0} (rem put : S → KnownBytes) (logical : Logical) (count bad : ℕ) (before after : KnownBytes)
     : Type 0 where
-  -- The table that was saved.
-  pub table : Table
   -- The text of kinds.
   pub kinds : Bytes
   -- The text says the schema.
   pub says : IsLogicalText kinds logical
-  -- The table has a feeder for each row file.
-  pub feeders_are : table.feeders ≡ count
-  -- The table was written as one segment, without notes, and is reported under the word `saved`.
-  pub saved : WroteSegment rem put count (codes "saved") (logical_format logical) logical.limit [] kinds table before after
+  -- The rows were saved by these.
+  pub saved : HasSavedFiles rem put (logical_format logical) logical.limit kinds count bad before after
 
--- A new index was saved, and so many records of the row files are bad.
-abbrev pub HasSavedBeside : {S : Type 0} → (S → KnownBytes) → (S → KnownBytes) → ℕ → ℕ → KnownBytes → KnownBytes → Type 0
-HasSavedBeside rem put count bad before after =
-    (done : HasSaved rem put count before after) × (bad ≡ bad_total done.saved.counts)
+-- A new index was saved, whatever records are bad.
+abbrev pub HasSaved : {S : Type 0} → (S → KnownBytes) → (S → KnownBytes) → ℕ → KnownBytes → KnownBytes → Type 0
+HasSaved rem put count before after = (bad : ℕ) × HasSavedBeside rem put count bad before after
 
-abbrev pub HasSavedKindsBeside : {S : Type 0} → (S → KnownBytes) → (S → KnownBytes) → Logical → ℕ → ℕ → KnownBytes → KnownBytes
-    → Type 0
-HasSavedKindsBeside rem put logical count bad before after =
-    (done : HasSavedKinds rem put logical count before after) × (bad ≡ bad_total done.saved.counts)
+abbrev pub HasSavedKinds : {S : Type 0} → (S → KnownBytes) → (S → KnownBytes) → Logical → ℕ → KnownBytes → KnownBytes → Type 0
+HasSavedKinds rem put logical count before after = (bad : ℕ) × HasSavedKindsBeside rem put logical count bad before after
 
 -- A saved index was read.
 pub record IsReadOf {S : Type 0} (rem : S → KnownBytes) (so_far : Bool) (t : Table) (notes kinds : Bytes) (left : KnownBytes)
@@ -181,65 +195,6 @@ pub record HaveBadRecords {S : Type 0} (rem : S → KnownBytes) (format : Format
 
 -- ---- of saving
 
--- Row files could not be loaded by a schema file.
-pub record HasFailedRun {S : Type 0} (rem : S → KnownBytes) (count : ℕ) (fault : FilesFault) : Type 0 where
-  -- The schema file.
-  pub schema : S
-  -- The row files.
-  pub files : List S
-  -- There are `count` row files.
-  pub many : length files ≡ count
-  -- `TooManyFiles` is answered for more than 64 files.
-  pub past : fault ≡ TooManyFiles → max_feeders < count
-  -- The files have the fault, as far as their bytes are known.
-  pub met : WhereFilesKnown (rem schema) (map rem files) (λ declared texts. IsFaultOf false declared texts fault)
-  -- The fault is not one of writing to the output.
-  pub unwritten : fault ≢ Write
-
--- Row files could not be loaded by a schema of kinds.
-pub record HasFailedLogical {S : Type 0} (rem : S → KnownBytes) (logical : Logical) (count : ℕ) (fault : FilesFault) : Type 0 where
-  -- The row files.
-  pub files : List S
-  -- There are `count` row files.
-  pub many : length files ≡ count
-  -- `TooManyFiles` is answered for more than 64 files.
-  pub past : fault ≡ TooManyFiles → max_feeders < count
-  -- Another fault is one of the files, as far as their bytes are known.
-  pub met : fault ≢ TooManyFiles → IsFaultOver false (logical_format logical) logical.limit (map rem files) fault
-  -- The fault is not one of writing to the output.
-  pub unwritten : fault ≢ Write
-
--- The fault of a command that saves no rows by a schema of kinds. No record may be bad if the command is strict.
-abbrev pub IsSaveKindsFault : {S : Type 0} → (S → KnownBytes) → Logical → Bool → ℕ → StoreFault → Type 0
-IsSaveKindsFault rem logical strict count fault =
-    IsMet rem fault ⊎ (((run : FilesFault) × (fault ≡ Run run) × HasFailedLogical rem logical count run)
-    ⊎ ((strict ≡ true) × HaveBadRecords rem (logical_format logical) logical.limit count fault))
-
--- Row files were loaded by a schema file, and have bad records.
-pub record HaveBadDeclared {S : Type 0} (rem : S → KnownBytes) (count : ℕ) (fault : StoreFault) : Type 0 where
-  -- The schema file.
-  pub schema_file : S
-  -- The columns and the limit that it declares.
-  pub columns : Declared
-  pub limit : ℕ
-  pub declared : IfSome (rem schema_file) (λ bytes. IsSchemaText bytes columns limit)
-  -- The bad records.
-  pub bad : HaveBadRecords rem (plain_format columns) limit count fault
-
--- The fault of a command that saves no rows by a schema file. No record may be bad if the command is strict.
-abbrev pub IsSaveFault : {S : Type 0} → (S → KnownBytes) → Bool → ℕ → StoreFault → Type 0
-IsSaveFault rem strict count fault =
-    IsMet rem fault ⊎ (((run : FilesFault) × (fault ≡ Run run) × HasFailedRun rem count run)
-    ⊎ ((strict ≡ true) × HaveBadDeclared rem count fault))
-
--- ---- of adding
-
--- The saved table has fewer feeders than there are row files.
-abbrev pub IsTooMany : {S : Type 0} → (S → KnownBytes) → Bool → ℕ → StoreFault → Type 0
-IsTooMany rem so_far count fault =
-    (path : Bor (List ℕ)) × (saved : Table) × IsSavedIn rem so_far saved × (saved.feeders < count)
-    × (fault ≡ Unusable path (file.TooManyFiles saved.feeders))
-
 -- Row files have this fault, as far as their bytes are known, when they are loaded by this format and limit.
 pub record IsRowFilesFault (format : Format) (limit : ℕ) (files : List KnownBytes) (fault : FilesFault) : Type 0 where
   pub few : fault ≢ TooManyFiles
@@ -249,6 +204,69 @@ pub record IsRowFilesFault (format : Format) (limit : ℕ) (files : List KnownBy
 -- The fault of the command is that of the row files.
 abbrev pub IsRunFaultOver : Format → ℕ → List KnownBytes → StoreFault → Type 0
 IsRunFaultOver format limit files fault = (run : FilesFault) × (fault ≡ Run run) × IsRowFilesFault format limit files run
+
+-- Row files could not be loaded by a format and a limit.
+pub record HasFailedFiles {S : Type 0} (rem : S → KnownBytes) (format : Format) (limit count : ℕ) (fault : StoreFault) : Type 0 where
+  -- The row files.
+  pub files : List S
+  -- There are `count` row files.
+  pub many : length files ≡ count
+  -- The fault is that of the row files.
+  pub reported : IsRunFaultOver format limit (map rem files) fault
+
+-- The fault of a command that saves no rows of row files. No record may be bad if the command is strict.
+abbrev pub IsSaveFilesFault : {S : Type 0} → (S → KnownBytes) → Format → ℕ → Bool → ℕ → StoreFault → Type 0
+IsSaveFilesFault rem format limit strict count fault =
+    IsMet rem fault ⊎ (HasFailedFiles rem format limit count fault ⊎ ((strict ≡ true) × HaveBadRecords rem format limit count fault))
+
+-- There are more than 64 row files.
+abbrev pub ArePastMost : ℕ → StoreFault → Type 0
+ArePastMost count fault = (fault ≡ Run TooManyFiles) × (max_feeders < count)
+
+-- The fault of a command that saves no rows by a schema of kinds.
+abbrev pub IsSaveKindsFault : {S : Type 0} → (S → KnownBytes) → Logical → Bool → ℕ → StoreFault → Type 0
+IsSaveKindsFault rem logical strict count fault =
+    ArePastMost count fault ⊎ IsSaveFilesFault rem (logical_format logical) logical.limit strict count fault
+
+-- The fault of a run whose schema file declares no schema.
+abbrev pub declaration_fault : LogicalFault → FilesFault
+declaration_fault (said.BadRecord number why) = BadSchema number
+declaration_fault said.NoColumns = NoColumns
+declaration_fault (said.Source why) = text_fault SchemaFile why
+
+-- A schema file declares no schema, and the fault says why.
+pub record IsDeclarationFault {S : Type 0} (rem : S → KnownBytes) (schema_file : S) (fault : FilesFault) : Type 0 where
+  pub why : LogicalFault
+  pub met : IfSome (rem schema_file) (λ bytes. IsSchemaFileFault bytes why)
+  pub fault_is : fault ≡ declaration_fault why
+
+-- A schema file declares no schema.
+abbrev pub HasNoSchema : {S : Type 0} → (S → KnownBytes) → StoreFault → Type 0
+HasNoSchema {S} rem fault = (schema_file : S) × (run : FilesFault) × (fault ≡ Run run) × IsDeclarationFault rem schema_file run
+
+-- A schema file declares a schema, by which no rows were saved.
+pub record HasFailedDeclared {S : Type 0} (rem : S → KnownBytes) (strict : Bool) (count : ℕ) (fault : StoreFault) : Type 0 where
+  -- The schema file.
+  pub schema_file : S
+  -- The schema and the limit that it declares.
+  pub schema : TableSchema
+  pub limit : ℕ
+  pub declared : IfSome (rem schema_file) (λ bytes. DeclaresSchema bytes schema limit)
+  -- The fault of saving by these.
+  pub failed : IsSaveFilesFault rem (format_of schema) limit strict count fault
+
+-- The fault of a command that saves no rows by a schema file.
+abbrev pub IsSaveFault : {S : Type 0} → (S → KnownBytes) → Bool → ℕ → StoreFault → Type 0
+IsSaveFault rem strict count fault =
+    IsMet rem fault ⊎ (ArePastMost count fault ⊎ (HasNoSchema rem fault ⊎ HasFailedDeclared rem strict count fault))
+
+-- ---- of adding
+
+-- The saved table has fewer feeders than there are row files.
+abbrev pub IsTooMany : {S : Type 0} → (S → KnownBytes) → Bool → ℕ → StoreFault → Type 0
+IsTooMany rem so_far count fault =
+    (path : Bor (List ℕ)) × (saved : Table) × IsSavedIn rem so_far saved × (saved.feeders < count)
+    × (fault ≡ Unusable path (file.TooManyFiles saved.feeders))
 
 -- Row files could not be loaded by the schema of a saved table.
 pub record HasFailedLoad {S : Type 0} (rem : S → KnownBytes) (so_far : Bool) (count : ℕ) (fault : StoreFault) : Type 0 where

@@ -1,12 +1,13 @@
-use Rattle.std.proofs.Common.{◌≡◌, ℕ, List, inr, rules, subst}
+use Rattle.std.proofs.Common.{◌≡◌, ℕ, List, inl, inr, length, refl, rules, subst, sym}
 use Rattle.std.specs.Io.KnownBytes.{Appends}
 use Rattle.std.specs.Prelude.{IfErr}
 use Rattle.bsi_answers.proofs.Passing.{if_err}
 use Rattle.bsi_answers.specs.declared.faults.FilesFault.TheVariants.{Write}
 use Rattle.bsi_input.specs.BufferedOutput.{AppendsPrefix}
+use Rattle.bsi_store.specs.Saving.{IsSaveKindsFault}
 use Rattle.bsi_store.specs.declared.fault.StoreFault.{StoreFault}
 use Rattle.bsi_store.specs.declared.fault.StoreFault.TheVariants.{Run}
-use Rattle.bsi_store.proofs.logical_save.save_kinds.Goals as goal
+use Rattle.bsi_store.proofs.save.save_kinds.Goals as goal
 
 pub returns-clause-saved : goal.returns-clause-saved
 returns-clause-saved g c =
@@ -21,4 +22,11 @@ returns-in_err-write_bytes-clause-prefix g c =
     let text = c.in_ok-summary.summary.text.items in
     let cut : AppendsPrefix before after text = subst (λ (bytes : List ℕ). AppendsPrefix before after bytes) c.as_slice.ensures.value c.in_err-write_bytes.ensures.prefix in
     let met : IfErr c.from_residual-in_err-write_bytes.result (λ (fault : StoreFault). fault ≡ Run Write) = search rules in
-    if_err c.from_residual-in_err-write_bytes.result (λ fault is. inr (is, text, (λ start end written. (c.in_ok-summary.ensures.saved start end written).0), cut)) met
+    if_err c.from_residual-in_err-write_bytes.result (λ fault is. inr (is, text, (λ start end written. (c.in_ok-summary.summary.bad, c.in_ok-summary.ensures.saved start end written)), cut)) met
+
+-- no rows were saved
+pub returns-in_err-summary-clause-prefix : goal.returns-in_err-summary-clause-prefix
+returns-in_err-summary-clause-prefix g c =
+    let reported = c.in_err-summary.field-0.0 in
+    let met : IfErr c.from_residual.result (λ (fault : StoreFault). fault ≡ reported) = search rules in
+    if_err c.from_residual.result (λ fault is. inl (subst (IsSaveKindsFault g.S.Read.remaining c.args.format.now c.args.paths.now.strict (length c.args.paths.now.rows.items)) (sym is) c.in_err-summary.ensures.fault, refl)) met
