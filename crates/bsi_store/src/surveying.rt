@@ -219,6 +219,7 @@ fn survey_each<R: Threads + Sync, S: Read + Drop + Send>(
 {
     files
         .into_par_iter()
+        .with_min_len(1)
         .map(
             |file: S| -> Result<Survey, SurveyError>
                 ensures { IfOk result (AreSurveyed S.remaining options.entry.now 1) }

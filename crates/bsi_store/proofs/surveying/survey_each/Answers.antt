@@ -11,6 +11,6 @@ returns g c =
     let same : c.map.result.f.1 ≡ c.args.options = ap (λ f. f.1) c.map.ensures.f in
     IfOk-then c.collect.result _ _ c.collect.ensures (λ v h.
     let chain = h.1 in
-    let from = c.map.ensures.base in
+    let from = ap (λ it. it.base) c.map.ensures.base ∙ c.with_min_len.ensures.base in
     rw h.2 (subst (λ options. AllZip (λ _ survey. IfOk survey (AreSurveyed rem options.now 1)) c.args.files.items h.0) same
     (subst (λ files. AllZip (λ _ survey. IfOk survey (AreSurveyed rem c.map.result.f.1.now 1)) files h.0) (chain.1 ∙ rw from c.into_par_iter.ensures) chain.2)))
