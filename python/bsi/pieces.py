@@ -14,13 +14,17 @@ from .packing import Packed, all_of, packed
 from .spelling import Options, Reader, TextReader, reader_for
 
 
+# Rows of which a field is not read, each with its text and why.
+Misread = Dict[int, Tuple[str, str]]
+
+
 class Piece(NamedTuple):
-    """Fields of a column in a run: their kind and numbers, and which are not read with their texts; or the fields
-    themselves, where nothing said before how the column is read."""
+    """Fields of a column in a run: their kind and numbers, and which are not read; or the fields themselves, where
+    nothing said before how the column is read."""
 
     packed: Packed
     kind: Optional[Kind] = None
-    bad: Dict[int, Tuple[str, str]] = {}
+    bad: Misread = {}
     fields: Optional[Fields] = None
 
 
@@ -86,8 +90,11 @@ class RunReader(NamedTuple):
 
     def read(self, run: Run, wanted: Sequence[bool]) -> Pieces:
         """Reads a run of whole records."""
-        records = split(run, self.width, *self.marks)
-        return self.pieces(records or self.each(Lines(run.text, bytes)), wanted)
+        return self.pieces(self.records(run), wanted)
+
+    def records(self, run: Run) -> Records:
+        """Returns the records of a run that is whole."""
+        return split(run, self.width, *self.marks) or self.each(Lines(run.text, bytes))
 
     def each(self, lines: Lines) -> Records:
         """Reads lines one by one."""

@@ -8,7 +8,7 @@ from __future__ import annotations
 
 import csv
 from collections import deque
-from contextlib import contextmanager
+from contextlib import contextmanager, suppress
 from typing import Any, Callable, Collection, Deque, Dict, Iterable, Iterator, List, Mapping, NamedTuple, Optional
 from typing import Set, Tuple, Type, Union
 
@@ -16,17 +16,18 @@ import numpy as np
 
 from .choosing import Chosen, PackedBlock, Wishes, by_column, misfits, refuse_no_kind, settled, wanted_of
 from .errors import BadColumns, BadRow, Error, Skipped, several
-from .fields import Lines, Records
+from .fields import Fields, Lines, Records
 from .files import Path, Run, Runs, Source, name_of, opened, size_of
 from .forms import Form
 from .index import Index
-from .kinds import FAR, Kind, Texts, Whole
-from .narrowing import too_many_texts
+from .kinds import FAR, Kind, Texts, Whole, shown
+from .narrowing import ROUNDS, too_many_texts
 from .packing import Packed, Room, all_of, packed
 from .parts import Parts, refuse_no_parts
-from .pieces import ColumnReader, Piece, RunReader
+from .pieces import ColumnReader, Misread, Pieces, RunReader
 from .progress import Progress, told
-from .spelling import THOUSANDS, Bad, Meaning, Options, Reader, TextReader, misread
+from .reach import Reach, first_past, reach_at, reach_of
+from .spelling import THOUSANDS, Bad, Meaning, NumberReader, Options, Reader, TextReader, decimal_in, misread
 from .processes import Answers, Processes
 
 # How many bytes say what columns hold, how many are read at once of four columns, and up to how many columns these are
@@ -66,7 +67,7 @@ def read_csv(
     `nulls`: the fields that are nulls.
     `decimal`, `thousands`: the decimal sign, and the sign between groups of three digits (" " for blanks of any width).
     `dates`: the format of dates, as for strptime, also by column.
-    `round`: decimals of more places are rounded to this number of places.
+    `round`: decimals of more places are rounded to this number of places, also by column.
     `bad="skip"`: leaves out rows that can't be stored and lists them in `skipped`; otherwise they raise BadRow.
     `spare`: reserves this number of extra bits for each column.
     `parts`: splits rows over this number of indexes; as many processes read a large file, at most one a processor.
@@ -198,6 +199,9 @@ class _Column:
         self.blocks: List[PackedBlock] = []
         self.refusal: Optional[Error] = None
         self.form: Any = None
+        # From where to where its decimals go, and whether these are still read for that alone.
+        self.reach: Optional[Reach] = None
+        self.is_measured = False
 
     @property
     def reader(self) -> Optional[Reader]:
@@ -208,6 +212,38 @@ class _Column:
     def options(self) -> Options:
         """What is said of its fields."""
         return self.fields.options
+
+    @property
+    def is_read(self) -> bool:
+        """Whether its fields are still read."""
+        return self.refusal is None or self.is_measured
+
+    def refuse(self, why: BadRow) -> None:
+        """Refuses it. Where digits are too many, it is still read, as whole numbers, to tell how many would do."""
+        self.refusal, self.is_measured = why, why.reason.endswith(ROUNDS)
+        if self.is_measured:
+            self.fields.reader = NumberReader(self.options._replace(round=0))
+
+    def measure(self, block: PackedBlock, texts: Iterable[str]) -> None:
+        """Takes in how far the numbers of a block go, and those of fields that do not fit."""
+        reaches = [reach_of(block.kind, block.ends, self.is_measured)]
+        for text in texts:
+            with suppress(ValueError):
+                reaches.append(reach_at(decimal_in(text, self.options)))
+        for reach in filter(None, reaches):
+            self.reach = reach.joined(self.reach)
+
+    def told(self) -> Error:
+        """Returns why it is refused, and with how many places it is not where its digits are too many."""
+        why = self.refusal
+        assert why is not None
+        if not isinstance(why, BadRow) or not why.reason.endswith(ROUNDS):
+            return why
+        for block in self.blocks if self.reach is None else ():
+            self.measure(block, ())
+        places = self.reach.most_places() if self.reach else None
+        more = "; kinds= with Texts stores it" if places is None else ROUNDS.replace("=", f"={places}")
+        return why.because(why.reason.removesuffix(ROUNDS) + more)
 
     def meaning(self) -> Tuple[Optional[Meaning], Bad, bool]:
         """Returns what the places of texts represent, which of them are nulls, and whether the column is
@@ -302,7 +338,7 @@ class _Reader:
             with _as_text(source):
                 answer = None if answers is None else answers.get()
                 read = self._runs.read(run, self._wanted()) if answer is None else answer.joined(self._runs.columns)
-            self._keep(*read, name)
+            self._keep(read, name, lambda place: self._runs.records(run).column(place))
 
     def _head(self, runs: Runs, name: str) -> int:
         """Reads the header, and returns the line behind it."""
@@ -353,36 +389,51 @@ class _Reader:
             lines = Lines(run.text, lambda: runs.next(RUN).text)
             records = self._runs.each(lines)
             runs.back(lines.rest())
-        self._keep(*self._runs.pieces(records, self._wanted()), name)
+        self._keep(self._runs.pieces(records, self._wanted()), name, records.column)
 
     def _wanted(self) -> List[bool]:
-        """Returns which of the columns are not refused."""
-        return [column.refusal is None for column in self._columns]
+        """Returns which of the columns are still read."""
+        return [column.is_read for column in self._columns]
 
-    def _keep(self, records: Records, pieces: List[Optional[Piece]], name: str) -> None:
-        """Keeps the numbers of a run, or refuses what does not fit."""
+    def _keep(self, read: Pieces, name: str, fields: Callable[[int], Fields]) -> None:
+        """Keeps the numbers of a run, or refuses what does not fit. A function gives the fields of a column."""
+        records, pieces = read
         rows = _Rows.of(name, self._count, self._line, records.places)
         self._last.append([piece.packed for piece in pieces if piece is not None])
         self._refuse_odd(records, name)
         left: Dict[int, BadRow] = {}
         for column, piece in zip(self._columns, pieces):
-            if piece is None or column.refusal:
+            if piece is None or not column.is_read:
                 continue
             if piece.fields is not None:
                 piece = column.fields.piece(piece.fields) if column.reader else column.fields.choose(piece.fields)
             moved = self._room.moved(piece.packed)
             column.blocks.append(PackedBlock(piece.kind, moved, self._count, moved.ends))
+            if not self._skips:
+                self._refuse_first(column, piece.bad, rows, fields)
+                continue
             for row, (text, reason) in piece.bad.items():
                 left.setdefault(row, rows.bad(column.name, row, text, reason))
-                if not self._skips:
-                    column.refusal = rows.bad(column.name, row, text, reason)
-                    break
         self._rows.append(rows)
         self._count, self._line = self._count + records.rows, self._line + records.lines
         if self._skips:
             self._leave(left, len(self._rows) - 1)
         for column in self._columns:
             self._refuse_many_texts(column)
+
+    def _refuse_first(self, column: _Column, bad: Misread, rows: _Rows, fields: Callable[[int], Fields]) -> None:
+        """Refuses a column by its first field in a run that does not fit, or that does not fit beside those before."""
+        before = column.reach
+        column.measure(column.blocks[-1], (text for text, _ in bad.values()))
+        if column.refusal:
+            return
+        for row, (text, reason) in bad.items():
+            column.refuse(rows.bad(column.name, row, text, reason))
+            return
+        if column.options.kind is None and column.reach and column.reach.places and not column.reach.fits():
+            row, text, places = first_past(before, fields(column.fields.place), column.options)
+            reason = f"{shown(text)} and those before it are past 63 bits at {places} decimal places{ROUNDS}"
+            column.refuse(rows.bad(column.name, row, text, reason))
 
     def _refuse_odd(self, records: Records, name: str) -> None:
         """Refuses the records that have another width than the header, or leaves them out."""
@@ -451,7 +502,8 @@ class _Reader:
         return Chosen({one.name: one.form for one in columns}, [one.blocks for one in columns])
 
     def _refuse(self) -> None:
-        if refusals := [column.refusal for column in self._columns if column.refusal]:
+        """Raises why columns are refused, if some are."""
+        if refusals := [column.told() for column in self._columns if column.refusal]:
             raise several(refusals)
 
     def _placed(self, why: BadRow) -> BadRow:
