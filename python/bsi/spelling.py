@@ -98,7 +98,7 @@ def _sign_of(grouped: Any) -> str:
 def _hint(text: str, options: Options) -> str:
     """Returns how a text could be read that looks like a number."""
     if mark := MARK.search(text):
-        return f"; take the {mark[0].strip()!r} out, or kinds= with Texts stores it" if _is_like_number(text) else ""
+        return f"; take the {mark[0].strip()!r} out, or kinds= with Texts stores it" if is_like_number(text) else ""
     other = {".": ",", ",": "."}[options.decimal]
     if found := GROUPED.fullmatch(text):
         sign = _sign_of(found)
@@ -402,10 +402,10 @@ def _look(text: str, options: Options) -> str:
             return "form"
         except ValueError:
             pass
-    return "number" if _is_like_number(text) else "date" if is_date(text) else "text"
+    return "number" if is_like_number(text) else "date" if is_date(text) else "text"
 
 
-def _is_like_number(text: str) -> bool:
+def is_like_number(text: str) -> bool:
     """Returns whether a text looks like a number, in whatever way it is written."""
     bare = MARK.sub("", text, count=1).removeprefix("+")
     is_grouped = GROUPED.fullmatch(bare) and not ADDRESS.fullmatch(bare)

@@ -132,6 +132,8 @@ OPTIONS = {
     "nulls": [("",), ("", "x", "-"), ()],
     "quotechar": ["'", None, '"'],
     "delimiter": [",", ";", "\t", "é"],
+    "header": [0, None, "infer"],
+    "names": [["a", "b"], ("b",), ["", "a", "b"]],
     "skiprows": [0, 1],
     "parts": [1, 2],
     "spare": [0, 5],
