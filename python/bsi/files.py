@@ -206,13 +206,21 @@ class Runs:
         line, end, self._rest = self._rest.partition(b"\n")
         return line + end
 
+    def ahead(self, size: int) -> bytes:
+        """Returns the whole lines among the next bytes, so many at most, which stay to be read."""
+        while len(self._rest) < size and self._more():
+            pass
+        text = self._rest[:size]
+        is_all = self._is_end and len(text) == len(self._rest)
+        return text if is_all else text[: text.rfind(b"\n") + 1]
+
     def next(self, size: int) -> Run:
         """Returns a run of about so many bytes, and an empty one at the end."""
         while len(self._rest) < size and self._more(size - len(self._rest)):
             pass
         while True:
             text = self._rest[:size]
-            quotes = _places(text, self._quote)
+            quotes = places_of(text, self._quote)
             cut = self._cut(text, quotes)
             if cut or size >= len(self._rest) and (self._is_end or size > LONGEST):
                 return self._run(cut or len(self._rest), quotes)
@@ -237,7 +245,7 @@ class Runs:
             return len(text)
         if not len(quotes):
             return text.rfind(b"\n") + 1
-        ends = _places(text, b"\n")
+        ends = places_of(text, b"\n")
         ends = ends[np.searchsorted(quotes, ends) & 1 == 0]
         return int(ends[-1]) + 1 if len(ends) else 0
 
@@ -260,7 +268,8 @@ class Runs:
         return bool((np.isin(before, ends) | doubled[:-1]).all() and (np.isin(after, ends) | doubled[1:]).all())
 
 
-def _places(text: bytes, byte: bytes) -> np.ndarray:
+def places_of(text: bytes, byte: bytes) -> np.ndarray:
+    """Returns where a byte stands in a text."""
     if not byte or byte not in text:
         return np.zeros(0, np.int64)
     return np.flatnonzero(np.frombuffer(text, np.uint8) == byte[0])

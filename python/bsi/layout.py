@@ -3,17 +3,20 @@
 from __future__ import annotations
 
 import csv
+import io
 from collections import Counter
 from typing import AbstractSet, Any, Collection, Dict, Iterable, Iterator, List, Mapping, NamedTuple, Optional
 from typing import Tuple, Union
 
+from .blanks import TAB, TabbedLines
 from .errors import BadColumns
+from .fields import BLANKS
 from .files import Runs
 from .kinds import shown
-from .spelling import is_like_number
+from .spelling import NOTHING, is_like_number
 
-# What may stand between fields in place of a comma.
-MARKS = ";\t|"
+# What may stand between fields in place of a comma, and what stands for any run of blanks.
+MARKS, BLANK = ";\t|", " "
 INFER = "infer"
 
 
@@ -31,7 +34,10 @@ class Layout(NamedTuple):
         """Returns the layout with a list of names. Refuses what can't be meant."""
         for what, sign in (("delimiter", self.delimiter), ("quotechar", self.quote)):
             if sign and (not isinstance(sign, str) or len(sign) != 1 or sign in "\r\n\0"):
-                raise ValueError(f"{what} is one character, and no end of a line, and not {sign!r}")
+                more = "; ' ' is any run of blanks" if sign == r"\s+" else ""
+                raise ValueError(f"{what} is one character, and no end of a line, and not {sign!r}{more}")
+        if self.by_blanks and self.quote in (" ", "\t"):
+            raise ValueError(f"quotechar is no blank where these stand between fields, and not {self.quote!r}")
         if not isinstance(self.skipped, int) or isinstance(self.skipped, bool) or self.skipped < 0:
             raise ValueError(f"skiprows is a number of lines, and not {self.skipped!r}")
         if isinstance(self.header, bool) or self.header not in (INFER, 0, None):
@@ -45,15 +51,25 @@ class Layout(NamedTuple):
         return self.header == 0 or self.header == INFER and self.names is None
 
     @property
+    def by_blanks(self) -> bool:
+        """Whether any run of blanks stands between fields, which is read as a tab."""
+        return self.delimiter == BLANK
+
+    @property
+    def separators(self) -> Tuple[bytes, bytes]:
+        """The bytes that stand between fields, and the quote."""
+        return BLANKS if self.by_blanks else self.marks[0], self.marks[1]
+
+    @property
     def marks(self) -> Tuple[bytes, bytes]:
-        """The delimiter and the quote in UTF-8."""
-        return (self.delimiter or ",").encode(), (self.quote or "").encode()
+        """The delimiter as it is read, and the quote."""
+        return TAB if self.by_blanks else (self.delimiter or ",").encode(), (self.quote or "").encode()
 
     @property
     def dialect(self) -> Dict[str, Any]:
         """The words for the module csv."""
         quoting = {"quotechar": self.quote} if self.quote else {"quoting": csv.QUOTE_NONE, "quotechar": None}
-        return {"delimiter": self.delimiter or ",", **quoting}
+        return {"delimiter": self.marks[0].decode(), **quoting}
 
 
 def _listed(names: Any) -> List[str]:
@@ -81,7 +97,7 @@ class Head(NamedTuple):
 def read_head(runs: Runs, layout: Layout, name: str) -> Head:
     """Reads the first record of a file that is no empty line."""
     taken: List[bytes] = []
-    reader = csv.reader(_lines(runs, taken), strict=True, **layout.dialect)
+    reader = csv.reader(_lines(runs, layout, taken), strict=True, **layout.dialect)
     try:
         fields = next((record for record in reader if record), [])
     except csv.Error as why:
@@ -89,11 +105,13 @@ def read_head(runs: Runs, layout: Layout, name: str) -> Head:
     return Head(fields, b"".join(taken), reader.line_num)
 
 
-def _lines(runs: Runs, taken: List[bytes]) -> Iterator[str]:
+def _lines(runs: Runs, layout: Layout, taken: List[bytes]) -> Iterator[str]:
     """Yields the next lines, and lists them as they stand."""
+    tabs = TabbedLines(layout.quote or "")
     while line := runs.line():
         taken.append(line)
-        yield line.decode("utf-8", "surrogatepass")
+        text = line.decode("utf-8", "surrogatepass")
+        yield tabs.of(text) if layout.by_blanks else text
 
 
 def titles_of(fields: List[str]) -> List[str]:
@@ -131,6 +149,24 @@ def other_layout(head: Head, layout: Layout, named: Collection[str]) -> Optional
         ways = "header=None reads it as a row, and header=0 as titles"
         return f"its first line has numbers alone, as {shown(field)}; {ways}"
     return None
+
+
+def between_blanks(ahead: bytes, layout: Layout, named: Collection[str]) -> Optional[str]:
+    """Returns that blanks make as many fields of each of the first lines, most of them numbers, and what splits these,
+    or None if it is not so, or if the caller names the first line as one title."""
+    lines = [line for line in io.StringIO(ahead.decode("utf-8", "replace"), newline=None) if line.strip()]
+    if not _may_be_split(layout) or not lines or any(mark in lines[0] for mark in f",{MARKS}"):
+        return None
+    tabs, quote = TabbedLines(layout.quote or ""), layout.quote or ""
+    rows = [[field.strip(quote) for field in tabs.of(line).rstrip("\n").split("\t")] for line in lines]
+    width = len(rows[0])
+    if width < 2 or any(len(row) != width for row in rows) or lines[0].rstrip("\n").strip(quote) in named:
+        return None
+    there = [field for row in rows[1:] or rows for field in row if field.lower() not in NOTHING]
+    if 2 * sum(map(is_like_number, there)) <= len(there):
+        return None
+    ways = f"delimiter=' ' splits them{_more(rows[0], layout)}; delimiter=',' leaves them whole"
+    return f"its lines have {width} fields between blanks, and most are numbers; {ways}"
 
 
 def _may_be_split(layout: Layout) -> bool:

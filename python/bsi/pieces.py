@@ -3,10 +3,11 @@
 from __future__ import annotations
 
 from collections import Counter
-from typing import Any, Dict, List, NamedTuple, Optional, Sequence, Tuple
+from typing import Any, Callable, Dict, List, NamedTuple, Optional, Sequence, Tuple
 
 import numpy as np
 
+from .blanks import BlankLines, tabbed
 from .fields import Fields, Lines, Records, read_each, split
 from .files import Run
 from .kinds import Kind
@@ -80,12 +81,13 @@ class ColumnReader:
 
 
 class RunReader(NamedTuple):
-    """How runs are read: the fields of a record, the delimiter and the quote, the words for the module csv, and the
-    columns that are wanted."""
+    """How runs are read: the fields of a record, the delimiter and the quote, the words for the module csv, whether any
+    run of blanks stands for the delimiter, and the columns that are wanted."""
 
     width: int
     marks: Tuple[bytes, bytes]
     dialect: Dict[str, Any]
+    by_blanks: bool
     columns: List[ColumnReader]
 
     def read(self, run: Run, wanted: Sequence[bool]) -> Pieces:
@@ -94,7 +96,12 @@ class RunReader(NamedTuple):
 
     def records(self, run: Run) -> Records:
         """Returns the records of a run that is whole."""
-        return split(run, self.width, *self.marks) or self.each(Lines(run.text, bytes))
+        run = tabbed(run, self.marks[1]) if self.by_blanks else run
+        return split(run, self.width, *self.marks) or self.each(self.lines(run.text, bytes))
+
+    def lines(self, text: bytes, more: Callable[[], bytes]) -> Lines:
+        """Returns the lines of a text, and of those behind it where a record goes on there."""
+        return BlankLines(text, more, self.dialect["quotechar"] or "") if self.by_blanks else Lines(text, more)
 
     def each(self, lines: Lines) -> Records:
         """Reads lines one by one."""

@@ -15,12 +15,12 @@ import numpy as np
 
 from .choosing import Chosen, PackedBlock, Wishes, by_column, misfits, refuse_no_kind, settled, wanted_of
 from .errors import BadColumns, BadRow, Error, Skipped, several
-from .fields import Fields, Lines, Records
+from .fields import Fields, Records
 from .files import Path, Run, Runs, Source, name_of, opened, size_of
 from .forms import Form
 from .index import Index
 from .kinds import FAR, Kind, Texts, Whole, shown
-from .layout import INFER, Head, Layout, odd_width, other_layout, read_head, titles_in
+from .layout import BLANK, INFER, Head, Layout, between_blanks, odd_width, other_layout, read_head, titles_in
 from .narrowing import ROUNDS, too_many_texts
 from .packing import Packed, Room, all_of, packed
 from .parts import Parts, refuse_no_parts
@@ -72,6 +72,7 @@ def read_csv(
     `dates`: the format of dates, as for strptime, also by column.
     `round`: decimals of more places are rounded to this number of places, also by column.
     `bad="skip"`: leaves out rows that can't be stored and lists them in `skipped`; otherwise they raise BadRow.
+    `delimiter`: the sign between fields; " " is any run of blanks, and those at the ends of a line do not count.
     `header=None`: the files have no header; then `names` are the titles, by default column_1, column_2 and so on. As in
     pandas, `names` alone means this too, and with `header=0` they replace a header.
     `skiprows`: how many lines before the header, or the first row, are left out.
@@ -300,7 +301,7 @@ class _Reader:
         """Reads a file, and keeps the numbers of its wanted columns."""
         name = name_of(path)
         with opened(path, self._layout.encoding) as source:
-            runs = Runs(source, *self._layout.marks)
+            runs = Runs(source, *self._layout.separators)
             with _as_text(source):
                 self._line = self._begin(runs, name)
             while (run := self._next(runs, source, name)).text:
@@ -333,6 +334,8 @@ class _Reader:
         layout = self._layout
         for _ in range(layout.skipped):
             runs.line()
+        if not self._titles and self._asked.options.thousands != BLANK:
+            self._refuse_other(between_blanks(runs.ahead(FIRST), layout, self._asked.titles()), name)
         head = read_head(runs, layout, name)
         if not head.fields and (layout.has_header or not (layout.names or self._titles)):
             raise BadColumns(f"{name}: there is no {'header' if layout.has_header else 'row'}")
@@ -361,7 +364,7 @@ class _Reader:
                 refuse_no_kind(column, options.kind)
             self._columns.append(_Column(column, ColumnReader(self._titles.index(column), options)))
         fields = [column.fields for column in self._columns]
-        self._runs = RunReader(len(self._titles), layout.marks, layout.dialect, fields)
+        self._runs = RunReader(len(self._titles), layout.marks, layout.dialect, layout.by_blanks, fields)
 
     # ---- Runs ----
 
@@ -375,7 +378,7 @@ class _Reader:
             return
         self._keep_all(source, name)
         with _as_text(source):
-            lines = Lines(run.text, lambda: runs.next(RUN).text)
+            lines = self._runs.lines(run.text, lambda: runs.next(RUN).text)
             records = self._runs.each(lines)
             runs.back(lines.rest())
         self._keep(self._runs.pieces(records, self._wanted()), name, records.column)

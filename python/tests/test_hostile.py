@@ -131,7 +131,7 @@ OPTIONS = {
     "round": [0, 2, {"b": 1}],
     "nulls": [("",), ("", "x", "-"), ()],
     "quotechar": ["'", None, '"'],
-    "delimiter": [",", ";", "\t", "é"],
+    "delimiter": [",", ";", "\t", "é", " "],
     "header": [0, None, "infer"],
     "names": [["a", "b"], ("b",), ["", "a", "b"]],
     "skiprows": [0, 1],

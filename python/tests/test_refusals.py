@@ -91,6 +91,7 @@ REFUSED = [
     (lambda: read(names=["a", "b", "a"]), ValueError, "names has the title 'a' 2 times"),
     (lambda: read(names=["", ""]), ValueError, "names has the title '' 2 times"),
     (lambda: read(names=[]), ValueError, "names has no title"),
+    (lambda: read(delimiter=" ", quotechar=" "), ValueError, "quotechar is no blank where these stand between fields"),
     (lambda: read(parts="2"), ValueError, "1 to 256 parts, and not '2'"),
     (lambda: bsi.read_csv("no file is opened", parts=1000), ValueError, "1 to 256 parts, and not 1000"),
     (lambda: bsi.read_csv(5), TypeError, "a file is a path or an open file, and not 5"),
