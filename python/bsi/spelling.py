@@ -159,13 +159,17 @@ class NumberReader:
         bad: Bad = {}
         for row, text in zip(rows.tolist(), fields.taken(rows).texts()):
             try:
-                number = exact_number(text, self._options)
-                if self._given is None and self._options.round is not None:
-                    number = Decimals(self._options.round).decode(Decimals(self._options.round, True).number(number))
-                exact[row] = number
+                exact[row] = self._rounded(exact_number(text, self._options))
             except (ValueError, ArithmeticError) as why:
                 bad[row] = told(text, str(why), self._options.nulls)
         return exact, bad
+
+    def _rounded(self, number: Decimal) -> Decimal:
+        """Returns a number that is rounded if it has more places than is said."""
+        places = self._options.round
+        if self._given or places is None or number.as_tuple().exponent >= -places:  # type: ignore[operator]
+            return number
+        return Decimals(places).decode(Decimals(places, rounded=True).number(number))
 
     def _scaled(
         self, mantissas: np.ndarray, places: np.ndarray, is_read: np.ndarray, kind: Kind, bad: Bad, fields: Fields

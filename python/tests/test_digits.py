@@ -80,6 +80,13 @@ def test_the_places_that_a_refusal_names_do(monkeypatch, tmp_path, parts):
     assert refused > 50
 
 
+def test_round_adds_no_places(monkeypatch):
+    for size in (8, 1 << 16):
+        in_runs_of(monkeypatch, size)
+        index = read("x,n\n404.5,1\n5e-3,1\n1e2,1\n", round=18)
+        assert index.forms["x"].kind == bsi.Decimals(3) and index.sum("x") == Decimal("504.505")
+
+
 def test_digits_where_nothing_can_be_rounded(monkeypatch):
     with pytest.raises(bsi.BadRow, match="'1e19' is past 63 bits$"):
         read("x\n0.5\n1e19\n")
