@@ -39,7 +39,9 @@ from .version import __version__
 
 MAX_SHOWN = 20
 QUOTES = "put a question with > or < in quotes: 'count price > 100'"
-FOR_CSV = ("null", "nulls", "delimiter", "decimal", "thousands", "dates", "encoding", "skiprows", "skip_bad")
+FOR_CSV = ("null", "nulls", "delimiter", "header", "names", "decimal", "thousands", "dates", "encoding", "skiprows")
+FOR_CSV += ("skip_bad",)
+HEADERS = {None: "infer", "0": 0, "none": None}
 KINDS = {"text": lambda _: Texts, "whole": lambda _: Whole(), "flags": lambda _: Flags()}
 KINDS["decimals"] = lambda places: Decimals(int(places) if places.isdecimal() else places or 2)
 KINDS["times"] = lambda unit: Times(unit or "s")
@@ -67,7 +69,10 @@ def _arguments(words: Optional[List[str]]) -> Any:
         "--null", metavar="FIELD", action="append", default=[], help="a further field that means null"
     )
     parser.add_argument("--nulls", metavar="FIELD,..", default="", help="several such fields")
-    parser.add_argument("--delimiter", metavar="SIGN", help="the sign between fields; default: a comma")
+    blanks = "the sign between fields, as ' ' for any run of blanks; default: a comma"
+    parser.add_argument("--delimiter", metavar="SIGN", help=blanks)
+    parser.add_argument("--header", choices=("0", "none"), type=str.lower, help="whether the first line is a header")
+    parser.add_argument("--names", metavar="NAME,..", help="titles of files without a header, or in place of it")
     parser.add_argument("--decimal", metavar="SIGN", help="the decimal sign, as a comma; default: a point")
     parser.add_argument("--thousands", metavar="SIGN", help="the sign between groups of three digits")
     parser.add_argument("--dates", metavar="FORM", help="how dates are written, as %%d.%%m.%%Y")
@@ -104,6 +109,7 @@ def _csv(files: List[str], columns: Optional[List[str]], given: Any, progress: b
     """Makes the index of CSV files, and reports which rows were left out."""
     named = ("delimiter", "thousands", "dates", "encoding", "skiprows", "parts")
     how = {**_wishes(given), **{name: getattr(given, name) for name in named}, "decimal": given.decimal or "."}
+    how.update(header=HEADERS[given.header], names=given.names.split(",") if given.names else None)
     nulls = ["", *given.null, *filter(None, given.nulls.split(","))]
     bad = "skip" if given.skip_bad else "refuse"
     table = read_csv(files, columns, nulls=nulls, bad=bad, progress=progress, **how)

@@ -12,8 +12,8 @@ import numpy as np
 
 from .errors import BadColumns, BadRow, BadSchema, Error, several
 from .forms import LEAST, MOST, Form, narrowest
-from .kinds import Kind, Misfit, Texts, Whole, first_misfit, shown
-from .narrowing import MAX_TEXTS, encode, factor_of, joined, narrow, recode, too_many_texts
+from .kinds import Decimals, Kind, Misfit, Texts, Whole, first_misfit, shown
+from .narrowing import MAX_TEXTS, ROUNDS, encode, factor_of, joined, narrow, recode, too_many_texts
 from .packing import Packed, packed
 from .values import NO_TEXTS, Values, columns_of, values_of
 
@@ -313,7 +313,8 @@ def settled(name: str, blocks: List[Any], wishes: Wishes) -> Form:
     ends = [block.ends for block in blocks if block.ends is not None]
     low, high = min((low for low, _ in ends), default=0), max((high for _, high in ends), default=0)
     if high - low >= SPAN and name not in wishes.forms:
-        raise _first_too_far(name, kind or Whole(), *_joined([block.plain() for block in blocks]))
+        more = ROUNDS if isinstance(kind, Decimals) and name not in wishes.kinds else ""
+        raise _first_too_far(name, kind or Whole(), more, *_joined([block.plain() for block in blocks]))
     form = wishes.form(name, kind, low, high)
     if name in wishes.forms:
         for block in (block.plain() for block in blocks):
@@ -336,14 +337,14 @@ def recoded(name: str, block: AnyBlock, kind: Optional[Kind]) -> AnyBlock:
         raise BadRow(name, given.row + why.row, given.value(why.row), why.reason) from None
 
 
-def _first_too_far(name: str, kind: Kind, numbers: np.ndarray, valid: np.ndarray) -> BadRow:
-    """Returns the first row that lies too far from one before it."""
+def _first_too_far(name: str, kind: Kind, more: str, numbers: np.ndarray, valid: np.ndarray) -> BadRow:
+    """Returns the first row that lies too far from one before it, and what helps."""
     low = np.minimum.accumulate(np.where(valid, numbers, MOST))
     high = np.maximum.accumulate(np.where(valid, numbers, LEAST))
     # (the difference as a number without a sign, which is right where there is a number before)
     spans = high.view(np.uint64) - low.view(np.uint64)
     row = int((np.logical_or.accumulate(valid) & (spans >= SPAN)).argmax())
-    return BadRow(name, row, kind.decode(int(numbers[row])), too_far(kind, int(low[row]), int(high[row])))
+    return BadRow(name, row, kind.decode(int(numbers[row])), too_far(kind, int(low[row]), int(high[row])) + more)
 
 
 def joined_blocks(name: str, blocks: List[Block]) -> Tuple[Optional[Kind], Tuple[np.ndarray, np.ndarray]]:

@@ -82,6 +82,10 @@ class BadRow(Error, ValueError):
         super().__init__(f"column {column!r}, row {row}{place}: {reason}")
         self.column, self.row, self.value, self.reason, self.place = column, row, value, reason, place
 
+    def because(self, reason: str) -> "BadRow":
+        """Returns the same refusal for another reason."""
+        return BadRow(self.column, self.row, self.value, reason, self.place)
+
     def __reduce__(self):
         return BadRow, (self.column, self.row, self.value, self.reason, self.place), {"others": self.others}
 

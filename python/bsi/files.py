@@ -23,6 +23,20 @@ LONGEST = 16 * READ
 MARKS = {codecs.BOM_UTF32_LE: "utf-32", codecs.BOM_UTF32_BE: "utf-32"}
 MARKS.update({codecs.BOM_UTF16_LE: "utf-16", codecs.BOM_UTF16_BE: "utf-16"})
 NEWLINE, RETURN = b"\n"[0], b"\r"[0]
+# The first bytes of files in other formats, what some further ones are, what such a file is, and what reads it.
+WORKBOOK = "save it as CSV, or give what pandas.read_excel reads to Index.from_frame"
+FORMATS = (
+    (b"PK\3\4", b"xl/", "is an Excel workbook (.xlsx)", WORKBOOK),
+    (b"PK\3\4", b"opendocument.spreadsheet", "is a workbook of LibreOffice (.ods)", WORKBOOK),
+    (b"\xd0\xcf\x11\xe0\xa1\xb1\x1a\xe1", b"", "is an Excel workbook (.xls)", WORKBOOK),
+    (b"PAR1\x15", b"", "is a Parquet file", "give what pandas.read_parquet reads to Index.from_frame"),
+    (b"PK\3\4", b"", "is packed by zip", "give it a name that ends in .zip"),
+    (b"\x1f\x8b\x08", b"", "is packed by gzip", "give it a name that ends in .gz"),
+    (b"BZh", b"1AY&SY", "is packed by bzip2", "give it a name that ends in .bz2"),
+    (b"\xfd7zXZ\0", b"", "is packed by xz", "give it a name that ends in .xz"),
+)
+# Of how many bytes those tell an encoding that are 0.
+BEGIN = 1000
 
 
 def name_of(path: Path) -> str:
@@ -105,6 +119,8 @@ class Source:
             if isinstance(data, str):
                 return data.encode("utf-8", "surrogateescape")
             if self._decoder is None and not self._is_utf8:
+                if reason := _other_format(data) or _other_encoding(data, self._encoding):
+                    raise BadColumns(f"{self.name}: it {reason}")
                 encoding = self._encoding or _marked(data)
                 if codecs.lookup(encoding).name in ("utf-8", "utf-8-sig"):
                     self._is_utf8, data = True, data.removeprefix(codecs.BOM_UTF8)
@@ -144,6 +160,28 @@ def _marked(data: bytes) -> str:
     return next((encoding for mark, encoding in MARKS.items() if data.startswith(mark)), "utf-8-sig")
 
 
+def _other_format(data: bytes) -> Optional[str]:
+    """Returns in which other format a file is that begins so, and what helps, or None if it is none of these."""
+    found = (each for each in FORMATS if data.startswith(each[0]) and each[1] in data)
+    return next((f"{what}; {way}" for _, _, what, way in found), None)
+
+
+def _other_encoding(data: bytes, given: Optional[str]) -> Optional[str]:
+    """Returns in which encoding a file is that begins so, if it is another than the one that is given or is read unasked,
+    and what helps, or None if nothing tells."""
+    found = _marked(data)
+    if given is not None and codecs.lookup(given).name.startswith(("utf-16", "utf-32")):
+        return None
+    if found in MARKS.values():
+        return f"is {found.upper()} text, and not {given}; leave encoding= out" if given is not None else None
+    each = [data[first:BEGIN:2] for first in (0, 1)]
+    zeros = [half.count(0) for half in each]
+    for first, encoding in enumerate(("utf-16-be", "utf-16-le")):
+        if 4 * zeros[first] > len(each[first]) and not zeros[1 - first]:
+            return f"is UTF-16 text without a mark; encoding={encoding!r} reads it"
+    return None
+
+
 class Run(NamedTuple):
     """Records that follow each other, where their quotes stand, and whether it ends where a record does for certain."""
 
@@ -168,13 +206,21 @@ class Runs:
         line, end, self._rest = self._rest.partition(b"\n")
         return line + end
 
+    def ahead(self, size: int) -> bytes:
+        """Returns the whole lines among the next bytes, so many at most, which stay to be read."""
+        while len(self._rest) < size and self._more():
+            pass
+        text = self._rest[:size]
+        is_all = self._is_end and len(text) == len(self._rest)
+        return text if is_all else text[: text.rfind(b"\n") + 1]
+
     def next(self, size: int) -> Run:
         """Returns a run of about so many bytes, and an empty one at the end."""
         while len(self._rest) < size and self._more(size - len(self._rest)):
             pass
         while True:
             text = self._rest[:size]
-            quotes = _places(text, self._quote)
+            quotes = places_of(text, self._quote)
             cut = self._cut(text, quotes)
             if cut or size >= len(self._rest) and (self._is_end or size > LONGEST):
                 return self._run(cut or len(self._rest), quotes)
@@ -199,7 +245,7 @@ class Runs:
             return len(text)
         if not len(quotes):
             return text.rfind(b"\n") + 1
-        ends = _places(text, b"\n")
+        ends = places_of(text, b"\n")
         ends = ends[np.searchsorted(quotes, ends) & 1 == 0]
         return int(ends[-1]) + 1 if len(ends) else 0
 
@@ -222,7 +268,8 @@ class Runs:
         return bool((np.isin(before, ends) | doubled[:-1]).all() and (np.isin(after, ends) | doubled[1:]).all())
 
 
-def _places(text: bytes, byte: bytes) -> np.ndarray:
+def places_of(text: bytes, byte: bytes) -> np.ndarray:
+    """Returns where a byte stands in a text."""
     if not byte or byte not in text:
         return np.zeros(0, np.int64)
     return np.flatnonzero(np.frombuffer(text, np.uint8) == byte[0])

@@ -18,6 +18,8 @@ from .values import Values
 
 # How many places of decimals are tried for floats, and how many different texts a column may have.
 MAX_PLACES, MAX_TEXTS = 6, 1024
+# What helps where decimals have too many digits.
+ROUNDS = "; round= rounds its column"
 # The kind of a column, None where all of it is null, and the numbers that stand for its values.
 Narrowed = Tuple[Optional[Kind], np.ndarray]
 
@@ -212,5 +214,8 @@ def recode(found: np.ndarray, valid: np.ndarray, old: Optional[Kind], new: Optio
         return np.where(valid, np.array([new.places[text] for text in old.values], np.int64)[found], 0)
     factor = factor_of(old, new)
     most = (2**63 - 1) // factor
-    first_misfit((found > most) | (found < -most), found, f"leaves 63 bits as one of {new}")
+    if len(far := np.flatnonzero((found > most) | (found < -most))):
+        row = int(far[0])
+        value, more = old.decode(int(found[row])), ROUNDS if isinstance(new, Decimals) else ""
+        raise Misfit(row, value, f"{value} leaves 63 bits as one of {new}{more}")
     return found * factor

@@ -3,10 +3,11 @@
 from __future__ import annotations
 
 from collections import Counter
-from typing import Any, Dict, List, NamedTuple, Optional, Sequence, Tuple
+from typing import Any, Callable, Dict, List, NamedTuple, Optional, Sequence, Tuple
 
 import numpy as np
 
+from .blanks import BlankLines, tabbed
 from .fields import Fields, Lines, Records, read_each, split
 from .files import Run
 from .kinds import Kind
@@ -14,13 +15,17 @@ from .packing import Packed, all_of, packed
 from .spelling import Options, Reader, TextReader, reader_for
 
 
+# Rows of which a field is not read, each with its text and why.
+Misread = Dict[int, Tuple[str, str]]
+
+
 class Piece(NamedTuple):
-    """Fields of a column in a run: their kind and numbers, and which are not read with their texts; or the fields
-    themselves, where nothing said before how the column is read."""
+    """Fields of a column in a run: their kind and numbers, and which are not read; or the fields themselves, where
+    nothing said before how the column is read."""
 
     packed: Packed
     kind: Optional[Kind] = None
-    bad: Dict[int, Tuple[str, str]] = {}
+    bad: Misread = {}
     fields: Optional[Fields] = None
 
 
@@ -76,18 +81,27 @@ class ColumnReader:
 
 
 class RunReader(NamedTuple):
-    """How runs are read: the fields of a record, the delimiter and the quote, the words for the module csv, and the
-    columns that are wanted."""
+    """How runs are read: the fields of a record, the delimiter and the quote, the words for the module csv, whether any
+    run of blanks stands for the delimiter, and the columns that are wanted."""
 
     width: int
     marks: Tuple[bytes, bytes]
     dialect: Dict[str, Any]
+    by_blanks: bool
     columns: List[ColumnReader]
 
     def read(self, run: Run, wanted: Sequence[bool]) -> Pieces:
         """Reads a run of whole records."""
-        records = split(run, self.width, *self.marks)
-        return self.pieces(records or self.each(Lines(run.text, bytes)), wanted)
+        return self.pieces(self.records(run), wanted)
+
+    def records(self, run: Run) -> Records:
+        """Returns the records of a run that is whole."""
+        run = tabbed(run, self.marks[1]) if self.by_blanks else run
+        return split(run, self.width, *self.marks) or self.each(self.lines(run.text, bytes))
+
+    def lines(self, text: bytes, more: Callable[[], bytes]) -> Lines:
+        """Returns the lines of a text, and of those behind it where a record goes on there."""
+        return BlankLines(text, more, self.dialect["quotechar"] or "") if self.by_blanks else Lines(text, more)
 
     def each(self, lines: Lines) -> Records:
         """Reads lines one by one."""

@@ -6,9 +6,8 @@ its line. Runs of records are turned into numbers as they are read, by columns, 
 
 from __future__ import annotations
 
-import csv
 from collections import deque
-from contextlib import contextmanager
+from contextlib import contextmanager, suppress
 from typing import Any, Callable, Collection, Deque, Dict, Iterable, Iterator, List, Mapping, NamedTuple, Optional
 from typing import Set, Tuple, Type, Union
 
@@ -16,17 +15,20 @@ import numpy as np
 
 from .choosing import Chosen, PackedBlock, Wishes, by_column, misfits, refuse_no_kind, settled, wanted_of
 from .errors import BadColumns, BadRow, Error, Skipped, several
-from .fields import Lines, Records
+from .fields import Fields, Records
 from .files import Path, Run, Runs, Source, name_of, opened, size_of
 from .forms import Form
 from .index import Index
-from .kinds import FAR, Kind, Texts, Whole
-from .narrowing import too_many_texts
+from .kinds import FAR, Kind, Texts, Whole, shown
+from .layout import BLANK, INFER, Head, Layout, between_blanks, odd_width, other_layout, read_head, titles_in
+from .narrowing import ROUNDS, too_many_texts
 from .packing import Packed, Room, all_of, packed
 from .parts import Parts, refuse_no_parts
-from .pieces import ColumnReader, Piece, RunReader
+from .pieces import ColumnReader, Misread, Pieces, RunReader
 from .progress import Progress, told
-from .spelling import THOUSANDS, Bad, Meaning, Options, Reader, TextReader, misread
+from .reach import Reach, first_past, reach_at, reach_of
+from .spelling import NOTHING, THOUSANDS, Bad, Meaning, NumberReader, Options, Reader, TextReader
+from .spelling import decimal_in, is_like_number, misread
 from .processes import Answers, Processes
 
 # How many bytes say what columns hold, how many are read at once of four columns, and up to how many columns these are
@@ -51,6 +53,8 @@ def read_csv(
     bad: str = "refuse",
     delimiter: Optional[str] = None,
     quotechar: Optional[str] = '"',
+    header: Union[int, str, None] = INFER,
+    names: Optional[Iterable[str]] = None,
     skiprows: int = 0,
     encoding: Optional[str] = None,
     spare: int = 0,
@@ -59,15 +63,19 @@ def read_csv(
     progress: Progress = None,
 ) -> Union[Index, Parts]:
     """Makes an index of CSV files with one header, and chooses kinds, widths and offsets from their fields. `repr` of the
-    index shows the choice.
+    index shows the choice. If two titles are `x`, the second is `x_2`.
 
     `columns`: the columns to read; without it all but those of `drop`.
     `kinds`, `forms`: override the choice (`Texts` stores a column of codes as text).
     `nulls`: the fields that are nulls.
     `decimal`, `thousands`: the decimal sign, and the sign between groups of three digits (" " for blanks of any width).
     `dates`: the format of dates, as for strptime, also by column.
-    `round`: decimals of more places are rounded to this number of places.
+    `round`: decimals of more places are rounded to this number of places, also by column.
     `bad="skip"`: leaves out rows that can't be stored and lists them in `skipped`; otherwise they raise BadRow.
+    `delimiter`: the sign between fields; " " is any run of blanks, and those at the ends of a line do not count.
+    `header=None`: the files have no header; then `names` are the titles, by default column_1, column_2 and so on. As in
+    pandas, `names` alone means this too, and with `header=0` they replace a header.
+    `skiprows`: how many lines before the header, or the first row, are left out.
     `spare`: reserves this number of extra bits for each column.
     `parts`: splits rows over this number of indexes; as many processes read a large file, at most one a processor.
     """
@@ -75,7 +83,7 @@ def read_csv(
         raise ValueError(f"bad is 'refuse' or 'skip', and not {bad!r}")
     refuse_no_parts(parts)
     asked = _Asked(columns, drop, kinds, forms, spare, _options(nulls, decimal, thousands), dates, round)
-    layout = _layout(delimiter, quotechar, skiprows, encoding)
+    layout = Layout(delimiter, quotechar, skiprows, encoding, header, names).checked()
     with Processes(parts if parts > 1 else 0) as processes:
         reader = _Reader(asked, layout, bad == "skip", processes)
         reader.read_all(paths, progress)
@@ -110,6 +118,11 @@ class _Asked(NamedTuple):
     dates: Union[str, Mapping[str, str], None]
     round: Union[int, Mapping[str, int], None]
 
+    def titles(self) -> List[Any]:
+        """Returns the titles of columns that the caller names in lists and dicts."""
+        given = ([self.columns] if isinstance(self.columns, str) else self.columns, self.drop, self.kinds, self.forms)
+        return [title for each in given if isinstance(each, (list, tuple, Mapping)) for title in each]
+
     def options_of(self, wishes: Wishes) -> Dict[str, Options]:
         """Returns what is said of the fields of each column."""
         dates = by_column("dates", "a form of strptime, as '%d.%m.%Y'", self.dates, wishes.names, str)
@@ -118,36 +131,6 @@ class _Asked(NamedTuple):
             name: self.options._replace(kind=kind, dates=form, round=places)
             for name, (kind, form, places) in said.items()
         }
-
-
-class _Layout(NamedTuple):
-    """What the caller says of the files."""
-
-    delimiter: Optional[str]
-    quote: Optional[str]
-    skipped: int
-    encoding: Optional[str]
-
-    @property
-    def dialect(self) -> Dict[str, Any]:
-        """The words for the module csv."""
-        quoting = {"quotechar": self.quote} if self.quote else {"quoting": csv.QUOTE_NONE, "quotechar": None}
-        return {"delimiter": self.delimiter or ",", **quoting}
-
-    @property
-    def marks(self) -> Tuple[bytes, bytes]:
-        """The delimiter and the quote in UTF-8."""
-        return (self.delimiter or ",").encode(), (self.quote or "").encode()
-
-
-def _layout(delimiter: Optional[str], quote: Optional[str], skipped: int, encoding: Optional[str]) -> _Layout:
-    """Returns what is said of the files. Refuses a sign that is none."""
-    for what, sign in (("delimiter", delimiter), ("quotechar", quote)):
-        if sign and (not isinstance(sign, str) or len(sign) != 1 or sign in "\r\n\0"):
-            raise ValueError(f"{what} is one character, and no end of a line, and not {sign!r}")
-    if not isinstance(skipped, int) or isinstance(skipped, bool) or skipped < 0:
-        raise ValueError(f"skiprows is a number of lines, and not {skipped!r}")
-    return _Layout(delimiter, quote, skipped, encoding)
 
 
 def _listed(paths: Any) -> List[Path]:
@@ -198,6 +181,9 @@ class _Column:
         self.blocks: List[PackedBlock] = []
         self.refusal: Optional[Error] = None
         self.form: Any = None
+        # From where to where its decimals go, and whether these are still read for that alone.
+        self.reach: Optional[Reach] = None
+        self.is_measured = False
 
     @property
     def reader(self) -> Optional[Reader]:
@@ -208,6 +194,38 @@ class _Column:
     def options(self) -> Options:
         """What is said of its fields."""
         return self.fields.options
+
+    @property
+    def is_read(self) -> bool:
+        """Whether its fields are still read."""
+        return self.refusal is None or self.is_measured
+
+    def refuse(self, why: BadRow) -> None:
+        """Refuses it. Where digits are too many, it is still read, as whole numbers, to tell how many would do."""
+        self.refusal, self.is_measured = why, why.reason.endswith(ROUNDS)
+        if self.is_measured:
+            self.fields.reader = NumberReader(self.options._replace(round=0))
+
+    def measure(self, block: PackedBlock, texts: Iterable[str]) -> None:
+        """Takes in how far the numbers of a block go, and those of fields that do not fit."""
+        reaches = [reach_of(block.kind, block.ends, self.is_measured)]
+        for text in texts:
+            with suppress(ValueError):
+                reaches.append(reach_at(decimal_in(text, self.options)))
+        for reach in filter(None, reaches):
+            self.reach = reach.joined(self.reach)
+
+    def told(self) -> Error:
+        """Returns why it is refused, and with how many places it is not where its digits are too many."""
+        why = self.refusal
+        assert why is not None
+        if not isinstance(why, BadRow) or not why.reason.endswith(ROUNDS):
+            return why
+        for block in self.blocks if self.reach is None else ():
+            self.measure(block, ())
+        places = self.reach.most_places() if self.reach else None
+        more = "; kinds= with Texts stores it" if places is None else ROUNDS.replace("=", f"={places}")
+        return why.because(why.reason.removesuffix(ROUNDS) + more)
 
     def meaning(self) -> Tuple[Optional[Meaning], Bad, bool]:
         """Returns what the places of texts represent, which of them are nulls, and whether the column is
@@ -243,12 +261,19 @@ def _as_text(source: Source) -> Iterator[None]:
         raise source.no_text(why) from None
 
 
+def _is_title(why: Error) -> bool:
+    """Returns whether a refusal is of a field in the first row that may be a title."""
+    is_first = isinstance(why, BadRow) and why.row == 0 and isinstance(why.value, str)
+    return is_first and why.value.lower() not in NOTHING and not is_like_number(why.value)
+
+
 class _Reader:
     """What has been read of the files: their header, and the blocks of each wanted column."""
 
-    def __init__(self, asked: _Asked, layout: _Layout, skips: bool, processes: Processes):
+    def __init__(self, asked: _Asked, layout: Layout, skips: bool, processes: Processes):
         self._asked, self._layout, self._skips, self._processes = asked, layout, skips, processes
         self._header: List[str] = []
+        self._titles: List[str] = []
         self._columns: List[_Column] = []
         # (runs that have been begun, and where a answers of a process are)
         self._waiting: Deque[Tuple[Run, Optional[Answers]]] = deque()
@@ -276,9 +301,9 @@ class _Reader:
         """Reads a file, and keeps the numbers of its wanted columns."""
         name = name_of(path)
         with opened(path, self._layout.encoding) as source:
-            runs = Runs(source, *self._layout.marks)
+            runs = Runs(source, *self._layout.separators)
             with _as_text(source):
-                self._line = self._head(runs, name)
+                self._line = self._begin(runs, name)
             while (run := self._next(runs, source, name)).text:
                 self._start(run, runs, source, name)
                 tell(self._bytes + source.place())
@@ -288,7 +313,7 @@ class _Reader:
 
     def _next(self, runs: Runs, source: Source, name: str) -> Run:
         """Returns the next run. Where it can't be had, what came before is told first."""
-        size = min(WIDE, max(4, len(self._header))) * RUN // 4
+        size = min(WIDE, max(4, len(self._titles))) * RUN // 4
         try:
             return runs.next(size if self._count else FIRST)
         except Exception:
@@ -302,41 +327,44 @@ class _Reader:
             with _as_text(source):
                 answer = None if answers is None else answers.get()
                 read = self._runs.read(run, self._wanted()) if answer is None else answer.joined(self._runs.columns)
-            self._keep(*read, name)
+            self._keep(read, name, lambda place: self._runs.records(run).column(place))
 
-    def _head(self, runs: Runs, name: str) -> int:
-        """Reads the header, and returns the line behind it."""
-        for _ in range(self._layout.skipped):
+    def _begin(self, runs: Runs, name: str) -> int:
+        """Reads the header of a file, if it has one, and returns the line behind it."""
+        layout = self._layout
+        for _ in range(layout.skipped):
             runs.line()
-        lines = iter(lambda: runs.line().decode("utf-8", "surrogatepass"), "")
-        reader = csv.reader(lines, strict=True, **self._layout.dialect)
-        try:
-            header = next((record for record in reader if record), [])
-        except csv.Error as why:
-            raise BadColumns(f"{name}: line {self._layout.skipped + reader.line_num}: {why}") from None
-        if not header:
-            raise BadColumns(f"{name}: there is no header")
-        if not self._header:
-            self._choose(header, name)
-        elif header != self._header:
-            raise BadColumns(f"{name}: its header is {header}, and that of the first file {self._header}")
-        return self._layout.skipped + reader.line_num + 1
+        if not self._titles and self._asked.options.thousands != BLANK:
+            self._refuse_other(between_blanks(runs.ahead(FIRST), layout, self._asked.titles()), name)
+        head = read_head(runs, layout, name)
+        if not head.fields and (layout.has_header or not (layout.names or self._titles)):
+            raise BadColumns(f"{name}: there is no {'header' if layout.has_header else 'row'}")
+        if not self._titles:
+            self._choose(head, name)
+        elif layout.has_header and head.fields != self._header:
+            raise BadColumns(f"{name}: its header is {head.fields}, and that of the first file {self._header}")
+        if not layout.has_header:
+            runs.back(head.text)
+        return layout.skipped + 1 + (head.lines if layout.has_header else 0)
 
-    def _choose(self, header: List[str], name: str) -> None:
+    def _refuse_other(self, reason: Optional[str], name: str) -> None:
+        """Refuses a file that shows another layout, for this reason."""
+        if reason is not None:
+            raise BadColumns(f"{name}: {reason}")
+
+    def _choose(self, head: Head, name: str) -> None:
         """Takes the header of the first file, and what is said of its columns."""
-        other = next((mark for mark in ";\t|" if mark in header[0]), None)
-        if len(header) == 1 and other and self._layout.delimiter is None:
-            raise BadColumns(f"{name}: its header is one field, {header[0]!r}; delimiter={other!r} splits it")
-        self._header = header
-        wanted = wanted_of(self._asked.columns, header, self._asked.drop)
-        asked = self._asked
+        layout, asked = self._layout, self._asked
+        self._refuse_other(other_layout(head, layout, asked.titles()), name)
+        self._header, self._titles = head.fields, titles_in(head, layout)
+        wanted = wanted_of(asked.columns, self._titles, asked.drop)
         self._wishes = Wishes(wanted, asked.kinds, asked.forms, asked.spare, asked.round)
         for column, options in asked.options_of(self._wishes).items():
             if options.kind is not None and options.kind is not Texts:
                 refuse_no_kind(column, options.kind)
-            self._columns.append(_Column(column, ColumnReader(header.index(column), options)))
+            self._columns.append(_Column(column, ColumnReader(self._titles.index(column), options)))
         fields = [column.fields for column in self._columns]
-        self._runs = RunReader(len(header), self._layout.marks, self._layout.dialect, fields)
+        self._runs = RunReader(len(self._titles), layout.marks, layout.dialect, layout.by_blanks, fields)
 
     # ---- Runs ----
 
@@ -350,33 +378,34 @@ class _Reader:
             return
         self._keep_all(source, name)
         with _as_text(source):
-            lines = Lines(run.text, lambda: runs.next(RUN).text)
+            lines = self._runs.lines(run.text, lambda: runs.next(RUN).text)
             records = self._runs.each(lines)
             runs.back(lines.rest())
-        self._keep(*self._runs.pieces(records, self._wanted()), name)
+        self._keep(self._runs.pieces(records, self._wanted()), name, records.column)
 
     def _wanted(self) -> List[bool]:
-        """Returns which of the columns are not refused."""
-        return [column.refusal is None for column in self._columns]
+        """Returns which of the columns are still read."""
+        return [column.is_read for column in self._columns]
 
-    def _keep(self, records: Records, pieces: List[Optional[Piece]], name: str) -> None:
-        """Keeps the numbers of a run, or refuses what does not fit."""
+    def _keep(self, read: Pieces, name: str, fields: Callable[[int], Fields]) -> None:
+        """Keeps the numbers of a run, or refuses what does not fit. A function gives the fields of a column."""
+        records, pieces = read
         rows = _Rows.of(name, self._count, self._line, records.places)
         self._last.append([piece.packed for piece in pieces if piece is not None])
         self._refuse_odd(records, name)
         left: Dict[int, BadRow] = {}
         for column, piece in zip(self._columns, pieces):
-            if piece is None or column.refusal:
+            if piece is None or not column.is_read:
                 continue
             if piece.fields is not None:
                 piece = column.fields.piece(piece.fields) if column.reader else column.fields.choose(piece.fields)
             moved = self._room.moved(piece.packed)
             column.blocks.append(PackedBlock(piece.kind, moved, self._count, moved.ends))
+            if not self._skips:
+                self._refuse_first(column, piece.bad, rows, fields)
+                continue
             for row, (text, reason) in piece.bad.items():
                 left.setdefault(row, rows.bad(column.name, row, text, reason))
-                if not self._skips:
-                    column.refusal = rows.bad(column.name, row, text, reason)
-                    break
         self._rows.append(rows)
         self._count, self._line = self._count + records.rows, self._line + records.lines
         if self._skips:
@@ -384,14 +413,29 @@ class _Reader:
         for column in self._columns:
             self._refuse_many_texts(column)
 
+    def _refuse_first(self, column: _Column, bad: Misread, rows: _Rows, fields: Callable[[int], Fields]) -> None:
+        """Refuses a column by its first field in a run that does not fit, or that does not fit beside those before."""
+        before = column.reach
+        column.measure(column.blocks[-1], (text for text, _ in bad.values()))
+        if column.refusal:
+            return
+        for row, (text, reason) in bad.items():
+            column.refuse(rows.bad(column.name, row, text, reason))
+            return
+        if column.options.kind is None and column.reach and column.reach.places and not column.reach.fits():
+            row, text, places = first_past(before, fields(column.fields.place), column.options)
+            reason = f"{shown(text)} and those before it are past 63 bits at {places} decimal places{ROUNDS}"
+            column.refuse(rows.bad(column.name, row, text, reason))
+
     def _refuse_odd(self, records: Records, name: str) -> None:
-        """Refuses the records that have another width than the header, or leaves them out."""
+        """Refuses the records that have more or fewer fields than there are titles, or leaves them out."""
         if records.broken is not None:
             line, reason = records.broken
             raise BadColumns(f"{name}: line {self._line - 1 + line}: {reason}")
         for row, place, width in records.odd:
-            text = f"row {self._count + row} (line {self._line + place} of {name}) has {width} fields"
-            why = BadColumns(f"{text}, and the header {len(self._header)}")
+            before = self._line - 1 if self._count + row == 0 else None
+            reason = odd_width(width, len(self._titles), self._layout, before)
+            why = BadColumns(f"row {self._count + row} (line {self._line + place} of {name}) {reason}")
             if not self._skips:
                 raise why
             self.skipped.add(why)
@@ -451,8 +495,20 @@ class _Reader:
         return Chosen({one.name: one.form for one in columns}, [one.blocks for one in columns])
 
     def _refuse(self) -> None:
-        if refusals := [column.refusal for column in self._columns if column.refusal]:
-            raise several(refusals)
+        """Raises why columns are refused, if some are."""
+        refusals = [column.told() for column in self._columns if column.refusal]
+        if refusals:
+            hint = self._hint(refusals)
+            raise several([why.because(why.reason + hint) if _is_title(why) else why for why in refusals])
+
+    def _hint(self, refusals: List[Error]) -> str:
+        """Returns what to say if the first row, with titles in it, is the header."""
+        if self._layout.names is not None and self._layout.header == INFER:
+            return "; header=0 if that line is the header"
+        if self._layout.has_header and 1 < len(self._columns) == sum(map(_is_title, refusals)):
+            first = self._rows[0]
+            return f"; skiprows={first.line + int(first.lines(1)[0]) - 1} if that line is the header"
+        return ""
 
     def _placed(self, why: BadRow) -> BadRow:
         """Returns a refusal with the line of its row."""

@@ -19,7 +19,7 @@ from .digits import DIGITS, POWERS, Numbers, moments_of, numbers_of, ungrouped
 from .distinct import Distinct
 from .fields import Fields, fields_of
 from .kinds import NANOSECONDS, NUMBER, UNITS, Decimals, Flags, Kind, Texts, Times, Whole, shown
-from .narrowing import MAX_TEXTS
+from .narrowing import MAX_TEXTS, ROUNDS
 
 # What files write for nothing. Such a field is a null where `nulls` has it.
 NOTHING = {"na", "n/a", "#n/a", "<na>", "nan", "-nan", "null", "none", "nil", "-", "--", ".", "?", "missing", "(null)"}
@@ -98,7 +98,7 @@ def _sign_of(grouped: Any) -> str:
 def _hint(text: str, options: Options) -> str:
     """Returns how a text could be read that looks like a number."""
     if mark := MARK.search(text):
-        return f"; take the {mark[0].strip()!r} out, or kinds= with Texts stores it" if _is_like_number(text) else ""
+        return f"; take the {mark[0].strip()!r} out, or kinds= with Texts stores it" if is_like_number(text) else ""
     other = {".": ",", ",": "."}[options.decimal]
     if found := GROUPED.fullmatch(text):
         sign = _sign_of(found)
@@ -131,8 +131,15 @@ class NumberReader:
             try:
                 numbers[row] = kind.number(number)
             except (ValueError, ArithmeticError) as why:
-                bad[row] = f"{shown(str(number))} is past 63 bits" if isinstance(why, OverflowError) else str(why)
+                text, is_long = _text(fields, row), isinstance(why, OverflowError) or getattr(kind, "rounded", False)
+                bad[row] = self._too_long(text, kind) if is_long else f"{shown(text)} {kind.unfit}"
         return Read(kind, numbers, bad)
+
+    def _too_long(self, text: str, kind: Kind) -> str:
+        """Returns what is wrong with a number that is past 63 bits under a kind."""
+        places = getattr(kind, "places", 0)
+        at = f" at {places} decimal places{'' if self._given else ROUNDS}" if places else ""
+        return f"{shown(text)} is past 63 bits{at}"
 
     def _found(self, fields: Fields) -> Numbers:
         """Returns the numbers of the fields that are spelt as nearly all are."""
@@ -152,13 +159,17 @@ class NumberReader:
         bad: Bad = {}
         for row, text in zip(rows.tolist(), fields.taken(rows).texts()):
             try:
-                number = exact_number(text, self._options)
-                if self._given is None and self._options.round is not None:
-                    number = Decimals(self._options.round).decode(Decimals(self._options.round, True).number(number))
-                exact[row] = number
+                exact[row] = self._rounded(exact_number(text, self._options))
             except (ValueError, ArithmeticError) as why:
                 bad[row] = told(text, str(why), self._options.nulls)
         return exact, bad
+
+    def _rounded(self, number: Decimal) -> Decimal:
+        """Returns a number that is rounded if it has more places than is said."""
+        places = self._options.round
+        if self._given or places is None or number.as_tuple().exponent >= -places:  # type: ignore[operator]
+            return number
+        return Decimals(places).decode(Decimals(places, rounded=True).number(number))
 
     def _scaled(
         self, mantissas: np.ndarray, places: np.ndarray, is_read: np.ndarray, kind: Kind, bad: Bad, fields: Fields
@@ -181,9 +192,8 @@ class NumberReader:
             numbers = np.where(numbers < 0, -whole, whole)
             wrong |= is_read & (rest != 0)
         for row in np.flatnonzero(wrong).tolist():
-            text = fields.taken([row]).texts()[0]
-            unfit = getattr(kind, "unfit", "") if more[row] < 0 else f"is past 63 bits at {wanted} decimal places"
-            bad[row] = f"{shown(text)} {unfit}"
+            text = _text(fields, row)
+            bad[row] = f"{shown(text)} {getattr(kind, 'unfit', '')}" if more[row] < 0 else self._too_long(text, kind)
         return np.where(is_read, numbers, 0)
 
 
@@ -196,7 +206,7 @@ def exact_number(text: str, options: Options) -> Decimal:
         code = f"number without the {needless} before it, which a code may need"
         raise ValueError(f"{shown(text)} is no {code}; give the column's kind, as Texts or Whole()")
     if options.kind is None and options.round is None and number.as_tuple().exponent < -DIGITS:  # type: ignore
-        raise ValueError(f"{shown(text)} has more than {DIGITS} decimal places")
+        raise ValueError(f"{shown(text)} has more than {DIGITS} decimal places{ROUNDS}")
     if options.kind is None and not LEAST <= number <= MOST:
         raise ValueError(f"{shown(text)} is past 63 bits")
     return number
@@ -396,10 +406,10 @@ def _look(text: str, options: Options) -> str:
             return "form"
         except ValueError:
             pass
-    return "number" if _is_like_number(text) else "date" if is_date(text) else "text"
+    return "number" if is_like_number(text) else "date" if is_date(text) else "text"
 
 
-def _is_like_number(text: str) -> bool:
+def is_like_number(text: str) -> bool:
     """Returns whether a text looks like a number, in whatever way it is written."""
     bare = MARK.sub("", text, count=1).removeprefix("+")
     is_grouped = GROUPED.fullmatch(bare) and not ADDRESS.fullmatch(bare)

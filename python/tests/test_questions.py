@@ -233,6 +233,11 @@ def test_the_command_takes_what_read_csv_takes(tmp_path):
     path.write_text("n;x\n1.234,50;0,0000000\n2.000;0,0000001\n")
     words = ["--delimiter", ";", "--decimal", ",", "--thousands", "."]
     assert run(str(path), *words, "sum n", "least x").stdout.splitlines()[-2:] == ["3234.50", "0.0000000"]
+    path.write_text("5  1\n 6 2\n")
+    words = ["--delimiter", " ", "--header", "none"]
+    assert run(str(path), *words, "sum column_1").stdout.splitlines()[-1] == "11"
+    assert run(str(path), *words, "--names", "a,b", "sum b").stdout.splitlines()[-1] == "3"
+    assert run(str(path), *words[:2], "--header", "0", "--names", "a,b", "sum b").stdout.splitlines()[-1] == "2"
     assert run("--version").stdout == f"bsi {bsi.__version__}\n" and bsi.__version__[0].isdigit()
 
 

@@ -141,7 +141,7 @@ def test_what_cannot_be_kept_is_named(write, fields, row, why):
         (b"", "there is no header"),
         (b"a,b\n1\n", r"row 0 \(line 2 of .*\) has 1 fields, and the header 2"),
         (b"a,b\n1,2\n1,2,3\n", r"row 1 \(line 3 of .*\) has 3 fields"),
-        (b"a,a\n1,2\n", "'a' is there twice"),
+        (b"a,a,a_2\n1,2,3\n", "'a_2' is there twice"),
         (b"a\n\xff\n", "no UTF-8 text .*; name its encoding"),
         (b'a\n"1\n', "unexpected end of data"),
         (b'a\n"1"2\n', "expected after"),
