@@ -1,0 +1,3 @@
+pub mod Both
+pub mod Joining
+pub mod Shown
