@@ -1,5 +1,5 @@
 -- The lines of a record over the columns that it names are those over all.
-use Rattle.std.proofs.Common.{◌≡◌, ◌↔◌, ◌<◌, ◌++◌, ℕ, suc, false, List, [], ◌∷◌, Option, Some, None, length, map, refl, sym, ap, ap₂, subst, ◌∙◌, inl, inr, arith}
+use Rattle.std.proofs.Common.{◌≡◌, ◌↔◌, ◌<◌, ◌++◌, ℕ, suc, false, List, [], ◌∷◌, Some, None, length, map, refl, sym, ap, ap₂, subst, ◌∙◌, inl, inr, arith}
 use Rattle.std.specs.Prelude.{if◌then◌else◌, nat_eq, nat_le, option_and_then, All, Contains}
 use Rattle.std.proofs.lemmas.Bool.Decides.{nat_tests}
 use Rattle.std.proofs.lemmas.List.{length-map}
@@ -25,7 +25,7 @@ use Rattle.bsi_syntax.specs.declared.grammar.Grammar.{Grammar}
 use Rattle.bsi_aggregates.specs.QuestionReplies.{IsGroupReply, IsQuestionReply}
 use Rattle.bsi_aggregates.specs.declared.answering.QuestionReply.{QuestionReply}
 use Rattle.bsi_aggregates.specs.declared.answering.QuestionReply.TheVariants as reply
-use Rattle.bsi_answers.specs.AskLines.{Asks, AsksNothing, IsAskLineBy, IsQuestionLine}
+use Rattle.bsi_answers.specs.AskLines.{IsAskLineBy, IsQuestionLine}
 use Rattle.bsi_answers.specs.ReplyLines.{total_column, IsGroupsLine, IsReplyLine}
 use Rattle.bsi_chosen.specs.Chosen.{chosen_rows, chosen_schema, place_in, renumbered, renumbered_query, renumbered_total, Shows}
 use Rattle.bsi_chosen.specs.Words.{chosen_texts, chosen_words, place_among, AreChosen}

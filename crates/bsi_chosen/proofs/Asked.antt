@@ -1,5 +1,5 @@
 -- What fields ask by the words of one vocabulary, and by those of another that names the same columns by other numbers.
-use Rattle.std.proofs.Common.{◌≡◌, ◌≢◌, ◌||◌, ◌<◌, ◌≤◌, ℕ, zero, suc, Bool, true, false, List, [], ◌∷◌, ◌++◌, Option, Some, None, ℤ, length, map, refl, sym, ap, ap₂, subst, ◌∙◌, inl, inr, arith, Global, Vec}
+use Rattle.std.proofs.Common.{◌≡◌, ◌||◌, ℕ, Bool, true, false, List, [], ◌∷◌, ◌++◌, Option, Some, None, ℤ, length, map, refl, sym, ap, ap₂, subst, ◌∙◌, arith, Global, Vec}
 use Rattle.std.specs.Prelude.{if◌then◌else◌, codes, option_map, option_and_then, All, Contains, MatchOption}
 use Rattle.std.specs.Str.{bytes_eq}
 use Rattle.std.proofs.lemmas.List.{length-map}
@@ -15,8 +15,8 @@ use Rattle.bsi_rows.specs.declared.question.Question.{Question}
 use Rattle.bsi_rows.specs.declared.question.Question.TheVariants as question
 use Rattle.bsi_syntax.specs.Events.{checked_total, column_total, named_total, total_of, total_of_column}
 use Rattle.bsi_syntax.specs.Numbers.{spelled_number}
-use Rattle.bsi_syntax.specs.Predicates.{compares_columns, sign_of, IsPlainPredicate, IsPredicate, Spells}
-use Rattle.bsi_syntax.specs.Questions.{asked_total, extreme_word, rank_total, total_in, AreByColumns, IsPredicateIn, IsQuestion, IsQueryIn}
+use Rattle.bsi_syntax.specs.Predicates.{compares_columns, sign_of, IsPredicate, Spells}
+use Rattle.bsi_syntax.specs.Questions.{extreme_word, rank_total, total_in, AreByColumns, IsPredicateIn, IsQuestion, IsQueryIn}
 use Rattle.bsi_syntax.specs.Reading.{first_as}
 use Rattle.bsi_syntax.specs.Vocabularies.{Words}
 use Rattle.bsi_syntax.specs.declared.grammar.Grammar.{Grammar}
@@ -353,9 +353,9 @@ module _ (by : ℕ → ℕ) (first second : Words) (fields : List Field) (stand 
       let there = total-in-by grammar part (total, rest) among found in
       let pred = predicate-in grammar rest query.pred there.2 asked.1 in (
         subst (λ (o : Option (Total × List Field)). MatchOption o ⊥ (λ (t, behind). (renumbered_total by query.total ≡ t) × IsPredicateIn grammar second behind (renumbered by query.pred)))
-        (sym there.0) (ap (renumbered_total by) asked.0, pred.0),
+            (sym there.0) (ap (renumbered_total by) asked.0, pred.0),
         All-append (IsNamed first fields) (columns_of_total query.total) (columns_of_pred query.pred)
-        (subst (λ (t : Total). AreNamed (columns_of_total t)) (sym asked.0) there.1) pred.1,
+            (subst (λ (t : Total). AreNamed (columns_of_total t)) (sym asked.0) there.1) pred.1,
       )
 
   query-by : (grammar : Grammar) (part : List Field) (query : Query) → Among part → IsQueryIn grammar first part query → HasQuery grammar part query

@@ -55,7 +55,6 @@ module _ {X : Type 0} (d : X) where
   each (x ∷ xs) = ap (λ ys. x ∷ ys) (ap (map (λ r. get_or (x ∷ xs) r d)) (range_suc 0 (length xs)) ∙ later x xs (range_with_len 0 (length xs)) ∙ each xs)
 
 module _ (pred : Pred) where
-
   -- what stands at the positions
   rows-selected : (rows : List SourcedRow) → map (row_at rows) (selected pred rows) ≡ filter (λ row. holds pred row.1) rows
   rows-selected rows =

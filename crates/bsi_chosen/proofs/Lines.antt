@@ -1,6 +1,6 @@
 -- The lines of replies to questions over some columns are those over all.
-use Rattle.std.proofs.Common.{◌≡◌, ◌↔◌, ◌<◌, ℕ, suc, Bool, false, true, List, [], ◌∷◌, Option, Some, None, ℤ, length, map, get_or, refl, sym, ap, subst, ◌∙◌, arith}
-use Rattle.std.specs.Prelude.{All, Contains, Result, Ok, Err, codes}
+use Rattle.std.proofs.Common.{◌≡◌, ◌↔◌, ℕ, suc, Bool, false, true, List, [], ◌∷◌, Option, ℤ, length, map, get_or, refl, ap, ◌∙◌, arith}
+use Rattle.std.specs.Prelude.{All, Contains, Ok, Err, codes}
 use Rattle.std.specs.List.{items_where_true, AllZip}
 use Rattle.std.proofs.lemmas.List.{get_or-map, length-map}
 use Rattle.std.proofs.lemmas.List.Elements.{All-cons, All-contains, All-head, All-map, All-nil, All-tail}
@@ -210,14 +210,14 @@ module _ (by : ℕ → ℕ) (Of : NumberTexts) where
       → IsGroupsLine (λ c. Of (by c)) cs (total_column total) (Ok made) line ↔ IsGroupsLine Of (map by cs) (total_column (renumbered_total by total)) (Ok made) line
   groups-line total found cs rows made line are =
       let one : (group : Grouped) → Contains made.groups group → (text : Bytes)
-          → IsGroupText (λ c. Of (by c)) cs (total_column total) group text ↔ IsGroupText Of (map by cs) (total_column (renumbered_total by total)) group text =
+      → IsGroupText (λ c. Of (by c)) cs (total_column total) group text ↔ IsGroupText Of (map by cs) (total_column (renumbered_total by total)) group text =
       λ group has text. group-text total cs group (key-long found cs rows made.groups are.had group has)
       (suits-at total (rows_with found cs rows group.entries) rows group.answer
       (All-contains (λ (g : Grouped). IsTotalAt total (rows_with found cs rows g.entries) rows g.answer) made.groups group are.answers has)) text in (
         list-line (IsGroupText (λ c. Of (by c)) cs (total_column total)) (IsGroupText Of (map by cs) (total_column (renumbered_total by total))) (codes "groups") made.groups line
-        (λ group has text is. (one group has text).0 is),
+            (λ group has text is. (one group has text).0 is),
         list-line (IsGroupText Of (map by cs) (total_column (renumbered_total by total))) (IsGroupText (λ c. Of (by c)) cs (total_column total)) (codes "groups") made.groups line
-        (λ group has text is. (one group has text).1 is),
+            (λ group has text is. (one group has text).1 is),
       )
 
   -- a reply has the lines that it has as one to the renumbered question

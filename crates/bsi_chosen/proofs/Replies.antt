@@ -1,6 +1,6 @@
 -- The replies to questions over some columns are those over all.
-use Rattle.std.proofs.Common.{◌≡◌, ◌↔◌, ◌≤◌, ◌++◌, ℕ, Bool, false, true, List, [], ◌∷◌, Option, Some, None, ℤ, Global, Vec, length, map, refl, sym, ap, ap₂, subst, ◌∙◌, arith}
-use Rattle.std.specs.Prelude.{All, Contains, Result, Ok, Err, count_by}
+use Rattle.std.proofs.Common.{◌≡◌, ◌↔◌, ℕ, Bool, false, List, [], ◌∷◌, Option, Some, None, ℤ, Global, Vec, length, map, refl, sym, ap, ap₂, subst, ◌∙◌, arith}
+use Rattle.std.specs.Prelude.{All, Contains, Result, Ok, Err}
 use Rattle.std.specs.List.{items_where_true}
 use Rattle.std.specs.List.Sorted.{IsPermutation}
 use Rattle.std.specs.Ordering.{int_eq}
@@ -17,7 +17,6 @@ use Rattle.bsi_schema.specs.Columns.{entry_at, Declared, Entries}
 use Rattle.bsi_rows.specs.Answers.{missing_column, missing_of, CountsConjunction, IsConjunction, IsRows, IsValue}
 use Rattle.bsi_rows.specs.Numbering.{numbered_at, Origin}
 use Rattle.bsi_rows.specs.Rows.{column_of, holds, row_at, row_entries, SourcedRow}
-use Rattle.bsi_rows.specs.Shares.{Share}
 use Rattle.bsi_rows.specs.declared.errors.AskError.{AskError}
 use Rattle.bsi_rows.specs.declared.errors.AskError.TheVariants.{BadColumn, NoMemory}
 use Rattle.bsi_rows.specs.declared.query.Answer.{Answer}
@@ -153,9 +152,9 @@ module _ (by : ℕ → ℕ) (rows shown : List SourcedRow) (show : Shows by rows
       let found = selected_by (renumbered_query by query) rows in
       then (along (λ (some : List Bool). AreGroups query.total some cs shown groups) (selection-shown query.pred)) (
         groups-alike query.total (renumbered_total by query.total) found cs (map by cs) shown rows (keys-shown cs) (with-shown found cs)
-        (λ some answer. (total-at query.total some answer).0) groups,
+            (λ some answer. (total-at query.total some answer).0) groups,
         groups-alike (renumbered_total by query.total) query.total found (map by cs) cs rows shown (sym (keys-shown cs)) (λ entries. sym (with-shown found cs entries))
-        (λ some answer. (total-at query.total some answer).1) groups,
+            (λ some answer. (total-at query.total some answer).1) groups,
       )
 
   selected-keys-shown : (query : Query) (cs : List ℕ)
