@@ -204,7 +204,7 @@ fn decode_column<'a>(
 }
 
 /// Makes the list of the feeders of so many rows whose words these are, or none if they are those of no such feeders.
-fn decode_origins(
+pub(crate) fn decode_origins(
     alloc: Global,
     feeders: u32,
     rows: u64,
