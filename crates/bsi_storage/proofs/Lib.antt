@@ -9,6 +9,7 @@ mod HeadWords
 mod NoTables
 mod OneTable
 mod Openings
+mod PlacedColumns
 mod PlacedHeads
 mod RowCounts
 mod SegmentParts
