@@ -1,4 +1,5 @@
 pub mod BodyWords
+mod ChosenRows
 mod ColumnBitmaps
 mod ColumnHeads
 mod ColumnWords

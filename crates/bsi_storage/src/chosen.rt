@@ -95,6 +95,8 @@ fn read_origins<R: ReadAt>(
     requires declared { IsDeclared head.now.front.schema }
     ensures feeders { IfOk result (λ origins. origins.feeders ≡ head.now.front.sizes.feeders) }
     ensures len { IfOk result (λ origins. length origins.rows ≡ head.now.front.sizes.rows) }
+    ensures from { IfOk result (λ origins.
+        All (λ feeder. feeder < head.now.front.sizes.feeders) origins.rows) }
     ensures stands { IfOk result (λ origins. StandAt (R.all_bytes reader.now)
         (feeders_place head.now) (feeder_words head.now.front.sizes.feeders origins.rows)) }
 {
@@ -108,7 +110,11 @@ fn read_origins<R: ReadAt>(
     let mut place = At::new(reader, at);
     read_words(&mut place, count, &mut words)?;
     match decode_origins(alloc, sizes.feeders, sizes.rows, &words)? {
-        Some(origins) => Ok(origins),
+        Some(origins) => {
+            // Its clause says that each row came from one of the feeders.
+            let _ = origins.feeders();
+            Ok(origins)
+        }
         None => Err(OpenFault::Damaged),
     }
 }
