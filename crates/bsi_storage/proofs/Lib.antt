@@ -11,6 +11,7 @@ mod NoTables
 mod OneTable
 mod Openings
 mod PlacedColumns
+mod PlacedFaults
 mod PlacedHeads
 mod RowCounts
 mod SegmentParts

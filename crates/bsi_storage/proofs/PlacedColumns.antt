@@ -1,6 +1,6 @@
 -- The bitmaps and the feeders that stand in their places are those of the table whose segment begins there.
-use Rattle.std.proofs.Common.{◌≡◌, ℕ, zero, suc, ◌+◌, ◌-◌, ◌*◌, ◌<◌, ◌≤◌, ◌^◌, true, false, cond, All, List, [], ◌∷◌, ◌++◌, Option, Some, None, length, get_or, take, drop, inl, inr, refl, sym, ap, ap₂, subst, ◌∙◌, arith, append_assoc, append-nil, ext_get_or, length-append}
-use Rattle.std.specs.Prelude.{nat_eq, IfSome}
+use Rattle.std.proofs.Common.{◌≡◌, ℕ, zero, suc, ◌+◌, ◌-◌, ◌*◌, ◌<◌, ◌≤◌, ◌^◌, Bool, true, false, cond, All, List, [], ◌∷◌, ◌++◌, Option, Some, None, length, get_or, take, drop, inl, inr, refl, sym, ap, subst, ◌∙◌, arith, append_assoc, append-nil, ext_get_or, length-append}
+use Rattle.std.specs.Prelude.{nat_eq}
 use Rattle.std.specs.Int.{w64, to_le_bytes}
 use Rattle.std.specs.List.{flat_map}
 use Rattle.std.proofs.Math.Seq.{get_or-append_seam}
@@ -14,10 +14,11 @@ use Rattle.bsi_places.specs.Places.{known_from, StandAt}
 use Rattle.bsi_rows.specs.Rows.{column_of, feeders_of, SourcedRow}
 use Rattle.bsi_rows.specs.Table.{Table}
 use Rattle.bsi_schema.specs.Columns.{column_at, entry_at, Declared, Entries, IsForm, NamedColumn}
-use Rattle.bsi_segments.specs.Bitmaps.{packed}
-use Rattle.bsi_segments.specs.Bytes.{packed_bytes, AreBytes}
+use Rattle.bsi_segments.specs.Bitmaps.{packed, AreBitmaps}
+use Rattle.bsi_segments.specs.Bytes.{packed_bytes}
 use Rattle.bsi_segments.specs.Segments.{bytes_of, checksum_of, counted, AreWords}
 use Rattle.bsi_segments.specs.declared.version.Version.TheVariants.{Two}
+use Rattle.bsi_segments.proofs.Chunks.{length-all}
 use Rattle.bsi_segments.proofs.Eights.{length-bytes_of}
 use Rattle.bsi_segments.proofs.Padding.{same_bytes}
 use Rattle.bsi_segments.proofs.Unique.{same_words}
@@ -73,10 +74,10 @@ module _ (known : KnownBytes) (first : SegmentHead) (chosen : List ℕ) (old new
 
 -- ---- what stands at a place
 
-some-of : (x y : List ℕ) → Some x ≡ Some y → x ≡ y
+pub some-of : (x y : List ℕ) → Some x ≡ Some y → x ≡ y
 some-of x y same = cc
 
-not-some : (x : List ℕ) → ◌≡◌ {A = Option (List ℕ)} None (Some x) → ⊥
+pub not-some : (x : List ℕ) → ◌≡◌ {A = Option (List ℕ)} None (Some x) → ⊥
 not-some x same = cc
 
 -- words that stand behind others have the bytes that stand there
@@ -91,12 +92,10 @@ stands_as (Some bytes) at place front own rest words is here stands long =
     ∙ take_at own rest (8 * length words) (sym long)
 
 -- the words of bitmaps are words
-bits_fit : (column : NamedColumn) (entries : Entries) (n : ℕ) → IsForm column.form → length entries ≡ n → n ≤ 2 ^ 32 → AreWords (flat_map packed (entries_bitmaps column entries))
-bits_fit column entries n valid many few =
-    let bits = entries_bitmaps column entries in
-    let long = bitmaps_long column entries n many in
+bits_fit : (count n : ℕ) (bits : List (List Bool)) → AreBitmaps count n bits → count ≤ 2048 → n ≤ 2 ^ 32 → AreWords (flat_map packed bits)
+bits_fit count n bits long most few =
     let fit : Fit (2 ^ 38) (flat_map packed bits) =
-    wider (length bits * 2 ^ 27) (2 ^ 38) (flat_map packed bits) (omega (arith, long.many, few_bitmaps column.form valid))
+    wider (length bits * 2 ^ 27) (2 ^ 38) (flat_map packed bits) (omega (arith, long.many, most))
     (each_of (2 ^ 27) packed bits (All-from_get_or (λ b. Fit (2 ^ 27) (packed b)) bits [] (λ k inside.
     let this : length (get_or bits k []) ≡ n = long.each k (omega (arith, inside, long.many)) in
     wider (word_count (length (get_or bits k []))) (2 ^ 27) (packed (get_or bits k [])) (omega (arith, this, few)) (packed_fit (get_or bits k []))))) in
@@ -136,7 +135,7 @@ same_feeders feeders us vs few even us_are vs_are same = elim (cases_eq feeders 
       (sym (several feeders us apart) ∙ same ∙ several feeders vs apart)
 ]
 
-feeder_length : (feeders : ℕ) (us vs : List ℕ) → length us ≡ length vs → length (feeder_words feeders us) ≡ length (feeder_words feeders vs)
+pub feeder_length : (feeders : ℕ) (us vs : List ℕ) → length us ≡ length vs → length (feeder_words feeders us) ≡ length (feeder_words feeders vs)
 feeder_length feeders us vs even = elim (cases_eq feeders 1) [
   | inl one ↦
       let is : nat_eq feeders 1 ≡ true = grind (arith, nat_tests, one) in
@@ -153,7 +152,7 @@ feeder_length feeders us vs even = elim (cases_eq feeders 1) [
       )
 ]
 
-feeder_fit : (feeders : ℕ) (us : List ℕ) → feeders ≤ 64 → length us ≤ 2 ^ 32 → All (λ feeder. feeder < feeders) us → AreWords (feeder_words feeders us)
+pub feeder_fit : (feeders : ℕ) (us : List ℕ) → feeders ≤ 64 → length us ≤ 2 ^ 32 → All (λ feeder. feeder < feeders) us → AreWords (feeder_words feeders us)
 feeder_fit feeders us few short are = elim (cases_eq feeders 1) [
   | inl one ↦
       let is : nat_eq feeders 1 ≡ true = grind (arith, nat_tests, one) in
@@ -173,11 +172,11 @@ module _ (known : KnownBytes) (at : ℕ) (t : Table) (notes kinds : List ℕ) (b
   abbrev front : List ℕ
   front = bytes_of (counted Two (head t notes kinds))
 
-  front_long : length front ≡ 8 * (length (head t notes kinds) + 3)
+  pub front_long : length front ≡ 8 * (length (head t notes kinds) + 3)
   front_long =
       omega (arith, length-bytes_of (counted Two (head t notes kinds)), length-append (head t notes kinds) (checksum_of (head t notes kinds) ∷ []))
 
-  short : length t.rows ≤ 2 ^ 32
+  pub short : length t.rows ≤ 2 ^ 32
   short = few_rows t begins.valid.declared begins.valid.accepted begins.valid.within begins.valid.feeders.1 begins.valid.rows
 
   -- words that stand behind other words of the rows
@@ -200,14 +199,20 @@ module _ (known : KnownBytes) (at : ℕ) (t : Table) (notes kinds : List ℕ) (b
       (same_words words own [] [] are own_are long (ap (λ bs. bs ++ []) same)).0
 
   -- bitmaps that stand in the place of a column are its bitmaps
-  module _ (c : ℕ) (within : c < length t.schema.columns) (entries : Entries) where
+  module _ (c : ℕ) (within : c < length t.schema.columns) where
     abbrev column : NamedColumn
     column = column_at t.schema.columns c
 
     many : length (column_of t.rows c) ≡ length t.rows
     many = length-map t.rows (λ (row : SourcedRow). entry_at row.1 c)
 
-    split : rows_words t.schema t.feeders t.rows
+    valid : IsForm column.form
+    valid = (begins.valid.declared.each c within).valid.form
+
+    pub own_bitmaps : AreBitmaps (bitmap_count column.form) (length t.rows) (bitmaps_of t.schema t.rows c)
+    own_bitmaps = bitmaps_long column (column_of t.rows c) (length t.rows) many
+
+    pub split : rows_words t.schema t.feeders t.rows
         ≡ columns_words t.schema t.rows 0 c ++ (flat_map packed (bitmaps_of t.schema t.rows c) ++ (columns_words t.schema t.rows (c + 1) (length t.schema.columns - (c + 1)) ++ feeder_words t.feeders (feeders_of t.rows)))
     split =
         let before = columns_words t.schema t.rows 0 c in
@@ -217,31 +222,43 @@ module _ (known : KnownBytes) (at : ℕ) (t : Table) (notes kinds : List ℕ) (b
         ap (λ ws. ws ++ last) (columns_split t.schema t.rows c (omega (arith, within)) ∙ ap (λ ws. before ++ ws) (next_words t.schema t.rows c (length t.schema.columns) within))
         ∙ append_assoc before (own ++ behind) last ∙ ap (λ ws. before ++ ws) (append_assoc own behind last)
 
-    bitmaps_there : length entries ≡ length t.rows
-        → StandAt known (first.rows_at + 8 * (bitmaps_in (take c t.schema.columns) * word_count (length t.rows))) (flat_map packed (entries_bitmaps column entries))
-        → entries_bitmaps column entries ≡ bitmaps_of t.schema t.rows c
-    bitmaps_there long stands =
-        let valid = (begins.valid.declared.each c within).valid.form in
-        let words = flat_map packed (entries_bitmaps column entries) in
+    pub before_long : length (columns_words t.schema t.rows 0 c) ≡ bitmaps_in (take c t.schema.columns) * word_count (length t.rows)
+    before_long = length-columns_words t.schema t.feeders t.rows begins.valid.rows c (omega (arith, within))
+
+    bits_of_table : (bits : List (List Bool)) → AreBitmaps (bitmap_count column.form) (length t.rows) bits
+        → StandAt known (first.rows_at + 8 * (bitmaps_in (take c t.schema.columns) * word_count (length t.rows))) (flat_map packed bits)
+        → bits ≡ bitmaps_of t.schema t.rows c
+    bits_of_table bits all stands =
+        let words = flat_map packed bits in
         let own = flat_map packed (bitmaps_of t.schema t.rows c) in
-        let before = length-columns_words t.schema t.feeders t.rows begins.valid.rows c (omega (arith, within)) in
+        let words_are : length words ≡ bitmap_count column.form * word_count (length t.rows) =
+        length-all (length t.rows) bits (λ k inside. all.each k (omega (arith, inside, all.many))) ∙ ap (λ m. m * word_count (length t.rows)) all.many in
         let same : words ≡ own =
         words_there (columns_words t.schema t.rows 0 c) own (columns_words t.schema t.rows (c + 1) (length t.schema.columns - (c + 1)) ++ feeder_words t.feeders (feeders_of t.rows)) words
-        (first.rows_at + 8 * (bitmaps_in (take c t.schema.columns) * word_count (length t.rows))) split (omega (arith, before)) stands
-        (words_long column entries (length t.rows) long ∙ sym (words_long column (column_of t.rows c) (length t.rows) many))
-        (bits_fit column entries (length t.rows) valid long short) (bits_fit column (column_of t.rows c) (length t.rows) valid many short) in
-        same_bitmaps (bitmap_count column.form) (length t.rows) (entries_bitmaps column entries) (bitmaps_of t.schema t.rows c)
-        (bitmaps_long column entries (length t.rows) long) (bitmaps_long column (column_of t.rows c) (length t.rows) many) same
+        (first.rows_at + 8 * (bitmaps_in (take c t.schema.columns) * word_count (length t.rows))) split (omega (arith, before_long)) stands
+        (words_are ∙ sym (words_long column (column_of t.rows c) (length t.rows) many))
+        (bits_fit (bitmap_count column.form) (length t.rows) bits all (few_bitmaps column.form valid) short)
+        (bits_fit (bitmap_count column.form) (length t.rows) (bitmaps_of t.schema t.rows c) own_bitmaps (few_bitmaps column.form valid) short) in
+        same_bitmaps (bitmap_count column.form) (length t.rows) bits (bitmaps_of t.schema t.rows c) all own_bitmaps same
 
     -- by what the head says
-    pub column_there : length entries ≡ first.front.sizes.rows
+    pub bits_there : (bits : List (List Bool)) → AreBitmaps (bitmap_count (column_at first.front.schema.columns c).form) first.front.sizes.rows bits
+        → StandAt known (column_place first c) (flat_map packed bits) → bits ≡ bitmaps_of t.schema t.rows c
+    bits_there bits all stands =
+        let Placed : Declared → ℕ → Type 0 = λ schema n.
+        AreBitmaps (bitmap_count (column_at schema.columns c).form) n bits
+        × StandAt known (first.rows_at + 8 * (bitmaps_in (take c schema.columns) * word_count n)) (flat_map packed bits) in
+        let one : Placed t.schema first.front.sizes.rows = subst (λ (schema : Declared). Placed schema first.front.sizes.rows) is.schema (all, stands) in
+        let two : Placed t.schema (length t.rows) = subst (Placed t.schema) is.rows one in
+        bits_of_table bits two.0 two.1
+
+    pub column_there : (entries : Entries) → length entries ≡ first.front.sizes.rows
         → StandAt known (column_place first c) (flat_map packed (entries_bitmaps (column_at first.front.schema.columns c) entries))
         → entries_bitmaps column entries ≡ bitmaps_of t.schema t.rows c
-    column_there long stands =
-        let Placed : Declared → ℕ → Type 0 = λ schema n.
-        StandAt known (first.rows_at + 8 * (bitmaps_in (take c schema.columns) * word_count n)) (flat_map packed (entries_bitmaps (column_at schema.columns c) entries)) in
-        let one : Placed t.schema first.front.sizes.rows = subst (λ (schema : Declared). Placed schema first.front.sizes.rows) is.schema stands in
-        bitmaps_there (long ∙ is.rows) (subst (Placed t.schema) is.rows one)
+    column_there entries long stands =
+        let read = column_at first.front.schema.columns c in
+        ap (λ (s : Declared). entries_bitmaps (column_at s.columns c) entries) (sym is.schema)
+        ∙ bits_there (entries_bitmaps read entries) (bitmaps_long read entries first.front.sizes.rows long) stands
 
   -- feeders that stand in their place are those of the rows
   pub feeders_there : (row_feeders : List ℕ) → length row_feeders ≡ first.front.sizes.rows → All (λ feeder. feeder < first.front.sizes.feeders) row_feeders

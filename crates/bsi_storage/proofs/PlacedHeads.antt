@@ -20,7 +20,7 @@ module _ (known : KnownBytes) (at : ℕ) (t : Table) (notes kinds : List ℕ) (b
   opened = begins.bytes_are ∙ ap Some (parts_with Two t notes kinds begins.rest)
 
   module _ (seen after : KnownBytes) (from : ℕ) (same : seen ≡ known) (here : from ≡ at) where
-    there : known_from from seen ≡ Some (bytes_of (counted Two (head t notes kinds)) ++ (bytes_of (rows_words t.schema t.feeders t.rows) ++ begins.rest))
+    pub there : known_from from seen ≡ Some (bytes_of (counted Two (head t notes kinds)) ++ (bytes_of (rows_words t.schema t.feeders t.rows) ++ begins.rest))
     there = ap (known_from from) same ∙ ap (λ n. known_from n known) here ∙ opened
 
     -- counted words that were read are of version 2, and are the head

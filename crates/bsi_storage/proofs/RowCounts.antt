@@ -39,7 +39,7 @@ module _ (schema : Declared) (feeders : ℕ) (rows : List SourcedRow) (are : Are
       ap (λ m. m * word_count (length rows)) sums ∙ omega arith in
       omega (arith, product, before, here, ap (λ (ws : List ℕ). length ws) split, length-append (flat_map f (range_with_len 0 c)) (f c))
 
-  length-feeder_words : length (feeder_words feeders (feeders_of rows)) ≡ feeder_word_count feeders (length rows)
+  pub length-feeder_words : length (feeder_words feeders (feeders_of rows)) ≡ feeder_word_count feeders (length rows)
   length-feeder_words = by (nat_eq feeders 1)
     where
       by : (one : Bool) → length (if one then [] else packed_bytes (feeders_of rows)) ≡ (if one then 0 else div_ceil (length rows) 8)

@@ -1,7 +1,7 @@
 //! Opens chosen columns of a segment of version 2 (`open_columns`): it reads the head, the bitmaps of these columns and
 //! the feeders of the rows, and no other bytes.
 
-ghost use Rattle.std.specs.Prelude.{◌≡◌, ◌<◌, ◌≤◌, ◌*◌, All, IfOk, IfSome, length, slice_index};
+ghost use Rattle.std.specs.Prelude.{◌≡◌, ◌<◌, ℕ, All, IfErr, IfOk, IfSome, length};
 ghost use Rattle.std.specs.List.{flat_map};
 ghost use Rattle.bsi_chosen.specs.Chosen.{chosen_table};
 ghost use Rattle.bsi_places.specs.Places.{StandAt};
@@ -9,8 +9,9 @@ ghost use Rattle.bsi_rows.specs.Table.{Table};
 ghost use Rattle.bsi_schema.specs.Columns.{column_at, IsDeclared};
 ghost use Rattle.bsi_segments.specs.Bitmaps.{packed};
 ghost use Rattle.bsi_shift.specs.Shifted.{shifted_entries};
-ghost use Rattle.bsi_storage.specs.ChosenColumns.{column_place, feeders_place, AreChosenColumns, BeginsAt};
+ghost use Rattle.bsi_storage.specs.ChosenColumns.{column_place, feeders_place, AreChosenColumns, BeginsAt, IsHeadOf};
 ghost use Rattle.bsi_storage.specs.Decoding.{AreSizes};
+ghost use Rattle.bsi_storage.specs.Opens.{IsReadOrNoMemory};
 ghost use Rattle.bsi_storage.specs.Saved.{feeder_words};
 ghost use Rattle.bsi_syntax.specs.Bytes.{Bytes};
 ghost use Rattle.bsi_table.specs.Bitmaps.{entries_bitmaps};
@@ -44,6 +45,9 @@ fn read_column<R: ReadAt>(
     ensures stands { IfOk result (λ column. StandAt (R.all_bytes reader.now)
         (column_place head.now c) (flat_map packed (entries_bitmaps
         (column_at head.now.front.schema.columns c) (shifted_entries column)))) }
+    ensures fault { IfErr result (λ fault. (at : ℕ) → (t : Table) → (notes kinds : Bytes) →
+        BeginsAt (R.all_bytes reader.now) at t notes kinds → IsHeadOf head.now at t notes kinds →
+        IsReadOrNoMemory fault) }
 {
     let schema = &head.front.schema;
     let rows = head.front.sizes.rows;
@@ -75,6 +79,9 @@ fn read_columns<R: ReadAt>(
     ensures many { IfOk result (λ columns. length columns.items ≡ length chosen.now) }
     ensures each { IfOk result (λ columns. AreChosenColumns (R.all_bytes reader.now) head.now chosen.now
         columns.items (length chosen.now)) }
+    ensures fault { IfErr result (λ fault. (at : ℕ) → (t : Table) → (notes kinds : Bytes) →
+        BeginsAt (R.all_bytes reader.now) at t notes kinds → IsHeadOf head.now at t notes kinds →
+        IsReadOrNoMemory fault) }
 {
     let mut columns = Vec::with_capacity(alloc, chosen.len())?;
     'columns: for i in 0..chosen.len() {
@@ -99,6 +106,9 @@ fn read_origins<R: ReadAt>(
         All (λ feeder. feeder < head.now.front.sizes.feeders) origins.rows) }
     ensures stands { IfOk result (λ origins. StandAt (R.all_bytes reader.now)
         (feeders_place head.now) (feeder_words head.now.front.sizes.feeders origins.rows)) }
+    ensures fault { IfErr result (λ fault. (at : ℕ) → (t : Table) → (notes kinds : Bytes) →
+        BeginsAt (R.all_bytes reader.now) at t notes kinds → IsHeadOf head.now at t notes kinds →
+        IsReadOrNoMemory fault) }
 {
     let sizes = head.front.sizes;
     let before = count_all_bitmaps(&head.front.schema);
@@ -127,9 +137,11 @@ pub fn open_columns<R: ReadAt>(
     at: u64,
     chosen: &[u32],
 ) -> Result<Option<Index>, OpenFault>
-    ensures { IfOk result (λ opened. IfSome opened (λ index. (t : Table) → (notes kinds : Bytes) →
-        BeginsAt (R.all_bytes reader.now) at t notes kinds →
+    ensures opened { IfOk result (λ opened. IfSome opened (λ index. (t : Table) →
+        (notes kinds : Bytes) → BeginsAt (R.all_bytes reader.now) at t notes kinds →
         table_of index ≡ chosen_table chosen.now t)) }
+    ensures fault { IfErr result (λ fault. (t : Table) → (notes kinds : Bytes) →
+        BeginsAt (R.all_bytes reader.now) at t notes kinds → IsReadOrNoMemory fault) }
 {
     let Some(head) = read_head(alloc, reader, at)? else {
         return Ok(None);

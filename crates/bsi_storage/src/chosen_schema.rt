@@ -33,12 +33,7 @@ fn spec_of(alloc: Global, form: &Form) -> Result<ColumnSpec, NoMemory>
 }
 
 /// Adds column `c` of another schema, or returns false if it may not follow the columns before.
-fn add_chosen(
-    alloc: Global,
-    narrow: &mut Schema,
-    schema: &Schema,
-    c: u32,
-) -> Result<bool, NoMemory>
+fn add_chosen(alloc: Global, narrow: &mut Schema, schema: &Schema, c: u32) -> Result<bool, NoMemory>
     requires { c < length schema.now.columns }
     ensures { IfOk result (λ added. added ≡ true → narrow.new
         ≡ with_column narrow.old (column_at schema.now.columns c) schema.now.signed) }

@@ -219,6 +219,7 @@ pub(crate) fn decode_origins(
     ensures none { IfOk result (λ decoded. IfNone decoded ((row_feeders : List ℕ) →
         All (λ feeder. feeder < feeders) row_feeders → length row_feeders ≡ rows →
         words.now ≡ feeder_words feeders row_feeders → ⊥)) }
+    ensures fit { AreWords words.now }
 {
     if feeders == 1 {
         if !words.is_empty() {

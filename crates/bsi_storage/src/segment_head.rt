@@ -1,7 +1,7 @@
 //! Reads the head of a segment of version 2 at a place (`read_head`), and finds in it where the bitmaps of a column stand,
 //! and their checksums.
 
-ghost use Rattle.std.specs.Prelude.{◌≡◌, ◌+◌, ◌*◌, ◌^◌, ◌<◌, ◌≤◌, drop, take, IfNone, IfOk, IfSome, length};
+ghost use Rattle.std.specs.Prelude.{◌≡◌, ◌+◌, ◌*◌, ◌^◌, ◌<◌, ◌≤◌, drop, take, IfErr, IfNone, IfOk, IfSome, length};
 ghost use Rattle.bsi_bits.specs.BitList.{word_count};
 ghost use Rattle.bsi_places.specs.Places.{known_from};
 ghost use Rattle.bsi_rows.specs.Table.{Table};
@@ -9,6 +9,7 @@ ghost use Rattle.bsi_schema.specs.Columns.{IsDeclared};
 ghost use Rattle.bsi_segments.specs.declared.version.Version.{Version};
 ghost use Rattle.bsi_storage.specs.ChosenColumns.{BeginsAt, IsHeadOf};
 ghost use Rattle.bsi_storage.specs.Decoding.{bitmaps_in, AreSizes};
+ghost use Rattle.bsi_storage.specs.Opens.{IsReadOrNoMemory};
 ghost use Rattle.bsi_syntax.specs.Bytes.{Bytes};
 
 use crate::OpenFault;
@@ -42,6 +43,8 @@ pub(crate) fn read_head<R: ReadAt>(
         BeginsAt (R.all_bytes reader.now) at t notes kinds → IsHeadOf head at t notes kinds)) }
     ensures none { IfOk result (λ found. IfNone found ((t : Table) → (notes kinds : Bytes) →
         BeginsAt (R.all_bytes reader.now) at t notes kinds → ⊥)) }
+    ensures fault { IfErr result (λ fault. (t : Table) → (notes kinds : Bytes) →
+        BeginsAt (R.all_bytes reader.now) at t notes kinds → IsReadOrNoMemory fault) }
 {
     let mut place = At::new(reader, at);
     let Some(first) = read_counted(alloc, &mut place)? else {
@@ -96,12 +99,15 @@ pub(crate) fn find_place(rows_at: u64, before: u64, count: u64, rows: u64) -> Op
     Some(place)
 }
 
-/// Lends the checksums of the bitmaps of column `c`, which has `before` bitmaps before its own, or none if the words are
-/// too few.
+/// Lends the checksums of the bitmaps of column `c` from the words behind the schema, or none if these are too few.
+/// `before` bitmaps are those of the columns before it.
 pub(crate) fn find_sums(behind: &[u64], c: u32, before: u64, count: usize) -> Option<&[u64]>
     requires before { before ≤ 2 ^ 17 }
     requires count { count ≤ 2 ^ 17 }
-    ensures { IfSome result (λ sums. length sums.now ≡ count) }
+    ensures long { IfSome result (λ sums. length sums.now ≡ count) }
+    ensures sums { IfSome result (λ sums.
+        sums.now ≡ take count (drop (3 * (c + 1) + before) behind.now)) }
+    ensures none { IfNone result (length behind.now < 3 * (c + 1) + before + count) }
 {
     let from = 3 * (u64::from(c) + 1) + before;
     let end = from + count as u64;

@@ -1,4 +1,9 @@
-use Rattle.std.proofs.Common.{◌≡◌, length, sym, subst, ◌∙◌}
+use Rattle.std.proofs.Common.{sym, subst, ◌∙◌}
+use Rattle.std.proofs.lemmas.Result.{err_from_is_err_and}
+use Rattle.bsi_rows.specs.Table.{Table}
+use Rattle.bsi_storage.specs.ChosenColumns.{BeginsAt}
+use Rattle.bsi_storage.specs.Opens.{IsReadOrNoMemory}
+use Rattle.bsi_syntax.specs.Bytes.{Bytes}
 use Rattle.bsi_table.specs.Encoded.{AreEncoded}
 use Rattle.bsi_table.proofs.Refusing.{not_refused}
 use Rattle.bsi_storage.proofs.ChosenRows.{encoded, some_chosen, table_is}
@@ -24,8 +29,8 @@ from_parts-requires-clause-accepted g c =
     (some_chosen (g.R.ReadAt.all_bytes c.args.reader.now) c.in-Some.head c.args.chosen.now narrow made there c.in_ok-columns.columns.items c.in_ok-columns.ensures.many
     c.in_ok-columns.ensures.each some) sizes.limit_is.0 sizes.limit_is.1
 
-pub returns : goal.returns
-returns g c = λ t notes kinds begins.
+pub returns-clause-opened : goal.returns-clause-opened
+returns-clause-opened g c = λ t notes kinds begins.
     (let narrow = c.in-Some-2.narrow in
     let made = rw c.in-Some-2.is at c.in_ok-narrow.ensures.made in
     let there = rw c.in-Some-2.is at c.in_ok-narrow.ensures.there in
@@ -36,3 +41,21 @@ returns g c = λ t notes kinds begins.
     ∙ table_is (g.R.ReadAt.all_bytes c.args.reader.now) c.in-Some.head c.args.chosen.now narrow made there c.in_ok-columns.columns.items c.in_ok-columns.ensures.many
     c.in_ok-columns.ensures.each c.args.at t notes kinds begins (heads t notes kinds begins) declared c.in_ok-origins.origins.rows origins.len origins.from origins.stands
     c.in_ok-origins.origins.feeders origins.feeders)
+
+pub returns-in_err-columns-clause-fault : goal.returns-in_err-columns-clause-fault
+returns-in_err-columns-clause-fault g c =
+    let known = g.R.ReadAt.all_bytes c.args.reader.now in
+    let heads = rw c.in-Some.is at c.in_ok-head.ensures.is in
+    let p = err_from_is_err_and c.from_residual-in_err-columns.result c.from_residual-in_err-columns.ensures.1 in
+    let met : (t : Table) → (notes kinds : Bytes) → BeginsAt known c.args.at t notes kinds → IsReadOrNoMemory c.in_err-columns.field-0.0 =
+    λ t notes kinds begins. c.in_err-columns.ensures.fault c.args.at t notes kinds begins (heads t notes kinds begins) in
+    rw (p.1, p.2) met
+
+pub returns-in_err-origins-clause-fault : goal.returns-in_err-origins-clause-fault
+returns-in_err-origins-clause-fault g c =
+    let known = g.R.ReadAt.all_bytes c.args.reader.now in
+    let heads = rw c.in-Some.is at c.in_ok-head.ensures.is in
+    let p = err_from_is_err_and c.from_residual-in_err-origins.result c.from_residual-in_err-origins.ensures.1 in
+    let met : (t : Table) → (notes kinds : Bytes) → BeginsAt known c.args.at t notes kinds → IsReadOrNoMemory c.in_err-origins.field-0.0 =
+    λ t notes kinds begins. c.in_err-origins.ensures.fault c.args.at t notes kinds begins (heads t notes kinds begins) in
+    rw (p.1, p.2) met

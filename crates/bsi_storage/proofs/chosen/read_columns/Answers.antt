@@ -1,5 +1,4 @@
-use Rattle.std.proofs.Common.{◌≡◌, ◌+◌, ◌<◌, length, arith, rules}
-use Rattle.std.specs.Prelude.{get_or}
+use Rattle.std.proofs.Common.{arith, rules}
 use Rattle.bsi_storage.proofs.PlacedColumns.{chosen_more}
 use Rattle.bsi_storage.proofs.chosen.read_columns.Goals as goal
 

@@ -1,4 +1,4 @@
-use Rattle.std.proofs.Common.{◌≡◌, ◌<◌, ℕ, false, length, map, take}
+use Rattle.std.proofs.Common.{◌≡◌, ◌<◌, false, length, map, take}
 use Rattle.std.specs.Prelude.{All}
 use Rattle.bsi_schema.specs.Columns.{column_at}
 use Rattle.bsi_storage.proofs.chosen_schema.choose_columns.Given as goal
