@@ -22,7 +22,7 @@ module _ {X : Type 0} (p : X → Bool) (d : X) where
       by false rest = omega (arith, rest)
 
   -- where one passes, one is found there or before
-  position-there : (xs : List X) (k : ℕ) → k < length xs → p (get_or xs k d) ≡ true → (i : ℕ) × (position p xs ≡ Some i)
+  pub position-there : (xs : List X) (k : ℕ) → k < length xs → p (get_or xs k d) ≡ true → (i : ℕ) × (position p xs ≡ Some i)
   position-there xs k within passes =
       let few = no-later xs k within passes in
       let below : nat_lt (prefix_len (λ x. not (p x)) xs) (length xs) ≡ true = grind (arith, nat_tests, few, within) in

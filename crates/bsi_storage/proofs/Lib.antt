@@ -1,4 +1,5 @@
 pub mod BodyWords
+mod Choices
 mod ChosenRows
 mod ColumnBitmaps
 mod ColumnHeads

@@ -87,7 +87,7 @@ heads_split schema rows c (suc m) within =
           let before = heads_split schema rows c m (omega (arith, within, apart)) in (
             before.0 ++ own m,
             more ∙ ap (λ ws. ws ++ own m) before.1 ∙ append_assoc (column_heads schema rows c) (own c ++ before.0) (own m)
-            ∙ ap (λ ws. column_heads schema rows c ++ ws) (append_assoc (own c) before.0 (own m)),
+                ∙ ap (λ ws. column_heads schema rows c ++ ws) (append_assoc (own c) before.0 (own m)),
           )
     ]
 

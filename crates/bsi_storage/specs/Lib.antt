@@ -1,3 +1,4 @@
+pub mod Choices
 pub mod ChosenColumns
 pub mod Decoding
 pub mod Faults

@@ -1,7 +1,7 @@
 //! Opens chosen columns of a segment of version 2 (`open_columns`): it reads the head, the bitmaps of these columns and
 //! the feeders of the rows, and no other bytes.
 
-ghost use Rattle.std.specs.Prelude.{◌≡◌, ◌<◌, ℕ, All, IfErr, IfOk, IfSome, length};
+ghost use Rattle.std.specs.Prelude.{◌≡◌, ◌<◌, ℕ, All, IfErr, IfNone, IfOk, IfSome, length};
 ghost use Rattle.std.specs.List.{flat_map};
 ghost use Rattle.bsi_chosen.specs.Chosen.{chosen_table};
 ghost use Rattle.bsi_places.specs.Places.{StandAt};
@@ -9,6 +9,7 @@ ghost use Rattle.bsi_rows.specs.Table.{Table};
 ghost use Rattle.bsi_schema.specs.Columns.{column_at, IsDeclared};
 ghost use Rattle.bsi_segments.specs.Bitmaps.{packed};
 ghost use Rattle.bsi_shift.specs.Shifted.{shifted_entries};
+ghost use Rattle.bsi_storage.specs.Choices.{IsChoice};
 ghost use Rattle.bsi_storage.specs.ChosenColumns.{column_place, feeders_place, AreChosenColumns, BeginsAt, IsHeadOf};
 ghost use Rattle.bsi_storage.specs.Decoding.{AreSizes};
 ghost use Rattle.bsi_storage.specs.Opens.{IsReadOrNoMemory};
@@ -140,6 +141,9 @@ pub fn open_columns<R: ReadAt>(
     ensures opened { IfOk result (λ opened. IfSome opened (λ index. (t : Table) →
         (notes kinds : Bytes) → BeginsAt (R.all_bytes reader.now) at t notes kinds →
         table_of index ≡ chosen_table chosen.now t)) }
+    ensures none { IfOk result (λ opened. IfNone opened ((t : Table) → (notes kinds : Bytes) →
+        BeginsAt (R.all_bytes reader.now) at t notes kinds →
+        IsChoice (length t.schema.columns) chosen.now → ⊥)) }
     ensures fault { IfErr result (λ fault. (t : Table) → (notes kinds : Bytes) →
         BeginsAt (R.all_bytes reader.now) at t notes kinds → IsReadOrNoMemory fault) }
 {

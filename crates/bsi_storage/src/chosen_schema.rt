@@ -1,8 +1,10 @@
 //! Makes the schema of chosen columns of another (`choose_columns`).
 
-ghost use Rattle.std.specs.Prelude.{◌≡◌, ◌<◌, reverse, true, All, IfOk, IfSome, length};
-ghost use Rattle.bsi_schema.specs.Columns.{column_at, form_of, with_column};
+ghost use Rattle.std.specs.Prelude.{◌≡◌, ◌≢◌, ◌<◌, reverse, false, true, All, IfNone, IfOk, IfSome, MatchResult, length};
+ghost use Rattle.bsi_schema.specs.Columns.{column_at, form_of, with_column, MayFollow};
+ghost use Rattle.bsi_schema.specs.declared.schema_error.SchemaError.{SchemaError};
 ghost use Rattle.bsi_chosen.specs.Chosen.{chosen_schema};
+ghost use Rattle.bsi_storage.specs.Choices.{IsChoice};
 
 use crate::NoMemory;
 use bsi_digits::Bases;
@@ -35,17 +37,26 @@ fn spec_of(alloc: Global, form: &Form) -> Result<ColumnSpec, NoMemory>
 /// Adds column `c` of another schema, or returns false if it may not follow the columns before.
 fn add_chosen(alloc: Global, narrow: &mut Schema, schema: &Schema, c: u32) -> Result<bool, NoMemory>
     requires { c < length schema.now.columns }
-    ensures { IfOk result (λ added. added ≡ true → narrow.new
+    ensures added { IfOk result (λ added. added ≡ true → narrow.new
         ≡ with_column narrow.old (column_at schema.now.columns c) schema.now.signed) }
+    ensures refused { IfOk result (λ added. added ≡ false → MayFollow narrow.old.columns
+        schema.now.signed (column_at schema.now.columns c) → ⊥) }
 {
     // Its clause says that the columns begin at 0 if no number is signed.
     let _ = schema.limits();
     let spec = spec_of(alloc, schema.form(c))?;
-    let added = if schema.signed() {
-        narrow.add_signed(schema.name(c), spec, schema.offset(c))
+    if schema.signed() {
+        check_added(narrow.add_signed(schema.name(c), spec, schema.offset(c)))
     } else {
-        narrow.add(schema.name(c), spec)
-    };
+        check_added(narrow.add(schema.name(c), spec))
+    }
+}
+
+/// Returns whether a column was added. Refused memory stays an error.
+fn check_added(added: Result<(), SchemaError>) -> Result<bool, NoMemory>
+    ensures { IfOk result (λ done. MatchResult added (λ _. done ≡ true)
+        (λ refused. (done ≡ false) × (refused ≢ SchemaError.NoMemory))) }
+{
     match added {
         Ok(()) => Ok(true),
         Err(SchemaError::NoMemory) => Err(NoMemory),
@@ -65,10 +76,14 @@ pub(crate) fn choose_columns(
     ensures there { IfOk result (λ made. IfSome made (λ narrow.
         All (λ c. c < length schema.now.columns) chosen.now)) }
     ensures some { IfOk result (λ made. IfSome made (λ narrow. 0 < length chosen.now)) }
+    ensures none { IfOk result (λ made. IfNone made
+        (IsChoice (length schema.now.columns) chosen.now → ⊥)) }
 {
     if chosen.is_empty() {
         return Ok(None);
     }
+    // Its clause says that each column was declared.
+    let _ = schema.limits();
     let mut narrow = Schema::new(alloc);
     'columns: for i in 0..chosen.len() {
         let c = chosen[i];

@@ -1,6 +1,8 @@
-use Rattle.std.proofs.Common.{sym, subst, ◌∙◌}
+use Rattle.std.proofs.Common.{length, sym, subst, ◌∙◌}
 use Rattle.std.proofs.lemmas.Result.{err_from_is_err_and}
 use Rattle.bsi_rows.specs.Table.{Table}
+use Rattle.bsi_schema.specs.Columns.{Declared}
+use Rattle.bsi_storage.specs.Choices.{IsChoice}
 use Rattle.bsi_storage.specs.ChosenColumns.{BeginsAt}
 use Rattle.bsi_storage.specs.Opens.{IsReadOrNoMemory}
 use Rattle.bsi_syntax.specs.Bytes.{Bytes}
@@ -59,3 +61,15 @@ returns-in_err-origins-clause-fault g c =
     let met : (t : Table) → (notes kinds : Bytes) → BeginsAt known c.args.at t notes kinds → IsReadOrNoMemory c.in_err-origins.field-0.0 =
     λ t notes kinds begins. c.in_err-origins.ensures.fault c.args.at t notes kinds begins (heads t notes kinds begins) in
     rw (p.1, p.2) met
+
+-- no segment begins there
+pub returns-in_default-clause-none : goal.returns-in_default-clause-none
+returns-in_default-clause-none g c = λ t notes kinds begins choice.
+    (let none = rw c.in_default.is at c.in_ok-head.ensures.none in none t notes kinds begins)
+
+-- or the columns may not be chosen
+pub returns-in_default-2-clause-none : goal.returns-in_default-2-clause-none
+returns-in_default-2-clause-none g c = λ t notes kinds begins choice.
+    (let none = rw c.in_default-2.is at c.in_ok-narrow.ensures.none in
+    let heads = rw c.in-Some.is at c.in_ok-head.ensures.is in
+    none (subst (λ (s : Declared). IsChoice (length s.columns) c.args.chosen.now) (sym (heads t notes kinds begins).schema) choice))

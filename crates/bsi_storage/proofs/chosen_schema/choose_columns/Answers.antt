@@ -4,6 +4,7 @@ use Rattle.std.proofs.lemmas.Bool.{cases_lt}
 use Rattle.std.proofs.lemmas.List.{map-append, take_more}
 use Rattle.std.proofs.lemmas.List.Elements.{All-push}
 use Rattle.bsi_schema.specs.Columns.{column_at, Declared, NamedColumn}
+use Rattle.bsi_storage.proofs.Choices.{may_follow}
 use Rattle.bsi_storage.proofs.chosen_schema.choose_columns.Goals as goal
 
 or_last : (a b : Bool) → a ≡ false → (a || b) ≡ b
@@ -25,7 +26,7 @@ columns-preserved c =
     let within : i < length chosen = c.columns-test.true in
     let below : x < length schema.columns = omega (arith, c.if-c-columns.false, c.columns-in-columns.ensures.columns) in
     let passed : c.in_ok-add_chosen.field-0 ≡ true = search rules in
-    let made = c.in_ok-add_chosen.ensures passed in
+    let made = c.in_ok-add_chosen.ensures.added passed in
     let next : take (i + 1) chosen ≡ take i chosen ++ x ∷ [] = take_more chosen i 0 within in
     let f : ℕ → NamedColumn = λ k. column_at schema.columns k in
     let last : c.add_chosen.new.narrow.signed ≡ (c.columns.narrow.signed || schema.signed) = ap (λ (s : Declared). s.signed) made in
@@ -40,3 +41,10 @@ columns-preserved c =
       none = λ zero. absurd (omega (arith, zero));
       signed = λ some. after;
     }
+
+-- what may follow is not refused
+pub returns-then-not-branch-clause-none : goal.returns-then-not-branch-clause-none
+returns-then-not-branch-clause-none c = λ choice.
+    (let failed : c.in_ok-add_chosen.field-0 ≡ false = search rules in
+    c.in_ok-add_chosen.ensures.refused failed
+    (may_follow c.args.schema.now c.limits.ensures.declared c.args.chosen.now choice c.columns.i c.columns-test.true c.columns.narrow.columns c.columns.invariant.columns))
