@@ -1,7 +1,6 @@
 -- Where the segment of a table stands, no fault is met in it but that the reader failed or memory was refused.
-use Rattle.std.proofs.Common.{◌≡◌, ℕ, zero, suc, ◌+◌, ◌-◌, ◌*◌, ◌<◌, ◌≤◌, ◌^◌, ◌⊎◌, Bool, List, [], ◌∷◌, ◌++◌, Some, None, length, map, get_or, take, drop, inl, inr, refl, sym, ap, subst, ◌∙◌, arith, append_assoc, append-nil, length-append, length-drop, length-take, drop-cons, take-append-drop}
+use Rattle.std.proofs.Common.{◌≡◌, ℕ, zero, suc, ◌+◌, ◌-◌, ◌*◌, ◌<◌, ◌≤◌, ◌^◌, Bool, List, [], ◌++◌, Some, None, length, get_or, take, drop, inl, inr, refl, sym, ap, subst, ◌∙◌, arith, append_assoc, append-nil, length-append, length-drop, length-take, drop-cons, take-append-drop}
 use Rattle.std.specs.Prelude.{IfSome}
-use Rattle.std.specs.Int.{w64, to_le_bytes}
 use Rattle.std.specs.List.{flat_map}
 use Rattle.std.proofs.lemmas.Bool.{cases_eq}
 use Rattle.std.proofs.lemmas.Grind.{flat_map-append}
@@ -12,7 +11,7 @@ use Rattle.bsi_places.specs.Places.{known_from, AreNoBitmaps, IsNoBitmap, StandA
 use Rattle.bsi_rows.specs.Rows.{column_of, feeders_of, SourcedRow}
 use Rattle.bsi_rows.specs.Table.{Table}
 use Rattle.bsi_schema.specs.Columns.{column_at, Declared, NamedColumn}
-use Rattle.bsi_segments.specs.Bitmaps.{packed, AreBitmaps}
+use Rattle.bsi_segments.specs.Bitmaps.{packed}
 use Rattle.bsi_segments.specs.Lanes.{lanes_of}
 use Rattle.bsi_segments.specs.Segments.{bytes_of, counted, AreWords, EndsWithin, MeetsFault, StopsBefore}
 use Rattle.bsi_segments.specs.declared.fault.SegmentFault.{SegmentFault}
