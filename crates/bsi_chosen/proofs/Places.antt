@@ -1,5 +1,5 @@
 -- The places of chosen columns: among all, and back.
-use Rattle.std.proofs.Common.{◌≡◌, ℕ, zero, suc, ◌+◌, ◌<◌, ◌≤◌, Bool, true, false, not, cond, List, [], ◌∷◌, length, get_or, Some, None, sym, ap, ◌∙◌, arith}
+use Rattle.std.proofs.Common.{◌≡◌, ℕ, zero, suc, ◌+◌, ◌<◌, ◌≤◌, Bool, true, false, not, cond, List, [], ◌∷◌, length, get_or, Some, None, refl, sym, ap, ◌∙◌, arith}
 use Rattle.std.specs.Prelude.{nat_eq, nat_lt, position, unwrap_or, Contains}
 use Rattle.std.specs.List.{prefix_len}
 use Rattle.std.proofs.lemmas.Bool.Decides.{nat_tests}
@@ -28,6 +28,22 @@ module _ {X : Type 0} (p : X → Bool) (d : X) where
       let below : nat_lt (prefix_len (λ x. not (p x)) xs) (length xs) ≡ true = grind (arith, nat_tests, few, within) in
       (prefix_len (λ x. not (p x)) xs, ap (λ b. cond b (Some (prefix_len (λ x. not (p x)) xs)) None) below)
 
+  -- the first that passes
+  position-at : (xs : List X) (i : ℕ) → i < length xs → ((k : ℕ) → k < i → p (get_or xs k d) ≡ false) → p (get_or xs i d) ≡ true → prefix_len (λ x. not (p x)) xs ≡ i
+  position-at [] i within none passes = absurd (omega (arith, within))
+  position-at (x ∷ xs) zero within none passes = ap (λ b. cond (not b) (1 + prefix_len (λ y. not (p y)) xs) 0) passes
+  position-at (x ∷ xs) (suc i) within none passes =
+      let rest : prefix_len (λ y. not (p y)) xs ≡ i = position-at xs i (omega (arith, within)) (λ k below. none (suc k) (omega (arith, below))) passes in
+      let more : 1 + prefix_len (λ y. not (p y)) xs ≡ suc i = omega (arith, rest) in
+      ap (λ b. cond (not b) (1 + prefix_len (λ y. not (p y)) xs) 0) (none 0 (omega arith)) ∙ more
+
+  position-past : (xs : List X) → ((k : ℕ) → k < length xs → p (get_or xs k d) ≡ false) → prefix_len (λ x. not (p x)) xs ≡ length xs
+  position-past [] none = refl
+  position-past (x ∷ xs) none =
+      let rest : prefix_len (λ y. not (p y)) xs ≡ length xs = position-past xs (λ k below. none (suc k) (omega (arith, below))) in
+      let more : 1 + prefix_len (λ y. not (p y)) xs ≡ length (x ∷ xs) = omega (arith, rest) in
+      ap (λ b. cond (not b) (1 + prefix_len (λ y. not (p y)) xs) 0) (none 0 (omega arith)) ∙ more
+
 -- ---- columns
 
 -- the place of a chosen column among the chosen ones, as a number
@@ -50,3 +66,21 @@ module _ (chosen : List ℕ) (count : ℕ) where
 
   pub there-again : (c : ℕ) → Contains chosen c → place_in chosen count (place_back chosen c) ≡ c
   there-again c has = there-among c (place_back chosen c) (among-chosen c has)
+
+differ : (c x : ℕ) → (x ≡ c → ⊥) → nat_eq c x ≡ false
+differ c x other = grind (arith, nat_tests)
+
+-- the place of a column, by a search from the first on
+pub place-found : (chosen : List ℕ) (c i : ℕ) → i < length chosen → ((k : ℕ) → k < i → get_or chosen k 0 ≡ c → ⊥) → get_or chosen i 0 ≡ c → place_among chosen c ≡ Some i
+place-found chosen c i within none is =
+    let passes : nat_eq c (get_or chosen i 0) ≡ true = grind (arith, nat_tests, is) in
+    let first = position-at (λ k. nat_eq c k) 0 chosen i within (λ k below. differ c (get_or chosen k 0) (none k below)) passes in
+    let there : nat_lt i (length chosen) ≡ true = grind (arith, nat_tests, within) in
+    ap (λ n. cond (nat_lt n (length chosen)) (Some n) None) first ∙ ap (λ b. cond b (Some i) None) there
+
+pub place-none : (chosen : List ℕ) (c : ℕ) → ((k : ℕ) → k < length chosen → get_or chosen k 0 ≡ c → ⊥) → place_among chosen c ≡ None
+place-none chosen c none =
+    let n = length chosen in
+    let past = position-past (λ k. nat_eq c k) 0 chosen (λ k below. differ c (get_or chosen k 0) (none k below)) in
+    let not_there : nat_lt n n ≡ false = grind (arith, nat_tests) in
+    ap (λ m. cond (nat_lt m n) (Some m) None) past ∙ ap (λ b. cond b (Some n) None) not_there

@@ -2,3 +2,6 @@
 #![tactic(auto)]
 
 pub mod laws;
+mod words;
+
+pub use words::ChosenWords;
