@@ -299,7 +299,8 @@ def fault_in_crates(top):
 
 def fault_in_wrong_bodies(top):
     """Returns which wrong body docs/PROMISES.md names that is not there, or None."""
-    there = {os.path.basename(path)[:-5] for path in glob.glob(os.path.join(top, "crates", "*", "must-fail", "*.edit"))}
+    folders = (("crates", "*", "must-fail"), ("tests", "wrong-bodies", "*"))
+    there = {os.path.basename(path)[:-5] for folder in folders for path in glob.glob(os.path.join(top, *folder, "*.edit"))}
     page = text_of(os.path.join(top, "docs", "PROMISES.md"))
     named = re.findall(r"(?m)^\|[^|]*\|[^|]*\| (`[^|]*) \|$|wrong bod(?:y|ies): (`[^)]*)\)", page)
     names = re.findall(r"`(\w+)`", " ".join(map("".join, named)))
