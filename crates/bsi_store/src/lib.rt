@@ -17,7 +17,7 @@ mod target;
 
 pub use add::{AddPaths, add_rows};
 pub use ask::{AskPaths, ask_input, ask_over};
-pub use fault::{FileFault, FileText, MAX_FILE_TEXT, StoreFault};
+pub use fault::{FileFault, FileText, MAX_FILE_TEXT, StoreFault, WriteReason};
 pub use lines::push_count_line;
 pub use lock::LockFile;
 pub use opening::{open_file, read_saved};
