@@ -40,19 +40,19 @@ VERSION = re.compile(r"\d+\.\d+\.\d+")
 MAX_SIZE = 12_288
 MAX_SIZES = {
     "README.md": 7_900,
-    "CONTRIBUTING.md": 7_050,
-    "CHANGELOG.md": 8_650,
-    "docs/ARCHITECTURE.md": 14_400,
+    "CONTRIBUTING.md": 6_800,
+    "CHANGELOG.md": 6_500,
+    "docs/ARCHITECTURE.md": 13_700,
     "docs/C.md": 5_900,
-    "docs/DECISIONS.md": 12_450,
+    "docs/DECISIONS.md": 10_450,
     "docs/DESIGN.md": 8_850,
-    "docs/FORMATS.md": 22_500,
-    "docs/GLOSSARY.md": 8_000,
-    "docs/GUIDE.md": 9_750,
-    "docs/PERFORMANCE.md": 11_700,
-    "docs/PROMISES.md": 25_000,
+    "docs/FORMATS.md": 21_750,
+    "docs/GLOSSARY.md": 6_850,
+    "docs/GUIDE.md": 8_900,
+    "docs/PERFORMANCE.md": 8_700,
+    "docs/PROMISES.md": 20_600,
     "docs/PYTHON.md": 10_650,
-    "docs/TOOLS.md": 5_700,
+    "docs/TOOLS.md": 4_450,
 }
 # How many words some pages may have together: all that people read, and the one for reviewers.
 MAX_WORDS = (
