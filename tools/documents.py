@@ -299,7 +299,8 @@ def fault_in_crates(top):
 
 def fault_in_wrong_bodies(top):
     """Returns which wrong body docs/PROMISES.md names that is not there, or None."""
-    there = {os.path.basename(path)[:-5] for path in glob.glob(os.path.join(top, "crates", "*", "must-fail", "*.edit"))}
+    folders = (("crates", "*", "must-fail"), ("tests", "wrong-bodies", "*"))
+    there = {os.path.basename(path)[:-5] for folder in folders for path in glob.glob(os.path.join(top, *folder, "*.edit"))}
     page = text_of(os.path.join(top, "docs", "PROMISES.md"))
     names = re.findall(r"`(\w+)`", " ".join(re.findall(r"\*(`\w+`(?:, `\w+`)*)\*", page)))
     return next((f"docs/PROMISES.md names the wrong body {name}, which is not there" for name in names if name not in there), None)
