@@ -5,8 +5,6 @@ use Rattle.bsi_answers.specs.FaultTexts.{fault_text}
 use Rattle.bsi_answers.specs.declared.faults.FilesFault.TheVariants.{NoMemory}
 use Rattle.bsi_storage.specs.declared.fault.OpenFault.{OpenFault}
 use Rattle.bsi_storage.specs.declared.fault.OpenFault.TheVariants as opening
-use Rattle.bsi_storage.specs.declared.fault.SaveFault.{SaveFault}
-use Rattle.bsi_storage.specs.declared.fault.SaveFault.TheVariants as saving
 use Rattle.bsi_storage.specs.Faults.{IsFirstSegmentFault, IsOpened}
 use Rattle.bsi_rows.specs.Table.{Table}
 use Rattle.bsi_store.specs.Kinds.{SaysNoSchema}
@@ -68,11 +66,6 @@ cut_off path opening.CutShort rows = Unusable path (CutShort rows)
 cut_off path opening.Damaged rows = Unusable path (Damaged rows)
 cut_off path opening.Read rows = Unusable path Read
 cut_off path opening.NoMemory rows = Run NoMemory
-
--- The fault of an index that could not be written to a file.
-abbrev pub unsaved : Bor (List ℕ) → SaveFault → StoreFault
-unsaved path saving.Write = CannotWrite path reason.Unnamed
-unsaved path saving.NoMemory = Run NoMemory
 
 -- The fault of a file from which no index could be opened.
 abbrev pub unopened : Bor (List ℕ) → OpenFault → StoreFault

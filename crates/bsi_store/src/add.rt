@@ -15,13 +15,14 @@ ghost use Rattle.bsi_store.specs.Kinds.{SaysNoSchema, SaysSchema};
 ghost use Rattle.bsi_table.specs.Index.{table_of};
 
 use crate::add_file::{lock_to_add, open_each, open_to_add};
+use crate::noted_file::append_to_file;
 use crate::opening::read_table_schema;
 use crate::summary::{Summary, refuse_bad, summarize};
 use crate::{FileFault, LockFile, StoreFault, read_saved};
 use bsi_files::{FilesFault, Gate, Loaded, Stopping, load_files};
 use bsi_input::write_bytes;
 use bsi_logical::TableSchema;
-use bsi_storage::{LoadedIndex, OpenFault, Version, accepts_rows_of, write_index};
+use bsi_storage::{LoadedIndex, OpenFault, Version, accepts_rows_of};
 use bsi_table::{Index, NoMemory};
 use std::alloc::Global;
 use std::fs::OpenFile;
@@ -282,13 +283,13 @@ fn append_segment<'a, S: Write + OpenFile>(
             return Err(StoreFault::unwritten(path, &error));
         }
     }
-    let written = write_index(alloc, more, &saved.notes, &saved.kinds, file);
+    let written = append_to_file(alloc, path, more, &saved.notes, &saved.kinds, file);
     let fault = match written {
         Ok(()) => match file.sync_all() {
             Ok(()) => return Ok(()),
             Err(error) => StoreFault::unwritten(path, &error),
         },
-        Err(fault) => StoreFault::unsaved(path, fault),
+        Err(fault) => fault,
     };
     let _ = file.set_len(saved.bytes);
     Err(fault)

@@ -2,13 +2,13 @@
 //! of why one can't be written (`WriteReason`).
 
 ghost use Rattle.std.specs.Prelude.{◌≡◌, ◌+◌, ◌≤◌, ◌++◌, [], decimal, length};
-ghost use Rattle.bsi_store.specs.Faults.{cut_off, file_fault_text, unopened, unsaved, write_fault_reason, NamesPath};
+ghost use Rattle.bsi_store.specs.Faults.{cut_off, file_fault_text, unopened, write_fault_reason, NamesPath};
 ghost use Rattle.bsi_store.specs.Saving.{IsNotAboutBytes};
 
 use arrayvec::ArrayString;
 use bsi_answers::FilesFault;
 use bsi_input::{SchemaFault, WriteFault};
-use bsi_storage::{OpenFault, SaveFault};
+use bsi_storage::OpenFault;
 use itoa::Buffer;
 use std::alloc::AllocError;
 use std::io;
@@ -120,16 +120,6 @@ impl From<SchemaFault> for StoreFault<'_> {
 }
 
 impl<'a> StoreFault<'a> {
-    /// Returns the fault of an index that was not written to the file of a path.
-    pub fn unsaved(path: &'a str, fault: SaveFault) -> StoreFault<'a>
-        ensures { result ≡ unsaved path.entry fault }
-    {
-        match fault {
-            SaveFault::Write => StoreFault::CannotWrite(path, WriteReason::Unnamed),
-            SaveFault::NoMemory => StoreFault::Run(FilesFault::NoMemory),
-        }
-    }
-
     /// Returns the fault of a file of a path that can't be written, by the error of the system.
     pub(crate) fn unwritten(path: &'a str, error: &io::Error) -> StoreFault<'a>
         ensures fault { IsNotAboutBytes result }
@@ -167,7 +157,7 @@ impl<'a> StoreFault<'a> {
 impl WriteReason {
     /// Returns the reason that an error of the system names. It has no `ensures`, because no contract says which error a
     /// call of the system has.
-    fn of(error: &io::Error) -> WriteReason {
+    pub(crate) fn of(error: &io::Error) -> WriteReason {
         match error.kind() {
             io::ErrorKind::NotFound => WriteReason::NotFound,
             io::ErrorKind::PermissionDenied => WriteReason::PermissionDenied,

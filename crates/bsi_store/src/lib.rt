@@ -8,6 +8,7 @@ mod fault;
 mod lines;
 mod lock;
 mod new_file;
+mod noted_file;
 mod opening;
 mod save;
 mod show;

@@ -7,9 +7,10 @@ ghost use Rattle.bsi_storage.specs.Saved.{head_segment, max_kinds, MayBeSaved};
 ghost use Rattle.bsi_store.specs.Saving.{IsNotAboutBytes};
 ghost use Rattle.bsi_store.specs.Faults.{NamesPath};
 
+use crate::noted_file::append_to_file;
 use crate::target::SaveTarget;
 use crate::{FileFault, LockFile, StoreFault, WriteReason};
-use bsi_storage::{Version, write_index};
+use bsi_storage::Version;
 use bsi_table::{Index, NoMemory};
 use std::alloc::Global;
 use std::fs::{OpenFile, OpenOptions, Permissions};
@@ -66,10 +67,7 @@ impl<'a, S: Read + Write + OpenFile + LockFile + Drop> NewFile<'a, S> {
         ensures named { IfErr result (NamesPath (λ named. named ≡ self.old.target.path)) }
         ensures path { self.new.target.path ≡ self.old.target.path }
     {
-        match write_index(alloc, index, &[], kinds, &mut self.file) {
-            Ok(()) => Ok(()),
-            Err(fault) => Err(StoreFault::unsaved(self.target.path, fault)),
-        }
+        append_to_file(alloc, self.target.path, index, &[], kinds, &mut self.file)
     }
 
     /// Puts the file in its place, once the system has stored it. It refuses that if something else is there since the
