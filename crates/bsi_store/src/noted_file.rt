@@ -17,6 +17,7 @@ use std::io;
 use std::io::Write;
 
 /// A file, and why the last write that failed did.
+#[derive(Drop)]
 struct NotedFile<'f, S> {
     file: &'f mut S,
     reason: WriteReason,
