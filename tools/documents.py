@@ -44,7 +44,7 @@ MAX_SIZES = {
     "CHANGELOG.md": 6_500,
     "docs/ARCHITECTURE.md": 13_700,
     "docs/C.md": 5_900,
-    "docs/DECISIONS.md": 10_600,
+    "docs/DECISIONS.md": 10_850,
     "docs/DESIGN.md": 8_850,
     "docs/FORMATS.md": 21_750,
     "docs/GLOSSARY.md": 7_500,
