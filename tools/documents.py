@@ -46,7 +46,7 @@ MAX_SIZES = {
     "docs/C.md": 5_900,
     "docs/DECISIONS.md": 10_850,
     "docs/DESIGN.md": 8_850,
-    "docs/FORMATS.md": 21_750,
+    "docs/FORMATS.md": 21_900,
     "docs/GLOSSARY.md": 7_500,
     "docs/GUIDE.md": 8_900,
     "docs/PERFORMANCE.md": 8_700,
