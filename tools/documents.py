@@ -50,7 +50,7 @@ MAX_SIZES = {
     "docs/GLOSSARY.md": 7_500,
     "docs/GUIDE.md": 8_900,
     "docs/PERFORMANCE.md": 8_700,
-    "docs/PROMISES.md": 20_400,
+    "docs/PROMISES.md": 20_500,
     "docs/PYTHON.md": 10_650,
     "docs/TOOLS.md": 4_450,
 }
