@@ -15,9 +15,9 @@ ghost use Rattle.bsi_store.specs.Kinds.{SaysNoSchema, SaysSchema};
 ghost use Rattle.bsi_table.specs.Index.{table_of};
 
 use crate::add_file::{lock_to_add, open_each, open_to_add};
-use crate::noted_file::append_to_file;
 use crate::opening::read_table_schema;
 use crate::summary::{Summary, refuse_bad, summarize};
+use crate::writing::append_to_file;
 use crate::{FileFault, LockFile, StoreFault, read_saved};
 use bsi_files::{FilesFault, Gate, Loaded, Stopping, load_files};
 use bsi_input::write_bytes;

@@ -8,13 +8,13 @@ mod fault;
 mod lines;
 mod lock;
 mod new_file;
-mod noted_file;
 mod opening;
 mod save;
 mod show;
 mod summary;
 mod surveying;
 mod target;
+mod writing;
 
 pub use add::{AddPaths, add_rows};
 pub use ask::{AskPaths, ask_input, ask_over};

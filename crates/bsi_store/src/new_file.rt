@@ -7,8 +7,8 @@ ghost use Rattle.bsi_storage.specs.Saved.{head_segment, max_kinds, MayBeSaved};
 ghost use Rattle.bsi_store.specs.Saving.{IsNotAboutBytes};
 ghost use Rattle.bsi_store.specs.Faults.{NamesPath};
 
-use crate::noted_file::append_to_file;
 use crate::target::SaveTarget;
+use crate::writing::append_to_file;
 use crate::{FileFault, LockFile, StoreFault, WriteReason};
 use bsi_storage::Version;
 use bsi_table::{Index, NoMemory};

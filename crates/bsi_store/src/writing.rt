@@ -1,4 +1,4 @@
-//! Writes a segment to a file, and notes why the file was not written (`NotedFile`).
+//! Appends a segment to a file, and finds why that failed.
 
 ghost use Rattle.std.specs.Prelude.{◌≡◌, ◌≤◌, IfErr, OnOk, length};
 ghost use Rattle.std.specs.Io.KnownBytes.{Appends};
@@ -13,33 +13,9 @@ use bsi_answers::FilesFault;
 use bsi_storage::{SaveFault, write_index};
 use bsi_table::Index;
 use std::alloc::Global;
-use std::io;
 use std::io::Write;
 
-/// A file, and why the last write that failed did.
-#[derive(Drop)]
-struct NotedFile<'f, S> {
-    file: &'f mut S,
-    reason: WriteReason,
-}
-
-impl<S: Write> Write for NotedFile<'_, S> {
-    ghost contents = { λ noted. S.contents noted.file.now };
-
-    fn write(&mut self, buf: &[u8]) -> io::Result<usize> {
-        let written = self.file.write(buf);
-        if let Err(error) = &written {
-            self.reason = WriteReason::of(error);
-        }
-        written
-    }
-
-    fn flush(&mut self) -> io::Result<()> {
-        self.file.flush()
-    }
-}
-
-/// Appends the segment of an index to the file of a path.
+/// Appends the segment of an index to the file of a path. After a fault some of its bytes may be there, and a further one.
 pub(crate) fn append_to_file<'a, S: Write>(
     alloc: Global,
     path: &'a str,
@@ -56,13 +32,17 @@ pub(crate) fn append_to_file<'a, S: Write>(
     ensures fault { IfErr result IsNotAboutBytes }
     ensures named { IfErr result (NamesPath (λ named. named ≡ path.entry)) }
 {
-    let mut noted = NotedFile {
-        file,
-        reason: WriteReason::Unnamed,
-    };
-    match write_index(alloc, index, notes, kinds, &mut noted) {
+    match write_index(alloc, index, notes, kinds, file) {
         Ok(()) => Ok(()),
         Err(SaveFault::NoMemory) => Err(StoreFault::Run(FilesFault::NoMemory)),
-        Err(SaveFault::Write) => Err(StoreFault::CannotWrite(path, noted.reason)),
+        Err(SaveFault::Write) => Err(StoreFault::CannotWrite(path, find_reason(file))),
+    }
+}
+
+/// Finds why a file can't be written further. It tries one more byte, which the callers take away with what was written.
+fn find_reason<S: Write>(file: &mut S) -> WriteReason {
+    match file.write(&[0]) {
+        Ok(_) => WriteReason::Unnamed,
+        Err(error) => WriteReason::of(&error),
     }
 }
