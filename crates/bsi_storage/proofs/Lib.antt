@@ -1,4 +1,6 @@
 pub mod BodyWords
+mod Choices
+mod ChosenRows
 mod ColumnBitmaps
 mod ColumnHeads
 mod ColumnWords
@@ -9,6 +11,9 @@ mod HeadWords
 mod NoTables
 mod OneTable
 mod Openings
+mod PlacedColumns
+mod PlacedFaults
+mod PlacedHeads
 mod RowCounts
 mod SegmentParts
 mod WholeSegments

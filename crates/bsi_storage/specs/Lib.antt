@@ -1,3 +1,5 @@
+pub mod Choices
+pub mod ChosenColumns
 pub mod Decoding
 pub mod Faults
 pub mod Heads

@@ -1,6 +1,8 @@
 //! An index in a file: written, added to and opened.
 #![tactic(auto)]
 
+mod chosen;
+mod chosen_schema;
 mod columns;
 mod decoding;
 mod fault;
@@ -9,10 +11,12 @@ mod heads;
 mod laws;
 mod opening;
 mod rows;
+mod segment_head;
 mod writing;
 
 pub use bsi_segments::{Version, may_begin};
 pub use bsi_table::NoMemory;
+pub use chosen::open_columns;
 pub use fault::{OpenFault, SaveFault};
 pub use laws::{
     a_cut_file_has_whole_segments, a_cut_segment_is_not_opened, a_file_has_one_table,
