@@ -5,6 +5,7 @@ mod ColumnBitmaps
 mod ColumnHeads
 mod ColumnWords
 mod Cutting
+mod FileWalk
 mod Files
 mod FrontWords
 mod HeadWords

@@ -16,12 +16,13 @@ use Rattle.bsi_segments.specs.Lanes.{lanes_of}
 use Rattle.bsi_segments.specs.Segments.{bytes_of, counted, AreWords, EndsWithin, MeetsFault, StopsBefore}
 use Rattle.bsi_segments.specs.declared.fault.SegmentFault.{SegmentFault}
 use Rattle.bsi_segments.specs.declared.fault.SegmentFault.TheVariants.{CutShort, Damaged, NoMemory, NotASegment, OtherVersion, Read}
+use Rattle.bsi_segments.specs.declared.version.Version.{Version}
 use Rattle.bsi_segments.specs.declared.version.Version.TheVariants.{Two}
 use Rattle.bsi_segments.proofs.Chunks.{length-all, length-packed}
 use Rattle.bsi_segments.proofs.Eights.{length-bytes_of}
 use Rattle.bsi_segments.proofs.Unique.{no_fault}
 use Rattle.bsi_table.specs.Bitmaps.{bitmap_count, bitmaps_of}
-use Rattle.bsi_storage.specs.ChosenColumns.{column_place, feeders_place, BeginsAt, IsHeadOf}
+use Rattle.bsi_storage.specs.ChosenColumns.{column_place, feeders_place, BeginsAt, BeginsBy, IsHeadOf}
 use Rattle.bsi_storage.specs.Decoding.{bitmaps_in, feeder_word_count}
 use Rattle.bsi_storage.specs.Faults.{open_fault}
 use Rattle.bsi_storage.specs.Heads.{column_head, column_heads, feeder_checksum, head, numbers_of, zone_words}
@@ -33,17 +34,19 @@ use Rattle.bsi_storage.proofs.ColumnHeads.{checksums, column_bitmaps_long, heads
 use Rattle.bsi_storage.proofs.ColumnWords.{feeders_below, feeders_long}
 use Rattle.bsi_storage.proofs.HeadWords.{first_are}
 use Rattle.bsi_storage.proofs.PlacedColumns.{before_long, feeder_fit, front_long, not-some, own_bitmaps, short, some-of, split, words_there}
-use Rattle.bsi_storage.proofs.PlacedHeads.{opened, there}
+use Rattle.bsi_storage.proofs.PlacedHeads.{opened, there_by}
+use Rattle.bsi_storage.proofs.SegmentParts.{first_words, last_words}
 use Rattle.bsi_storage.proofs.RowCounts.{bitmaps_more, length-columns_words, length-feeder_words}
 use Rattle.bsi_syntax.specs.Bytes.{KnownBytes}
 
 -- ---- the head
 
-module _ (known : KnownBytes) (at : ℕ) (t : Table) (notes kinds : List ℕ) (begins : BeginsAt known at t notes kinds) (seen after : KnownBytes) (from : ℕ) (same : seen ≡ known) (here : from ≡ at) where
+module _ (version : Version) (known : KnownBytes) (at : ℕ) (t : Table) (notes kinds : List ℕ) (begins : BeginsBy version known at t notes kinds)
+    (seen after : KnownBytes) (from : ℕ) (same : seen ≡ known) (here : from ≡ at) where
   pub head_fault : (fault : SegmentFault) → MeetsFault (known_from from seen) after fault → IsReadOrNoMemory (open_fault fault)
   head_fault fault meets =
-      elim (no_fault Two (head t notes kinds) (bytes_of (rows_words t.schema t.feeders t.rows) ++ begins.rest) (first_are Two t notes kinds begins.valid) after fault
-      (subst (λ (k : KnownBytes). MeetsFault k after fault) (there known at t notes kinds begins seen after from same here) meets)) [
+      elim (no_fault version (first_words version t notes kinds) (bytes_of (last_words version t) ++ begins.rest) (first_are version t notes kinds begins.valid) after fault
+      (subst (λ (k : KnownBytes). MeetsFault k after fault) (there_by version known at t notes kinds begins seen after from same here) meets)) [
         | inl is ↦ inl (ap open_fault is)
         | inr is ↦ inr (ap open_fault is)
       ]

@@ -6,6 +6,7 @@ use Rattle.bsi_places.specs.Places.{known_from, StandAt}
 use Rattle.bsi_rows.specs.Table.{Table}
 use Rattle.bsi_schema.specs.Columns.{column_at}
 use Rattle.bsi_segments.specs.Bitmaps.{packed}
+use Rattle.bsi_segments.specs.declared.version.Version.{Version}
 use Rattle.bsi_segments.specs.declared.version.Version.TheVariants.{Two}
 use Rattle.bsi_shift.specs.Shifted.{shifted_entries, OffsetColumn}
 use Rattle.bsi_table.specs.Bitmaps.{entries_bitmaps}
@@ -16,13 +17,17 @@ use Rattle.bsi_storage.specs.Saved.{segment, MayBeSaved}
 use Rattle.bsi_storage.specs.declared.segment_head.SegmentHead.{SegmentHead}
 use Rattle.bsi_syntax.specs.Bytes.{Bytes, KnownBytes}
 
--- The bytes from a place on begin with the segment of version 2 of a table.
-pub record BeginsAt (known : KnownBytes) (at : ℕ) (t : Table) (notes kinds : Bytes) : Type 0 where
+-- The bytes from a place on begin with the segment of some version of a table.
+pub record BeginsBy (version : Version) (known : KnownBytes) (at : ℕ) (t : Table) (notes kinds : Bytes) : Type 0 where
   -- An index may have this table, with these notes and this text of kinds.
-  pub valid : MayBeSaved Two t notes kinds
+  pub valid : MayBeSaved version t notes kinds
   -- The bytes after the segment.
   pub rest : Bytes
-  pub bytes_are : known_from at known ≡ Some (segment Two t notes kinds ++ rest)
+  pub bytes_are : known_from at known ≡ Some (segment version t notes kinds ++ rest)
+
+-- They begin with its segment of version 2.
+abbrev pub BeginsAt : KnownBytes → ℕ → Table → Bytes → Bytes → Type 0
+BeginsAt known at t notes kinds = BeginsBy Two known at t notes kinds
 
 -- The head is that of the segment of a table at a place.
 pub record IsHeadOf (first : SegmentHead) (at : ℕ) (t : Table) (notes kinds : Bytes) : Type 0 where
@@ -30,6 +35,8 @@ pub record IsHeadOf (first : SegmentHead) (at : ℕ) (t : Table) (notes kinds : 
   pub feeders : first.front.sizes.feeders ≡ t.feeders
   pub limit : first.front.sizes.limit ≡ t.limit
   pub schema : first.front.schema ≡ t.schema
+  pub notes_are : first.front.notes.items ≡ notes
+  pub kinds_are : first.front.kinds.items ≡ kinds
   -- What the head says of the rows.
   pub behind : first.behind.items ≡ rows_head t.schema t.feeders t.rows
   -- The rows stand behind the counted words of the head.

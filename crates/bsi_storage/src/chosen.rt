@@ -1,4 +1,4 @@
-//! Opens chosen columns of a segment of version 2 (`open_columns`): it reads the head, the bitmaps of these columns and
+//! Opens chosen columns of a segment of version 2 by its head (`open_segment`): it reads the bitmaps of these columns and
 //! the feeders of the rows, and no other bytes.
 
 ghost use Rattle.std.specs.Prelude.{◌≡◌, ◌<◌, ℕ, All, IfErr, IfNone, IfOk, IfSome, length};
@@ -23,7 +23,7 @@ use crate::OpenFault;
 use crate::chosen_schema::choose_columns;
 use crate::decoding::decode_origins;
 use crate::fronts::{count_all_bitmaps, count_feeder_words};
-use crate::segment_head::{SegmentHead, count_bitmaps_before, find_place, find_sums, read_head};
+use crate::segment_head::{SegmentHead, count_bitmaps_before, find_place, find_sums};
 use bsi_origins::Origins;
 use bsi_places::{At, ReadAt, read_bitmaps};
 use bsi_segments::read_words;
@@ -130,31 +130,31 @@ fn read_origins<R: ReadAt>(
     }
 }
 
-/// Opens the chosen columns of the segment of version 2 at place `at`, in this order: an index of these columns alone. It
-/// is none if no segment of version 2 begins there, or if no column is chosen, or one that is not there, or one twice.
-pub fn open_columns<R: ReadAt>(
+/// Opens the chosen columns of the segment that has this head, in this order: an index of these columns alone. It is none
+/// if no column is chosen, or one that is not there, or one twice.
+pub(crate) fn open_segment<R: ReadAt>(
     alloc: Global,
     reader: &R,
-    at: u64,
+    head: &SegmentHead,
     chosen: &[u32],
 ) -> Result<Option<Index>, OpenFault>
-    ensures opened { IfOk result (λ opened. IfSome opened (λ index. (t : Table) →
+    requires sizes { AreSizes head.now.front.sizes.rows head.now.front.sizes.feeders
+        head.now.front.sizes.limit }
+    requires declared { IsDeclared head.now.front.schema }
+    ensures opened { IfOk result (λ opened. IfSome opened (λ index. (at : ℕ) → (t : Table) →
         (notes kinds : Bytes) → BeginsAt (R.all_bytes reader.now) at t notes kinds →
-        table_of index ≡ chosen_table chosen.now t)) }
-    ensures none { IfOk result (λ opened. IfNone opened ((t : Table) → (notes kinds : Bytes) →
-        BeginsAt (R.all_bytes reader.now) at t notes kinds →
-        IsChoice (length t.schema.columns) chosen.now → ⊥)) }
-    ensures fault { IfErr result (λ fault. (t : Table) → (notes kinds : Bytes) →
-        BeginsAt (R.all_bytes reader.now) at t notes kinds → IsReadOrNoMemory fault) }
+        IsHeadOf head.now at t notes kinds → table_of index ≡ chosen_table chosen.now t)) }
+    ensures none { IfOk result (λ opened. IfNone opened
+        (IsChoice (length head.now.front.schema.columns) chosen.now → ⊥)) }
+    ensures fault { IfErr result (λ fault. (at : ℕ) → (t : Table) → (notes kinds : Bytes) →
+        BeginsAt (R.all_bytes reader.now) at t notes kinds → IsHeadOf head.now at t notes kinds →
+        IsReadOrNoMemory fault) }
 {
-    let Some(head) = read_head(alloc, reader, at)? else {
-        return Ok(None);
-    };
     let Some(narrow) = choose_columns(alloc, &head.front.schema, chosen)? else {
         return Ok(None);
     };
-    let columns = read_columns(alloc, reader, &head, chosen)?;
-    let origins = read_origins(alloc, reader, &head)?;
+    let columns = read_columns(alloc, reader, head, chosen)?;
+    let origins = read_origins(alloc, reader, head)?;
     let index = Index::from_parts(alloc, narrow, columns, origins, head.front.sizes.limit)?;
     Ok(Some(index))
 }

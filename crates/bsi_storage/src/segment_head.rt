@@ -7,7 +7,7 @@ ghost use Rattle.bsi_places.specs.Places.{known_from};
 ghost use Rattle.bsi_rows.specs.Table.{Table};
 ghost use Rattle.bsi_schema.specs.Columns.{IsDeclared};
 ghost use Rattle.bsi_segments.specs.declared.version.Version.{Version};
-ghost use Rattle.bsi_storage.specs.ChosenColumns.{BeginsAt, IsHeadOf};
+ghost use Rattle.bsi_storage.specs.ChosenColumns.{BeginsAt, BeginsBy, IsHeadOf};
 ghost use Rattle.bsi_storage.specs.Decoding.{bitmaps_in, AreSizes};
 ghost use Rattle.bsi_storage.specs.Opens.{IsReadOrNoMemory};
 ghost use Rattle.bsi_syntax.specs.Bytes.{Bytes};
@@ -43,8 +43,10 @@ pub(crate) fn read_head<R: ReadAt>(
         BeginsAt (R.all_bytes reader.now) at t notes kinds → IsHeadOf head at t notes kinds)) }
     ensures none { IfOk result (λ found. IfNone found ((t : Table) → (notes kinds : Bytes) →
         BeginsAt (R.all_bytes reader.now) at t notes kinds → ⊥)) }
-    ensures fault { IfErr result (λ fault. (t : Table) → (notes kinds : Bytes) →
-        BeginsAt (R.all_bytes reader.now) at t notes kinds → IsReadOrNoMemory fault) }
+    ensures not_one { IfOk result (λ found. IfSome found (λ head. (t : Table) → (notes kinds : Bytes) →
+        BeginsBy Version.One (R.all_bytes reader.now) at t notes kinds → ⊥)) }
+    ensures fault { IfErr result (λ fault. (version : Version) → (t : Table) → (notes kinds : Bytes) →
+        BeginsBy version (R.all_bytes reader.now) at t notes kinds → IsReadOrNoMemory fault) }
 {
     let mut place = At::new(reader, at);
     let Some(first) = read_counted(alloc, &mut place)? else {

@@ -1,8 +1,10 @@
-use Rattle.std.proofs.Common.{◌≡◌, ◌+◌, ◌*◌, length, arith, rules, ap, sym, ◌∙◌}
+use Rattle.std.proofs.Common.{◌≡◌, ◌+◌, ◌*◌, length, arith, rules, ap, subst, sym, ◌∙◌}
 use Rattle.std.specs.Prelude.{IfErr}
 use Rattle.bsi_rows.specs.Table.{Table}
-use Rattle.bsi_segments.specs.declared.version.Version.TheVariants.{Two}
-use Rattle.bsi_storage.specs.ChosenColumns.{BeginsAt}
+use Rattle.bsi_segments.specs.Segments.{magic}
+use Rattle.bsi_segments.specs.declared.version.Version.{Version}
+use Rattle.bsi_segments.specs.declared.version.Version.TheVariants.{One, Two}
+use Rattle.bsi_storage.specs.ChosenColumns.{BeginsAt, BeginsBy}
 use Rattle.bsi_storage.specs.Faults.{open_fault}
 use Rattle.bsi_storage.specs.Heads.{head, rows_head}
 use Rattle.bsi_storage.specs.Opens.{IsReadOrNoMemory}
@@ -10,7 +12,7 @@ use Rattle.bsi_storage.specs.declared.fault.OpenFault.{OpenFault}
 use Rattle.bsi_storage.proofs.Files.{err_as}
 use Rattle.bsi_storage.proofs.FrontWords.{fronts}
 use Rattle.bsi_storage.proofs.PlacedFaults.{head_fault}
-use Rattle.bsi_storage.proofs.PlacedHeads.{head_read, not_ended}
+use Rattle.bsi_storage.proofs.PlacedHeads.{head_read, not_ended, version_read}
 use Rattle.bsi_syntax.specs.Bytes.{Bytes}
 use Rattle.bsi_storage.proofs.segment_head.read_head.Goals as goal
 
@@ -54,6 +56,8 @@ returns-clause-is g c = λ t notes kinds begins.
       feeders = all.feeders_same;
       limit = all.limit_same;
       schema = all.schema_same;
+      notes_are = all.notes_same;
+      kinds_are = all.kinds_same;
       behind = c.in_ok-behind.ensures.items ∙ all.behind_same;
       rows_at = omega (arith, at_is, c.len.ensures, ap length words);
     })
@@ -66,18 +70,35 @@ returns-in_err-first-clause-fault g c =
     let reported = c.in_err-first.field-0.0 in
     let met : IfErr c.from_residual.result (λ (fault : OpenFault). fault ≡ open_fault reported) = search rules in
     err_as c.from_residual.result (open_fault reported)
-    (λ (fault : OpenFault). (t : Table) → (notes kinds : Bytes) → BeginsAt known c.args.at t notes kinds → IsReadOrNoMemory fault) met
-    (λ t notes kinds begins. head_fault known c.args.at t notes kinds begins seen _ c.new-place.result.at same c.new-place.ensures.at reported c.in_err-first.ensures.fault)
+    (λ (fault : OpenFault). (version : Version) → (t : Table) → (notes kinds : Bytes) → BeginsBy version known c.args.at t notes kinds → IsReadOrNoMemory fault) met
+    (λ version t notes kinds begins. head_fault version known c.args.at t notes kinds begins seen _ c.new-place.result.at same c.new-place.ensures.at reported c.in_err-first.ensures.fault)
 
 pub returns-in_default-2-clause-fault : goal.returns-in_default-2-clause-fault
-returns-in_default-2-clause-fault g c = λ t notes kinds begins.
+returns-in_default-2-clause-fault g c = λ version t notes kinds begins.
     (let known = g.R.ReadAt.all_bytes c.args.reader.now in
     let seen = g.R.ReadAt.all_bytes c.new-place.result.reader.now in
     let same : seen ≡ known = ap (λ b. g.R.ReadAt.all_bytes b.now) c.new-place.ensures.reader in
     let read = rw c.in-Some.is at c.in_ok-first.ensures.read in
     let fit = rw c.in-Some.is at c.in_ok-first.ensures.fit in
     let first = c.in-Some.first in
+    let is : first.version ≡ version =
+    version_read version known c.args.at t notes kinds begins seen _ c.new-place.result.at same c.new-place.ensures.at first.version first.words.items fit read in
+    let two : version ≡ Two = sym is ∙ c.in-Two.is in
+    let begins_too : BeginsAt known c.args.at t notes kinds = subst (λ v. BeginsBy v known c.args.at t notes kinds) two begins in
     let words : first.words.items ≡ head t notes kinds =
-    (head_read known c.args.at t notes kinds begins seen _ c.new-place.result.at same c.new-place.ensures.at first.version first.words.items fit read).1 in
+    (head_read known c.args.at t notes kinds begins_too seen _ c.new-place.result.at same c.new-place.ensures.at first.version first.words.items fit read).1 in
     let none = rw c.in_default-2.is at c.in_ok-front.ensures.none in
-    absurd (none t notes kinds (rows_head t.schema t.feeders t.rows) begins.valid (c.deref.ensures.value ∙ words)))
+    absurd (none t notes kinds (rows_head t.schema t.feeders t.rows) begins_too.valid (c.deref.ensures.value ∙ words)))
+
+-- no segment of version 1 begins there
+pub returns-clause-not_one : goal.returns-clause-not_one
+returns-clause-not_one g c = λ t notes kinds begins.
+    (let known = g.R.ReadAt.all_bytes c.args.reader.now in
+    let seen = g.R.ReadAt.all_bytes c.new-place.result.reader.now in
+    let same : seen ≡ known = ap (λ b. g.R.ReadAt.all_bytes b.now) c.new-place.ensures.reader in
+    let read = rw c.in-Some.is at c.in_ok-first.ensures.read in
+    let fit = rw c.in-Some.is at c.in_ok-first.ensures.fit in
+    let first = c.in-Some.first in
+    let is : first.version ≡ One =
+    version_read One known c.args.at t notes kinds begins seen _ c.new-place.result.at same c.new-place.ensures.at first.version first.words.items fit read in
+    absurd (omega (arith, ap magic (sym c.in-Two.is ∙ is))))

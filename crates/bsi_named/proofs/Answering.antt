@@ -29,10 +29,10 @@ use Rattle.bsi_answers.specs.AskLines.{IsAskLineBy, IsQuestionLine}
 use Rattle.bsi_answers.specs.ReplyLines.{total_column, IsGroupsLine, IsReplyLine}
 use Rattle.bsi_chosen.specs.Chosen.{chosen_rows, chosen_schema, place_in, renumbered, renumbered_query, renumbered_total, Shows}
 use Rattle.bsi_chosen.specs.Words.{chosen_texts, chosen_words, place_among, AreChosen}
-use Rattle.bsi_chosen.proofs.Asked.{asked-by, columns_of_query, columns_of_question, renumbered_question, IsNamed, StandIn}
-use Rattle.bsi_chosen.proofs.Lines.{line-shown}
+use Rattle.bsi_named.proofs.Asked.{asked-by, columns_of_query, columns_of_question, renumbered_question, IsNamed, StandIn}
+use Rattle.bsi_named.proofs.Lines.{line-shown}
 use Rattle.bsi_chosen.proofs.Places.{among-chosen, place_back, there-again, there-among}
-use Rattle.bsi_chosen.proofs.Replies.{reply-shown}
+use Rattle.bsi_named.proofs.Replies.{reply-shown}
 use Rattle.bsi_chosen.proofs.Shown.{chosen-show, wide-fitting}
 
 -- columns below a count are there

@@ -1,5 +1,5 @@
-use Rattle.bsi_chosen.proofs.Answering.{lines-alike}
-use Rattle.bsi_chosen.proofs.laws.named_columns_answer_each_line.Goals as goal
+use Rattle.bsi_named.proofs.Answering.{lines-alike}
+use Rattle.bsi_named.proofs.laws.named_columns_answer_each_line.Goals as goal
 
 pub returns : goal.returns
 returns g c = λ grammar t chosen fields line fitting there are.

@@ -24,7 +24,7 @@ use Rattle.bsi_aggregates.specs.declared.answering.QuestionReply.{QuestionReply}
 use Rattle.bsi_aggregates.specs.declared.answering.QuestionReply.TheVariants as reply
 use Rattle.bsi_answers.specs.ReplyLines.{total_column, AreEntryTexts, IsGroupsLine, IsGroupText, IsListLine, IsReplyLine, IsTopLine, IsTotalLine, IsValueText}
 use Rattle.bsi_chosen.specs.Chosen.{renumbered_total, Shows}
-use Rattle.bsi_chosen.proofs.Asked.{renumbered_question}
+use Rattle.bsi_named.proofs.Asked.{renumbered_question}
 use Rattle.bsi_chosen.proofs.Both.{alike, along, pairs}
 
 -- ---- lists of texts

@@ -41,7 +41,7 @@ use Rattle.bsi_aggregates.specs.declared.grouping.GroupError.{GroupError}
 use Rattle.bsi_aggregates.specs.declared.grouping.GroupError.TheVariants as group
 use Rattle.bsi_aggregates.specs.declared.tops.TopRow.{TopRow}
 use Rattle.bsi_chosen.specs.Chosen.{renumbered, renumbered_query, renumbered_total, Shows}
-use Rattle.bsi_chosen.proofs.Asked.{columns_of_question, renumbered_question}
+use Rattle.bsi_named.proofs.Asked.{columns_of_question, renumbered_question}
 use Rattle.bsi_chosen.proofs.Both.{alike, along, beside, neither_holds, pairs, then}
 use Rattle.bsi_chosen.proofs.Shown.{answer-shown, entry-shown, holds-renumbered, long-shown, places-shown}
 

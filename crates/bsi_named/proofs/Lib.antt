@@ -1,0 +1,4 @@
+pub mod Answering
+pub mod Asked
+pub mod Lines
+pub mod Replies

@@ -1,0 +1,165 @@
+-- A walk over the segments of a file, from head to head.
+use Rattle.std.proofs.Common.{◌≡◌, ℕ, zero, suc, ◌+◌, ◌*◌, ◌<◌, List, [], ◌∷◌, ◌++◌, Some, None, All, length, get_or, drop, refl, sym, ap, subst, ◌∙◌, arith, append_assoc, append-nil, length-append}
+use Rattle.std.specs.List.{flat_map, AllZip}
+use Rattle.std.specs.Io.KnownBytes.{IsAtEnd}
+use Rattle.std.proofs.Math.Seq.{get_or-append_seam}
+use Rattle.std.proofs.lemmas.Grind.{flat_map-append}
+use Rattle.std.proofs.lemmas.List.{drop_at, drop-drop}
+use Rattle.bsi_places.specs.Places.{known_from}
+use Rattle.bsi_rows.specs.Rows.{SourcedRow}
+use Rattle.bsi_rows.specs.Table.{Table}
+use Rattle.bsi_segments.specs.declared.version.Version.{Version}
+use Rattle.bsi_segments.specs.declared.version.Version.TheVariants.{One, Two}
+use Rattle.bsi_storage.specs.ChosenColumns.{BeginsAt, BeginsBy, IsHeadOf}
+use Rattle.bsi_storage.specs.ChosenFiles.{parts_in, AreFileHeads, AreTwo, IsHeadAt, KeepsTable}
+use Rattle.bsi_storage.specs.Decoding.{rows_word_count}
+use Rattle.bsi_storage.specs.Saved.{part_bytes, rows_words, segment, with_only, IsPartOf, Part}
+use Rattle.bsi_storage.specs.declared.segment_head.SegmentHead.{SegmentHead}
+use Rattle.bsi_storage.proofs.OneTable.{no_bytes}
+use Rattle.bsi_storage.proofs.PlacedColumns.{not-some, some-of}
+use Rattle.bsi_storage.proofs.RowCounts.{length-rows_words}
+use Rattle.bsi_storage.proofs.SegmentParts.{segment_long}
+use Rattle.bsi_syntax.specs.Bytes.{KnownBytes}
+
+-- ---- lists, place by place
+
+zip-push : {A B : Type 0} (R : A → B → Type 0) (xs : List A) (ys : List B) (x : A) (y : B) → AllZip R xs ys → R x y → AllZip R (xs ++ x ∷ []) (ys ++ y ∷ [])
+zip-push R [] [] x y all one = (one, tt)
+zip-push R [] (z ∷ ys) x y all one = absurd all
+zip-push R (z ∷ xs) [] x y all one = absurd all
+zip-push R (w ∷ xs) (z ∷ ys) x y all one = (all.0, zip-push R xs ys x y all.1 one)
+
+pub zip-at : {A B : Type 0} (R : A → B → Type 0) (xs : List A) (ys : List B) (i : ℕ) (d : A) (e : B) → AllZip R xs ys → i < length xs → R (get_or xs i d) (get_or ys i e)
+zip-at R [] ys i d e all within = absurd (omega (arith, within))
+zip-at R (x ∷ xs) [] i d e all within = absurd all
+zip-at R (x ∷ xs) (y ∷ ys) zero d e all within = all.0
+zip-at R (x ∷ xs) (y ∷ ys) (suc i) d e all within = zip-at R xs ys i d e all.1 (omega (arith, within))
+
+pub zip-long : {A B : Type 0} (R : A → B → Type 0) (xs : List A) (ys : List B) → AllZip R xs ys → length xs ≡ length ys
+zip-long R [] [] all = refl
+zip-long R [] (y ∷ ys) all = absurd all
+zip-long R (x ∷ xs) [] all = absurd all
+zip-long R (x ∷ xs) (y ∷ ys) all = (let rest = zip-long R xs ys all.1 in omega (arith, rest))
+
+-- what holds of each holds of one behind others
+one_of : {X : Type 0} (P : X → Type 0) (xs : List X) (y : X) (ys : List X) → All P (xs ++ y ∷ ys) → P y
+one_of P xs y ys all =
+    subst P (get_or-append_seam xs y ys y) (all (length xs) y (omega (arith, length-append xs (y ∷ ys))))
+
+-- ---- places
+
+-- the words of the rows end where the segment does
+pub behind_rows : (known : KnownBytes) (at : ℕ) (t : Table) (notes kinds : List ℕ) → BeginsAt known at t notes kinds → (first : SegmentHead) → IsHeadOf first at t notes kinds
+    → first.rows_at + 8 * rows_word_count first.front.schema first.front.sizes.feeders first.front.sizes.rows ≡ at + length (segment Two t notes kinds)
+behind_rows known at t notes kinds begins first is =
+    let same : rows_word_count first.front.schema first.front.sizes.feeders first.front.sizes.rows ≡ length (rows_words t.schema t.feeders t.rows) =
+    (λ i. rows_word_count (is.schema i) (is.feeders i) (is.rows i)) ∙ sym (length-rows_words t.schema t.feeders t.rows begins.valid.rows) in
+    omega (arith, is.rows_at, same, segment_long Two t notes kinds)
+
+stands_behind : (known : KnownBytes) (at : ℕ) (front rest : List ℕ) → known_from at known ≡ Some (front ++ rest) → known_from (at + length front) known ≡ Some rest
+stands_behind None at front rest is = absurd (not-some (front ++ rest) is)
+stands_behind (Some bytes) at front rest is =
+    ap Some (sym (drop-drop (length front) at bytes) ∙ ap (drop (length front)) (some-of (drop at bytes) (front ++ rest) is) ∙ drop_at front rest (length front) refl)
+
+-- ---- the walk
+
+-- The heads are those of the first segments of a file, and the others stand from a place on.
+pub record HasWalked (known : KnownBytes) (t : Table) (notes kinds : List ℕ) (keeps : KeepsTable known t notes kinds) (heads : List SegmentHead) (at : ℕ) : Type 0 where
+  pub done : List Part
+  pub left : List Part
+  pub parts : parts_in keeps ≡ done ++ left
+  pub each : AllZip (IsHeadAt known t kinds) heads done
+  pub there : known_from at known ≡ Some (flat_map (part_bytes t kinds) left)
+
+module _ (known : KnownBytes) (t : Table) (notes kinds : List ℕ) (keeps : KeepsTable known t notes kinds) where
+  pub walk_start : (heads : List SegmentHead) → heads ≡ [] → HasWalked known t notes kinds keeps heads 0
+  walk_start heads none = record {
+    done = [];
+    left = parts_in keeps;
+    parts = refl;
+    each = subst (λ (hs : List SegmentHead). AllZip (IsHeadAt known t kinds) hs []) (sym none) tt;
+    there = ap (known_from 0) keeps.known_are ∙ ap Some keeps.file.bytes_are;
+  }
+
+  module _ (heads : List SegmentHead) (at : ℕ) (walked : HasWalked known t notes kinds keeps heads at) where
+    -- The next segment begins at the place.
+    pub record HasNext : Type 0 where
+      pub p : Part
+      pub ps : List Part
+      pub left_is : walked.left ≡ p ∷ ps
+      pub begins : BeginsBy p.version known at (with_only t p.rows) p.notes kinds
+      pub behind : known_from at known ≡ Some (part_bytes t kinds p ++ flat_map (part_bytes t kinds) ps)
+
+    next_of : (left : List Part) → walked.left ≡ left → (known_from at known ≡ Some [] → ⊥) → HasNext
+    next_of [] is some = absurd (some (walked.there ∙ ap (λ ps. Some (flat_map (part_bytes t kinds) ps)) is))
+    next_of (p ∷ ps) is some =
+        let behind : known_from at known ≡ Some (part_bytes t kinds p ++ flat_map (part_bytes t kinds) ps) = walked.there ∙ ap (λ qs. Some (flat_map (part_bytes t kinds) qs)) is in
+        record {
+          p = p;
+          ps = ps;
+          left_is = is;
+          begins = record {
+            valid = one_of (IsPartOf t kinds) walked.done p ps (subst (All (IsPartOf t kinds)) (walked.parts ∙ ap (λ qs. walked.done ++ qs) is) keeps.file.each);
+            rest = flat_map (part_bytes t kinds) ps;
+            bytes_are = behind;
+          };
+          behind = behind;
+        }
+
+    pub next : (known_from at known ≡ Some [] → ⊥) → HasNext
+    next some = next_of walked.left refl some
+
+    -- which is of version 2 if all are
+    pub next_two : (n : HasNext) → AreTwo keeps → n.p.version ≡ Two
+    next_two n two = one_of (λ (p : Part). p.version ≡ Two) walked.done n.p n.ps (subst (All (λ (p : Part). p.version ≡ Two)) (walked.parts ∙ ap (λ qs. walked.done ++ qs) n.left_is) two)
+
+    pub begins_two : (n : HasNext) → n.p.version ≡ Two → BeginsAt known at (with_only t n.p.rows) n.p.notes kinds
+    begins_two n two = subst (λ v. BeginsBy v known at (with_only t n.p.rows) n.p.notes kinds) two n.begins
+
+    -- or where no segment of version 1 begins
+    not_one : (version : Version) (u : Table) (others : List ℕ) → BeginsBy version known at u others kinds → ((v : Table) → (next more : List ℕ) → BeginsBy One known at v next more → ⊥) → version ≡ Two
+    not_one One u others begins none = absurd (none u others kinds begins)
+    not_one Two u others begins none = refl
+
+    pub next_not_one : (n : HasNext) → ((v : Table) → (next more : List ℕ) → BeginsBy One known at v next more → ⊥) → n.p.version ≡ Two
+    next_not_one n none = not_one n.p.version (with_only t n.p.rows) n.p.notes n.begins none
+
+    -- one more head
+    pub walk_on : (n : HasNext) → n.p.version ≡ Two → (first : SegmentHead) → IsHeadOf first at (with_only t n.p.rows) n.p.notes kinds → (more : List SegmentHead) → more ≡ heads ++ first ∷ []
+        → (end : ℕ) → end ≡ first.rows_at + 8 * rows_word_count first.front.schema first.front.sizes.feeders first.front.sizes.rows → HasWalked known t notes kinds keeps more end
+    walk_on n two first is more more_is end end_is =
+        let begins = begins_two n two in
+        let place : end ≡ at + length (part_bytes t kinds n.p) =
+        end_is ∙ behind_rows known at (with_only t n.p.rows) n.p.notes kinds begins first is
+        ∙ ap (λ v. at + length (segment v (with_only t n.p.rows) n.p.notes kinds)) (sym two) in
+        record {
+          done = walked.done ++ n.p ∷ [];
+          left = n.ps;
+          parts = walked.parts ∙ ap (λ qs. walked.done ++ qs) n.left_is ∙ sym (append_assoc walked.done (n.p ∷ []) n.ps);
+          each = subst (λ (hs : List SegmentHead). AllZip (IsHeadAt known t kinds) hs (walked.done ++ n.p ∷ [])) (sym more_is)
+          (zip-push (IsHeadAt known t kinds) heads walked.done first n.p walked.each (record { at = at; begins = begins; is = is }));
+          there = ap (λ m. known_from m known) place ∙ stands_behind known at (part_bytes t kinds n.p) (flat_map (part_bytes t kinds) n.ps) n.behind;
+        }
+
+    -- none is left where the bytes end
+    none_left : (left : List Part) → walked.left ≡ left → IsAtEnd (known_from at known) → walked.left ≡ []
+    none_left [] is ended = is
+    none_left (p ∷ ps) is ended =
+        let behind : known_from at known ≡ Some (part_bytes t kinds p ++ flat_map (part_bytes t kinds) ps) = walked.there ∙ ap (λ qs. Some (flat_map (part_bytes t kinds) qs)) is in
+        absurd (no_bytes t kinds p (flat_map (part_bytes t kinds) ps) (sym (subst IsAtEnd behind ended)))
+
+    pub all_walked : IsAtEnd (known_from at known) → AreFileHeads known heads t notes kinds
+    all_walked ended = record {
+      keeps = keeps;
+      each = subst (AllZip (IsHeadAt known t kinds) heads) (sym (walked.parts ∙ ap (λ qs. walked.done ++ qs) (none_left walked.left refl ended) ∙ append-nil walked.done)) walked.each;
+    }
+
+  -- a file has a segment
+  pub some_heads : (heads : List SegmentHead) → AllZip (IsHeadAt known t kinds) heads (parts_in keeps) → length heads ≡ 0 → ⊥
+  some_heads heads each none =
+      omega (arith, none, zip-long (IsHeadAt known t kinds) heads (parts_in keeps) each, length-append keeps.file.before (keeps.file.last ∷ []))
+
+-- ---- the rows of the first parts
+
+abbrev pub rows_in : List Part → List SourcedRow
+rows_in parts = flat_map (λ p. p.rows) parts

@@ -1,0 +1,42 @@
+-- A file of which the heads are read, and some columns: which table it is of (`KeepsTable`), and that the heads are those
+-- of its segments (`AreFileHeads`).
+use Rattle.std.specs.Prelude.{◌≡◌, ℕ, List, [], ◌∷◌, ◌++◌, Some, All}
+use Rattle.std.specs.List.{AllZip}
+use Rattle.bsi_rows.specs.Table.{Table}
+use Rattle.bsi_schema.specs.Columns.{IsDeclared}
+use Rattle.bsi_segments.specs.declared.version.Version.TheVariants.{Two}
+use Rattle.bsi_storage.specs.ChosenColumns.{BeginsAt, IsHeadOf}
+use Rattle.bsi_storage.specs.Decoding.{AreSizes}
+use Rattle.bsi_storage.specs.Saved.{with_only, IsFileOf, Part}
+use Rattle.bsi_storage.specs.declared.segment_head.SegmentHead.{SegmentHead}
+use Rattle.bsi_syntax.specs.Bytes.{Bytes, KnownBytes}
+
+-- The bytes are known, and are a file of a table, with these notes and this text of kinds.
+pub record KeepsTable (known : KnownBytes) (t : Table) (notes kinds : Bytes) : Type 0 where
+  pub bytes : Bytes
+  pub known_are : known ≡ Some bytes
+  pub file : IsFileOf bytes t notes kinds
+
+-- The parts of the file, one for each segment.
+abbrev pub parts_in : {known : KnownBytes} {t : Table} {notes kinds : Bytes} → KeepsTable known t notes kinds → List Part
+parts_in keeps = keeps.file.before ++ keeps.file.last ∷ []
+
+-- The segments of the file are all of version 2.
+abbrev pub AreTwo : {known : KnownBytes} {t : Table} {notes kinds : Bytes} → KeepsTable known t notes kinds → Type 0
+AreTwo keeps = All (λ p. p.version ≡ Two) (parts_in keeps)
+
+-- A head is that of a part of a file, whose segment stands at some place.
+pub record IsHeadAt (known : KnownBytes) (t : Table) (kinds : Bytes) (first : SegmentHead) (p : Part) : Type 0 where
+  pub at : ℕ
+  pub begins : BeginsAt known at (with_only t p.rows) p.notes kinds
+  pub is : IsHeadOf first at (with_only t p.rows) p.notes kinds
+
+-- The bytes are a file of a table, and the heads are those of its segments, in their order.
+pub record AreFileHeads (known : KnownBytes) (heads : List SegmentHead) (t : Table) (notes kinds : Bytes) : Type 0 where
+  pub keeps : KeepsTable known t notes kinds
+  pub each : AllZip (IsHeadAt known t kinds) heads (parts_in keeps)
+
+-- A head has the sizes of some index, and a schema that was declared.
+abbrev pub IsSoundHead : SegmentHead → Type 0
+IsSoundHead first =
+    AreSizes first.front.sizes.rows first.front.sizes.feeders first.front.sizes.limit × IsDeclared first.front.schema
