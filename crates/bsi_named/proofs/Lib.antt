@@ -1,3 +1,4 @@
+mod Answered
 pub mod Answering
 pub mod Asked
 pub mod Lines

@@ -16,7 +16,6 @@ ghost use Rattle.bsi_syntax.specs.Bytes.{Bytes};
 ghost use Rattle.bsi_syntax.specs.Reading.{texts};
 
 use crate::NamedFault;
-use crate::laws::named_columns_answer_each_line;
 use crate::named_columns::open_named;
 use crate::open_columns::OpenColumns;
 use bsi_answers::{FilesFault, Grammar, NoMemory, Which, write_answer_line};
@@ -156,6 +155,5 @@ fn write_line_over<S: ReadAt, V: Vocabulary + Notation>(
 {
     line.clear();
     let words = ChosenWords::new(vocabulary, &columns.chosen, heads.schema().columns());
-    named_columns_answer_each_line(vocabulary);
     write_answer_line(alloc, &columns.index, &words, grammar, fields, line)
 }

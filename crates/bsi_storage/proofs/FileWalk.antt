@@ -1,13 +1,16 @@
 -- A walk over the segments of a file, from head to head.
-use Rattle.std.proofs.Common.{◌≡◌, ℕ, zero, suc, ◌+◌, ◌*◌, ◌<◌, List, [], ◌∷◌, ◌++◌, Some, None, All, length, get_or, drop, refl, sym, ap, subst, ◌∙◌, arith, append_assoc, append-nil, length-append}
+use Rattle.std.proofs.Common.{◌≡◌, ℕ, zero, suc, ◌+◌, ◌-◌, ◌*◌, ◌<◌, ◌≤◌, List, [], ◌∷◌, ◌++◌, Option, Some, None, All, length, get_or, take, drop, refl, sym, ap, subst, ◌∙◌, arith, append_assoc, append-nil, length-append, take-append-drop}
+use Rattle.std.specs.Prelude.{IfNone, IfSome, IsTrue}
 use Rattle.std.specs.List.{flat_map, AllZip}
 use Rattle.std.specs.Io.KnownBytes.{IsAtEnd}
-use Rattle.std.proofs.Math.Seq.{get_or-append_seam}
+use Rattle.std.proofs.Math.Seq.{get_or-append_seam, take-suc}
 use Rattle.std.proofs.lemmas.Grind.{flat_map-append}
-use Rattle.std.proofs.lemmas.List.{drop_at, drop-drop}
+use Rattle.std.proofs.lemmas.List.{drop_at, drop-drop, take_all}
+use Rattle.std.proofs.lemmas.List.Elements.{All-append, All-head, All-nil, All-tail}
 use Rattle.bsi_places.specs.Places.{known_from}
-use Rattle.bsi_rows.specs.Rows.{SourcedRow}
-use Rattle.bsi_rows.specs.Table.{Table}
+use Rattle.bsi_rows.specs.Rows.{row_entries, SourcedRow}
+use Rattle.bsi_rows.specs.Table.{AreFitting, Table}
+use Rattle.bsi_schema.specs.Columns.{fits}
 use Rattle.bsi_segments.specs.declared.version.Version.{Version}
 use Rattle.bsi_segments.specs.declared.version.Version.TheVariants.{One, Two}
 use Rattle.bsi_storage.specs.ChosenColumns.{BeginsAt, BeginsBy, IsHeadOf}
@@ -20,6 +23,16 @@ use Rattle.bsi_storage.proofs.PlacedColumns.{not-some, some-of}
 use Rattle.bsi_storage.proofs.RowCounts.{length-rows_words}
 use Rattle.bsi_storage.proofs.SegmentParts.{segment_long}
 use Rattle.bsi_syntax.specs.Bytes.{KnownBytes}
+
+-- ---- what is so of a value that may be there
+
+pub some_so : {X : Type 0} {P Q : X → Type 0} (o : Option X) → ((x : X) → P x → Q x) → IfSome o P → IfSome o Q
+some_so None follows p = tt
+some_so (Some x) follows p = follows x p
+
+pub none_so : {X A B : Type 0} (o : Option X) → (A → B) → IfNone o A → IfNone o B
+none_so None follows a = follows a
+none_so (Some x) follows a = tt
 
 -- ---- lists, place by place
 
@@ -154,12 +167,70 @@ module _ (known : KnownBytes) (t : Table) (notes kinds : List ℕ) (keeps : Keep
       each = subst (AllZip (IsHeadAt known t kinds) heads) (sym (walked.parts ∙ ap (λ qs. walked.done ++ qs) (none_left walked.left refl ended) ∙ append-nil walked.done)) walked.each;
     }
 
-  -- a file has a segment
-  pub some_heads : (heads : List SegmentHead) → AllZip (IsHeadAt known t kinds) heads (parts_in keeps) → length heads ≡ 0 → ⊥
-  some_heads heads each none =
-      omega (arith, none, zip-long (IsHeadAt known t kinds) heads (parts_in keeps) each, length-append keeps.file.before (keeps.file.last ∷ []))
-
 -- ---- the rows of the first parts
 
 abbrev pub rows_in : List Part → List SourcedRow
 rows_in parts = flat_map (λ p. p.rows) parts
+
+-- what holds of the rows of each part holds of all
+module _ (P : SourcedRow → Type 0) where
+  all_rows : (ps : List Part) → All (λ p. All P p.rows) ps → All P (rows_in ps)
+  all_rows [] all = All-nil P
+  all_rows (p ∷ ps) all =
+      All-append P p.rows (rows_in ps) (All-head (λ (q : Part). All P q.rows) p ps all) (all_rows ps (All-tail (λ (q : Part). All P q.rows) p ps all))
+
+-- the rows of a file fit its columns
+pub rows_fit : (known : KnownBytes) (t : Table) (notes kinds : List ℕ) → KeepsTable known t notes kinds → AreFitting t.schema.columns t.rows
+rows_fit known t notes kinds keeps =
+    subst (AreFitting t.schema.columns) (sym keeps.file.rows_are)
+    (all_rows (λ row. IsTrue (fits t.schema.columns (row_entries row))) (parts_in keeps) (λ k p below. (keeps.file.each k p below).rows.fits))
+
+-- the schema and the kinds of the first head are those of the file, and the rows of the first ones
+module _ (known : KnownBytes) (heads : List SegmentHead) (t : Table) (notes kinds : List ℕ) (are : AreFileHeads known heads t notes kinds) where
+  pub heads_long : length heads ≡ length (parts_in are.keeps)
+  heads_long = zip-long (IsHeadAt known t kinds) heads (parts_in are.keeps) are.each
+
+  -- a file has a segment
+  pub some_heads : length heads ≡ 0 → ⊥
+  some_heads none = omega (arith, none, heads_long, length-append are.keeps.file.before (are.keeps.file.last ∷ []))
+
+  -- the head of a place
+  pub head_at : (k : ℕ) (d : SegmentHead) → k < length heads → IsHeadAt known t kinds (get_or heads k d) (get_or (parts_in are.keeps) k are.keeps.file.last)
+  head_at k d within = zip-at (IsHeadAt known t kinds) heads (parts_in are.keeps) k d are.keeps.file.last are.each within
+
+  -- the rows of one part more
+  pub rows_more : (k : ℕ) → k < length heads → rows_in (take (k + 1) (parts_in are.keeps)) ≡ rows_in (take k (parts_in are.keeps)) ++ (get_or (parts_in are.keeps) k are.keeps.file.last).rows
+  rows_more k within =
+      let ps = parts_in are.keeps in
+      let p = get_or ps k are.keeps.file.last in
+      let one : k + 1 ≡ suc k = omega arith in
+      ap (λ m. rows_in (take m ps)) one
+      ∙ ap rows_in (take-suc ps k are.keeps.file.last (omega (arith, within, heads_long)))
+      ∙ flat_map-append (λ (q : Part). q.rows) (take k ps) (p ∷ [])
+      ∙ ap (λ rows. rows_in (take k ps) ++ rows) (append-nil p.rows)
+
+  -- the rows of all
+  pub rows_all : (k : ℕ) → length heads ≤ k → rows_in (take k (parts_in are.keeps)) ≡ t.rows
+  rows_all k past = ap rows_in (take_all k (parts_in are.keeps) (omega (arith, past, heads_long))) ∙ sym are.keeps.file.rows_are
+
+  -- those of one more are within the limit
+  pub rows_within : (k : ℕ) → k < length heads → length (rows_in (take k (parts_in are.keeps))) + length (get_or (parts_in are.keeps) k are.keeps.file.last).rows ≤ t.limit
+  rows_within k within =
+      let ps = parts_in are.keeps in
+      let all : t.rows ≡ rows_in (take (k + 1) ps) ++ rows_in (drop (k + 1) ps) =
+      are.keeps.file.rows_are ∙ ap rows_in (sym (take-append-drop (k + 1) ps)) ∙ flat_map-append (λ (q : Part). q.rows) (take (k + 1) ps) (drop (k + 1) ps) in
+      omega (
+        arith,
+        are.keeps.file.within,
+        ap (λ (rs : List SourcedRow). length rs) all,
+        length-append (rows_in (take (k + 1) ps)) (rows_in (drop (k + 1) ps)),
+        ap (λ (rs : List SourcedRow). length rs) (rows_more k within),
+        length-append (rows_in (take k ps)) (get_or ps k are.keeps.file.last).rows,
+      )
+
+  -- the notes are those of the last head
+  pub last_part : get_or (parts_in are.keeps) (length heads - 1) are.keeps.file.last ≡ are.keeps.file.last
+  last_part =
+      let before = are.keeps.file.before in
+      let here : length heads - 1 ≡ length before = omega (arith, heads_long, length-append before (are.keeps.file.last ∷ [])) in
+      ap (λ k. get_or (parts_in are.keeps) k are.keeps.file.last) here ∙ get_or-append_seam before are.keeps.file.last [] are.keeps.file.last

@@ -5,7 +5,7 @@ mod ColumnBitmaps
 mod ColumnHeads
 mod ColumnWords
 mod Cutting
-mod FileWalk
+pub mod FileWalk
 mod Files
 mod FrontWords
 mod HeadWords

@@ -3,7 +3,6 @@
 use Rattle.std.specs.Prelude.{◌≡◌, ℕ, List, [], ◌∷◌, ◌++◌, Some, All}
 use Rattle.std.specs.List.{AllZip}
 use Rattle.bsi_rows.specs.Table.{Table}
-use Rattle.bsi_schema.specs.Columns.{IsDeclared}
 use Rattle.bsi_segments.specs.declared.version.Version.TheVariants.{Two}
 use Rattle.bsi_storage.specs.ChosenColumns.{BeginsAt, IsHeadOf}
 use Rattle.bsi_storage.specs.Decoding.{AreSizes}
@@ -36,7 +35,6 @@ pub record AreFileHeads (known : KnownBytes) (heads : List SegmentHead) (t : Tab
   pub keeps : KeepsTable known t notes kinds
   pub each : AllZip (IsHeadAt known t kinds) heads (parts_in keeps)
 
--- A head has the sizes of some index, and a schema that was declared.
-abbrev pub IsSoundHead : SegmentHead → Type 0
-IsSoundHead first =
-    AreSizes first.front.sizes.rows first.front.sizes.feeders first.front.sizes.limit × IsDeclared first.front.schema
+-- A head has the sizes of some index.
+abbrev pub HasSizes : SegmentHead → Type 0
+HasSizes first = AreSizes first.front.sizes.rows first.front.sizes.feeders first.front.sizes.limit

@@ -138,12 +138,13 @@ pub(crate) fn open_segment<R: ReadAt>(
     head: &SegmentHead,
     chosen: &[u32],
 ) -> Result<Option<Index>, OpenFault>
-    requires sizes { AreSizes head.now.front.sizes.rows head.now.front.sizes.feeders
+    requires { AreSizes head.now.front.sizes.rows head.now.front.sizes.feeders
         head.now.front.sizes.limit }
-    requires declared { IsDeclared head.now.front.schema }
     ensures opened { IfOk result (λ opened. IfSome opened (λ index. (at : ℕ) → (t : Table) →
         (notes kinds : Bytes) → BeginsAt (R.all_bytes reader.now) at t notes kinds →
         IsHeadOf head.now at t notes kinds → table_of index ≡ chosen_table chosen.now t)) }
+    ensures there { IfOk result (λ opened. IfSome opened (λ index.
+        All (λ c. c < length head.now.front.schema.columns) chosen.now)) }
     ensures none { IfOk result (λ opened. IfNone opened
         (IsChoice (length head.now.front.schema.columns) chosen.now → ⊥)) }
     ensures fault { IfErr result (λ fault. (at : ℕ) → (t : Table) → (notes kinds : Bytes) →
@@ -154,6 +155,8 @@ pub(crate) fn open_segment<R: ReadAt>(
         return Ok(None);
     };
     let columns = read_columns(alloc, reader, head, chosen)?;
+    // Its clause says that each column was declared.
+    let _ = head.front.schema.limits();
     let origins = read_origins(alloc, reader, head)?;
     let index = Index::from_parts(alloc, narrow, columns, origins, head.front.sizes.limit)?;
     Ok(Some(index))

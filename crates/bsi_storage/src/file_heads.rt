@@ -1,17 +1,15 @@
 //! The heads of the segments of a file (`read_heads`), and the chosen columns of all of them as one index
 //! (`FileHeads::open_columns`).
 
-ghost use Rattle.std.specs.Prelude.{◌≡◌, ◌+◌, ◌*◌, ◌<◌, ◌≤◌, ◌++◌, [], ℕ, List, Some, All, false, true, IfErr, IfNone, IfOk, IfSome, length};
-ghost use Rattle.std.specs.List.{sum_by};
+ghost use Rattle.std.specs.Prelude.{◌≡◌, ◌+◌, ◌*◌, ◌<◌, ◌≤◌, ◌++◌, [], ℕ, List, Option, Some, All, false, true, IfErr, IfNone, IfOk, IfSome, length};
 ghost use Rattle.std.specs.Io.KnownBytes.{IsAtEnd};
 ghost use Rattle.bsi_chosen.specs.Chosen.{chosen_table};
 ghost use Rattle.bsi_places.specs.Places.{known_from};
 ghost use Rattle.bsi_rows.specs.Rows.{SourcedRow};
 ghost use Rattle.bsi_rows.specs.Table.{Table};
-ghost use Rattle.bsi_schema.specs.Columns.{IsDeclared};
 ghost use Rattle.bsi_storage.specs.Choices.{IsChoice};
-ghost use Rattle.bsi_storage.specs.ChosenFiles.{AreFileHeads, AreTwo, IsHeadAt, IsSoundHead, KeepsTable};
-ghost use Rattle.bsi_storage.specs.Decoding.{rows_word_count, AreSizes};
+ghost use Rattle.bsi_storage.specs.ChosenFiles.{AreFileHeads, AreTwo, HasSizes, IsHeadAt, KeepsTable};
+ghost use Rattle.bsi_storage.specs.Decoding.{rows_word_count};
 ghost use Rattle.bsi_storage.specs.Opens.{IsReadOrNoMemory};
 ghost use Rattle.bsi_storage.specs.Saved.{with_only, Part};
 ghost use Rattle.bsi_syntax.specs.Bytes.{Bytes};
@@ -31,7 +29,7 @@ use std::alloc::Global;
 pub struct FileHeads {
     heads: Vec<SegmentHead>,
     ghost some: { 0 < length heads.items },
-    ghost sound: { All IsSoundHead heads.items },
+    ghost sizes: { All HasSizes heads.items },
 }
 
 /// Reads the heads of all segments of a file, and none of their rows. It is none if there is no segment, or if one of them
@@ -58,7 +56,9 @@ pub fn read_heads<R: ReadAt>(alloc: Global, reader: &R) -> Result<Option<FileHea
         let Some(end) = find_end(&head) else {
             return Err(OpenFault::Read);
         };
-        heads.push(head)?;
+        if heads.push(head).is_err() {
+            return Err(OpenFault::NoMemory);
+        }
         at = end;
     }
     Err(OpenFault::Read)
@@ -80,12 +80,12 @@ fn has_ended<R: ReadAt>(reader: &R, at: u64) -> Result<bool, OpenFault>
 
 /// Returns the place behind the segment that has this head, or none if no place is so far.
 fn find_end(head: &SegmentHead) -> Option<u64>
-    requires sizes { AreSizes head.now.front.sizes.rows head.now.front.sizes.feeders
-        head.now.front.sizes.limit }
-    requires declared { IsDeclared head.now.front.schema }
+    requires { HasSizes head.now }
     ensures { IfSome result (λ end. end ≡ head.now.rows_at + 8 * rows_word_count
         head.now.front.schema head.now.front.sizes.feeders head.now.front.sizes.rows) }
 {
+    // Its clause says that each column was declared.
+    let _ = head.front.schema.limits();
     let count = count_row_words(&head.front.schema, head.front.sizes);
     head.rows_at.checked_add(8 * count)
 }
@@ -93,7 +93,7 @@ fn find_end(head: &SegmentHead) -> Option<u64>
 impl FileHeads {
     /// Makes the heads of a file of these, or none if there is none.
     fn of(heads: Vec<SegmentHead>) -> Option<FileHeads>
-        requires { All IsSoundHead heads.items }
+        requires { All HasSizes heads.items }
         ensures some { IfSome result (λ file. file.heads.items ≡ heads.items) }
         ensures none { IfNone result (length heads.items ≡ 0) }
     {
@@ -105,8 +105,7 @@ impl FileHeads {
 
     /// Lends the schema of the columns.
     pub fn schema(&self) -> &Schema
-        ensures declared { IsDeclared result.now }
-        ensures schema { (known : Option (List ℕ)) → (t : Table) → (notes kinds : Bytes) →
+        ensures { (known : Option (List ℕ)) → (t : Table) → (notes kinds : Bytes) →
             AreFileHeads known self.now.heads.items t notes kinds → result.now ≡ t.schema }
     {
         &self.heads[0].front.schema
@@ -155,6 +154,10 @@ impl FileHeads {
             (notes kinds : Bytes) →
             AreFileHeads (R.all_bytes reader.now) self.now.heads.items t notes kinds →
             table_of index ≡ chosen_table chosen.now t)) }
+        ensures there { IfOk result (λ opened. IfSome opened (λ index. (t : Table) →
+            (notes kinds : Bytes) →
+            AreFileHeads (R.all_bytes reader.now) self.now.heads.items t notes kinds →
+            All (λ c. c < length t.schema.columns) chosen.now)) }
         ensures none { IfOk result (λ opened. IfNone opened ((t : Table) → (notes kinds : Bytes) →
             AreFileHeads (R.all_bytes reader.now) self.now.heads.items t notes kinds →
             IsChoice (length t.schema.columns) chosen.now → ⊥)) }
@@ -184,9 +187,7 @@ fn append_segment<R: ReadAt>(
     chosen: &[u32],
     whole: &mut Index,
 ) -> Result<bool, OpenFault>
-    requires sizes { AreSizes head.now.front.sizes.rows head.now.front.sizes.feeders
-        head.now.front.sizes.limit }
-    requires declared { IsDeclared head.now.front.schema }
+    requires { HasSizes head.now }
     ensures appended { IfOk result (λ done. done ≡ true → (t : Table) → (kinds : Bytes) → (p : Part) →
         (rows : List SourcedRow) → IsHeadAt (R.all_bytes reader.now) t kinds head.now p →
         table_of whole.old ≡ chosen_table chosen.now (with_only t rows) →

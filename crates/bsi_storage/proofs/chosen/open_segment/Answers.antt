@@ -22,7 +22,7 @@ from_parts-requires-clause-accepted g c =
     let made = rw c.in-Some.is at c.in_ok-narrow.ensures.made in
     let there = rw c.in-Some.is at c.in_ok-narrow.ensures.there in
     let some = rw c.in-Some.is at c.in_ok-narrow.ensures.some in
-    let sizes = c.requires.sizes in
+    let sizes = c.requires in
     not_refused narrow c.args.head.now.front.sizes.limit
     (some_chosen (g.R.ReadAt.all_bytes c.args.reader.now) c.args.head.now c.args.chosen.now narrow made there c.in_ok-columns.columns.items c.in_ok-columns.ensures.many
     c.in_ok-columns.ensures.each some) sizes.limit_is.0 sizes.limit_is.1
@@ -35,5 +35,5 @@ returns-clause-opened g c = λ at t notes kinds begins is.
     let origins = c.in_ok-origins.ensures in
     c.in_ok-index.ensures
     ∙ table_is (g.R.ReadAt.all_bytes c.args.reader.now) c.args.head.now c.args.chosen.now narrow made there c.in_ok-columns.columns.items c.in_ok-columns.ensures.many
-    c.in_ok-columns.ensures.each at t notes kinds begins is c.requires.declared c.in_ok-origins.origins.rows origins.len origins.from origins.stands
+    c.in_ok-columns.ensures.each at t notes kinds begins is c.limits.ensures.declared c.in_ok-origins.origins.rows origins.len origins.from origins.stands
     c.in_ok-origins.origins.feeders origins.feeders)

@@ -1,4 +1,4 @@
-use Rattle.bsi_store.proofs.ask.ask_input.Goals as goal
+use Rattle.bsi_store.proofs.ask.ask_whole.Goals as goal
 use Rattle.bsi_table.specs.Index.{table_of}
 
 pub returns-clause-asked : goal.returns-clause-asked
