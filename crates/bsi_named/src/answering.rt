@@ -56,7 +56,15 @@ pub fn answer_named_asks<S: ReadAt, V: Vocabulary + Notation, A: Read + Drop, W:
         IsNoDamage fault) }
 {
     let mut records = RecordSource::new(alloc, RecordAwareReader::new(asks));
-    answer_records(alloc, file, heads, vocabulary, grammar, &mut records, writer)
+    answer_records(
+        alloc,
+        file,
+        heads,
+        vocabulary,
+        grammar,
+        &mut records,
+        writer,
+    )
 }
 
 /// Writes a line for each record of a text of which no record was read.
@@ -131,7 +139,9 @@ fn answer_record<S: ReadAt, V: Vocabulary + Notation>(
 {
     let lent = lend_fields(alloc, fields)?;
     let columns = open_named(alloc, file, heads, vocabulary, &lent, before)?;
-    write_line_over(alloc, file, heads, vocabulary, grammar, &lent, &columns, line)?;
+    write_line_over(
+        alloc, file, heads, vocabulary, grammar, &lent, &columns, line,
+    )?;
     Ok(columns)
 }
 

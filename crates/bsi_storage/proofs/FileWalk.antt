@@ -1,21 +1,23 @@
 -- A walk over the segments of a file, from head to head.
-use Rattle.std.proofs.Common.{◌≡◌, ℕ, zero, suc, ◌+◌, ◌-◌, ◌*◌, ◌<◌, ◌≤◌, List, [], ◌∷◌, ◌++◌, Option, Some, None, All, length, get_or, take, drop, refl, sym, ap, subst, ◌∙◌, arith, append_assoc, append-nil, length-append, take-append-drop}
+use Rattle.std.proofs.Common.{◌≡◌, ℕ, zero, suc, ◌+◌, ◌-◌, ◌*◌, ◌<◌, ◌≤◌, List, [], ◌∷◌, ◌++◌, Option, Some, None, All, length, get_or, take, drop, refl, sym, ap, ap₂, subst, ◌∙◌, arith, append_assoc, append-nil, length-append, take-append-drop}
 use Rattle.std.specs.Prelude.{IfNone, IfSome, IsTrue}
 use Rattle.std.specs.List.{flat_map, AllZip}
 use Rattle.std.specs.Io.KnownBytes.{IsAtEnd}
 use Rattle.std.proofs.Math.Seq.{get_or-append_seam, take-suc}
 use Rattle.std.proofs.lemmas.Grind.{flat_map-append}
-use Rattle.std.proofs.lemmas.List.{drop_at, drop-drop, take_all}
+use Rattle.std.proofs.lemmas.List.{drop_at, drop-drop, length-map, map-append, take_all}
 use Rattle.std.proofs.lemmas.List.Elements.{All-append, All-head, All-nil, All-tail}
+use Rattle.bsi_chosen.specs.Chosen.{chosen_entries, chosen_table}
 use Rattle.bsi_places.specs.Places.{known_from}
 use Rattle.bsi_rows.specs.Rows.{row_entries, SourcedRow}
-use Rattle.bsi_rows.specs.Table.{AreFitting, Table}
+use Rattle.bsi_rows.specs.Table.{with_rows, AreFitting, Table}
 use Rattle.bsi_schema.specs.Columns.{fits}
 use Rattle.bsi_segments.specs.declared.version.Version.{Version}
 use Rattle.bsi_segments.specs.declared.version.Version.TheVariants.{One, Two}
 use Rattle.bsi_storage.specs.ChosenColumns.{BeginsAt, BeginsBy, IsHeadOf}
 use Rattle.bsi_storage.specs.ChosenFiles.{parts_in, AreFileHeads, AreTwo, IsHeadAt, KeepsTable}
 use Rattle.bsi_storage.specs.Decoding.{rows_word_count}
+use Rattle.bsi_storage.specs.Faults.{AcceptsRowsOf}
 use Rattle.bsi_storage.specs.Saved.{part_bytes, rows_words, segment, with_only, IsPartOf, Part}
 use Rattle.bsi_storage.specs.declared.segment_head.SegmentHead.{SegmentHead}
 use Rattle.bsi_storage.proofs.OneTable.{no_bytes}
@@ -150,7 +152,7 @@ module _ (known : KnownBytes) (t : Table) (notes kinds : List ℕ) (keeps : Keep
           left = n.ps;
           parts = walked.parts ∙ ap (λ qs. walked.done ++ qs) n.left_is ∙ sym (append_assoc walked.done (n.p ∷ []) n.ps);
           each = subst (λ (hs : List SegmentHead). AllZip (IsHeadAt known t kinds) hs (walked.done ++ n.p ∷ [])) (sym more_is)
-          (zip-push (IsHeadAt known t kinds) heads walked.done first n.p walked.each (record { at = at; begins = begins; is = is }));
+              (zip-push (IsHeadAt known t kinds) heads walked.done first n.p walked.each (record { at = at; begins = begins; is = is }));
           there = ap (λ m. known_from m known) place ∙ stands_behind known at (part_bytes t kinds n.p) (flat_map (part_bytes t kinds) n.ps) n.behind;
         }
 
@@ -198,6 +200,13 @@ module _ (known : KnownBytes) (heads : List SegmentHead) (t : Table) (notes kind
   pub head_at : (k : ℕ) (d : SegmentHead) → k < length heads → IsHeadAt known t kinds (get_or heads k d) (get_or (parts_in are.keeps) k are.keeps.file.last)
   head_at k d within = zip-at (IsHeadAt known t kinds) heads (parts_in are.keeps) k d are.keeps.file.last are.each within
 
+  -- a head that was read of a list
+  pub head_is : (k : ℕ) (h : SegmentHead) → h ≡ get_or heads k h → k < length heads → IsHeadAt known t kinds h (get_or (parts_in are.keeps) k are.keeps.file.last)
+  head_is k h same within = subst (λ x. IsHeadAt known t kinds x (get_or (parts_in are.keeps) k are.keeps.file.last)) (sym same) (head_at k h within)
+
+  pub some_head : 0 < length heads
+  some_head = omega (arith, heads_long, length-append are.keeps.file.before (are.keeps.file.last ∷ []))
+
   -- the rows of one part more
   pub rows_more : (k : ℕ) → k < length heads → rows_in (take (k + 1) (parts_in are.keeps)) ≡ rows_in (take k (parts_in are.keeps)) ++ (get_or (parts_in are.keeps) k are.keeps.file.last).rows
   rows_more k within =
@@ -234,3 +243,25 @@ module _ (known : KnownBytes) (heads : List SegmentHead) (t : Table) (notes kind
       let before = are.keeps.file.before in
       let here : length heads - 1 ≡ length before = omega (arith, heads_long, length-append before (are.keeps.file.last ∷ [])) in
       ap (λ k. get_or (parts_in are.keeps) k are.keeps.file.last) here ∙ get_or-append_seam before are.keeps.file.last [] are.keeps.file.last
+
+-- ---- the chosen columns of further segments
+
+module _ (chosen : List ℕ) (t : Table) (rows more : List SourcedRow) where
+  -- they may follow those of the first ones
+  pub accepted : length rows + length more ≤ t.limit → AcceptsRowsOf (chosen_table chosen (with_only t rows)) [] (chosen_table chosen (with_only t more)) []
+  accepted within =
+      let own : SourcedRow → SourcedRow = λ row. (row.0, chosen_entries chosen row.1) in
+      record {
+        schema = refl;
+        feeders = refl;
+        limit = refl;
+        within = omega (arith, within, length-map rows own, length-map more own);
+        same_kinds = refl;
+      }
+
+  -- and are joined
+  pub joined : (u v w : Table) → u ≡ chosen_table chosen (with_only t rows) → v ≡ chosen_table chosen (with_only t more) → w ≡ with_rows u v.rows
+      → w ≡ chosen_table chosen (with_only t (rows ++ more))
+  joined u v w u_is v_is is =
+      is ∙ ap₂ (λ (a b : Table). with_rows a b.rows) u_is v_is
+      ∙ ap (λ rs. record (chosen_table chosen t) { rows = rs }) (sym (map-append (λ (row : SourcedRow). (row.0, chosen_entries chosen row.1)) rows more))

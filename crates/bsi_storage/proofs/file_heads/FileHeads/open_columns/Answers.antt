@@ -1,0 +1,89 @@
+use Rattle.std.proofs.Common.{◌≡◌, ◌+◌, ◌<◌, ◌≤◌, ℕ, All, List, arith, ap, get_or, length, rules, subst, sym, take, ◌∙◌}
+use Rattle.std.proofs.lemmas.Result.{err_from_is_err_and}
+use Rattle.bsi_chosen.specs.Chosen.{chosen_table}
+use Rattle.bsi_rows.specs.Rows.{SourcedRow}
+use Rattle.bsi_rows.specs.Table.{Table}
+use Rattle.bsi_schema.specs.Columns.{Declared}
+use Rattle.bsi_storage.specs.Choices.{IsChoice}
+use Rattle.bsi_storage.specs.ChosenFiles.{parts_in, AreFileHeads}
+use Rattle.bsi_storage.specs.Opens.{IsReadOrNoMemory}
+use Rattle.bsi_storage.specs.Saved.{with_only, Part}
+use Rattle.bsi_storage.proofs.FileWalk.{head_is, rows_all, rows_in, rows_more, rows_within, some_head}
+use Rattle.bsi_syntax.specs.Bytes.{Bytes}
+use Rattle.bsi_table.specs.Index.{table_of}
+use Rattle.bsi_storage.proofs.file_heads.FileHeads.open_columns.Goals as goal
+
+pub returns-in_err-first-clause-fault : goal.returns-in_err-first-clause-fault
+returns-in_err-first-clause-fault g c =
+    let known = g.R.ReadAt.all_bytes c.args.reader.now in
+    let heads = c.args.self.now.heads.items in
+    let p = err_from_is_err_and c.from_residual.result c.from_residual.ensures.1 in
+    let met : (t : Table) → (notes kinds : Bytes) → AreFileHeads known heads t notes kinds → IsReadOrNoMemory c.in_err-first.field-0.0 =
+    λ t notes kinds are.
+    (let own = head_is known heads t notes kinds are 0 c.index.result.now c.index.ensures (some_head known heads t notes kinds are) in
+    let part = get_or (parts_in are.keeps) 0 are.keeps.file.last in
+    c.in_err-first.ensures.fault own.at (with_only t part.rows) part.notes kinds own.begins own.is) in
+    rw (p.1, p.2) met
+
+pub segments-init : goal.segments-init
+segments-init g c = λ t notes kinds are.
+    (let known = g.R.ReadAt.all_bytes c.args.reader.now in
+    let heads = c.args.self.now.heads.items in
+    let some = some_head known heads t notes kinds are in
+    let own = head_is known heads t notes kinds are 0 c.index.result.now c.index.ensures some in
+    let part = get_or (parts_in are.keeps) 0 are.keeps.file.last in
+    let opened = rw c.in-Some.is at c.in_ok-first.ensures.opened in
+    opened own.at (with_only t part.rows) part.notes kinds own.begins own.is
+    ∙ ap (λ (rows : List SourcedRow). chosen_table c.args.chosen.now (with_only t rows)) (sym (rows_more known heads t notes kinds are 0 some)))
+
+pub returns-in_err-append_segment-clause-fault : goal.returns-in_err-append_segment-clause-fault
+returns-in_err-append_segment-clause-fault g c =
+    let known = g.R.ReadAt.all_bytes c.args.reader.now in
+    let heads = c.args.self.now.heads.items in
+    let k = c.segments.k in
+    let within : k < length heads = search rules in
+    let p = err_from_is_err_and c.from_residual-in_err-append_segment.result c.from_residual-in_err-append_segment.ensures.1 in
+    let met : (t : Table) → (notes kinds : Bytes) → AreFileHeads known heads t notes kinds → IsReadOrNoMemory c.in_err-append_segment.field-0.0 =
+    λ t notes kinds are.
+    (let own = head_is known heads t notes kinds are k c.index-in-segments.result.now c.index-in-segments.ensures within in
+    let part = get_or (parts_in are.keeps) k are.keeps.file.last in
+    c.in_err-append_segment.ensures.fault t kinds part (rows_in (take k (parts_in are.keeps))) own (c.segments.invariant t notes kinds are)
+    (rows_within known heads t notes kinds are k within)) in
+    rw (p.1, p.2) met
+
+pub returns-then-not-branch-clause-none : goal.returns-then-not-branch-clause-none
+returns-then-not-branch-clause-none g c = λ t notes kinds are choice.
+    (let known = g.R.ReadAt.all_bytes c.args.reader.now in
+    let heads = c.args.self.now.heads.items in
+    let k = c.segments.k in
+    let within : k < length heads = search rules in
+    let own = head_is known heads t notes kinds are k c.index-in-segments.result.now c.index-in-segments.ensures within in
+    c.in_ok-append_segment.ensures.none c.if-not-branch.true
+    (subst (λ (s : Declared). IsChoice (length s.columns) c.args.chosen.now) (sym own.is.schema) choice))
+
+pub segments-preserved : goal.segments-preserved
+segments-preserved g c = λ t notes kinds are.
+    (let known = g.R.ReadAt.all_bytes c.args.reader.now in
+    let heads = c.args.self.now.heads.items in
+    let k = c.segments.k in
+    let within : k < length heads = search rules in
+    let own = head_is known heads t notes kinds are k c.index-in-segments.result.now c.index-in-segments.ensures within in
+    let part = get_or (parts_in are.keeps) k are.keeps.file.last in
+    c.in_ok-append_segment.ensures.appended c.if-not-branch.false t kinds part (rows_in (take k (parts_in are.keeps))) own (c.segments.invariant t notes kinds are)
+    ∙ ap (λ (rows : List SourcedRow). chosen_table c.args.chosen.now (with_only t rows)) (sym (rows_more known heads t notes kinds are k within)))
+
+pub returns-clause-opened : goal.returns-clause-opened
+returns-clause-opened g c = λ t notes kinds are.
+    (let known = g.R.ReadAt.all_bytes c.args.reader.now in
+    let heads = c.args.self.now.heads.items in
+    let past : length heads ≤ c.segments.k = search rules in
+    c.segments.invariant t notes kinds are
+    ∙ ap (λ (rows : List SourcedRow). chosen_table c.args.chosen.now (with_only t rows)) (rows_all known heads t notes kinds are c.segments.k past))
+
+pub returns-clause-there : goal.returns-clause-there
+returns-clause-there g c = λ t notes kinds are.
+    (let known = g.R.ReadAt.all_bytes c.args.reader.now in
+    let heads = c.args.self.now.heads.items in
+    let own = head_is known heads t notes kinds are 0 c.index.result.now c.index.ensures (some_head known heads t notes kinds are) in
+    let there = rw c.in-Some.is at c.in_ok-first.ensures.there in
+    subst (λ (s : Declared). All (λ c'. c' < length s.columns) c.args.chosen.now) own.is.schema there)
