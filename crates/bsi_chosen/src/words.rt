@@ -10,6 +10,7 @@ use bsi_syntax::{Notation, Vocabulary};
 use std::alloc::AllocError as NoMemory;
 
 /// A vocabulary of the chosen columns alone, by that of all columns.
+#[derive(Drop)]
 pub struct ChosenWords<'a, V> {
     words: &'a V,
     chosen: &'a [u32],

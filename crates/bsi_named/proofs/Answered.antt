@@ -1,11 +1,15 @@
 -- A line over open columns is that over the table of the file.
-use Rattle.std.proofs.Common.{◌≡◌, ℕ, List, [], ◌++◌, length, ap, subst, sym, ◌∙◌}
+use Rattle.std.proofs.Common.{◌≡◌, ℕ, ◌<◌, ◌≤◌, List, [], ◌∷◌, ◌++◌, ◌+◌, Option, Some, inl, inr, get_or, length, ap, subst, sym, ◌∙◌, arith, append-nil, append_assoc, length-append}
+use Rattle.std.specs.Prelude.{Contains}
+use Rattle.std.proofs.lemmas.Bool.{cases_eq}
+use Rattle.std.proofs.lemmas.List.{get_or_default}
+use Rattle.std.proofs.lemmas.List.Elements.{Contains-append_left}
 use Rattle.bsi_answers.specs.AskLines.{IsAskLineBy}
 use Rattle.bsi_chosen.specs.Chosen.{chosen_table}
 use Rattle.bsi_chosen.specs.Words.{chosen_texts, chosen_words, AreChosen}
-use Rattle.bsi_named.specs.Named.{IsOpenOf}
+use Rattle.bsi_named.specs.Named.{HasMore, IsOpenOf}
 use Rattle.bsi_named.specs.declared.open_columns.OpenColumns.{OpenColumns}
-use Rattle.bsi_named.proofs.Answering.{lines-alike}
+use Rattle.bsi_named.proofs.Alike.{lines-alike}
 use Rattle.bsi_rows.specs.Fields.{Field}
 use Rattle.bsi_rows.specs.Table.{Table}
 use Rattle.bsi_storage.specs.ChosenFiles.{AreFileHeads}
@@ -31,3 +35,50 @@ line_over grammar words Of known heads columns t notes kinds fields line count o
 -- what was appended to no bytes
 pub alone : (Is : Bytes → Type 0) (old new : Bytes) → old ≡ [] → AppendsText Is old new → Is new
 alone Is old new none appended = subst Is (sym (appended.written ∙ ap (λ o. o ++ appended.text) none)) appended.is
+
+-- the same where the vocabulary and the chosen columns were lent
+pub line_lent : (grammar : Grammar) (words lent : Words) (Of texts : NumberTexts) (known : KnownBytes) (heads : List SegmentHead) (columns : OpenColumns) (t : Table) (notes kinds : Bytes)
+    (fields : List Field) (line : Bytes) (chosen : List ℕ) (count : ℕ) → lent ≡ words → texts ≡ Of → chosen ≡ columns.chosen.items
+    → IsOpenOf known heads columns → AreChosen words fields columns.chosen.items → AreFileHeads known heads t notes kinds → count ≡ length t.schema.columns
+    → IsAskLineBy grammar (chosen_words chosen count lent) (chosen_texts chosen count texts) columns.index.schema columns.index.rows fields line
+    → IsAskLineBy grammar words Of t.schema t.rows fields line
+line_lent grammar words lent Of texts known heads columns t notes kinds fields line chosen count words_are texts_are chosen_are opened are file counted asked =
+    let Is : Words → NumberTexts → List ℕ → Type 0 = λ w x cs.
+    IsAskLineBy grammar (chosen_words cs count w) (chosen_texts cs count x) columns.index.schema columns.index.rows fields line in
+    line_over grammar words Of known heads columns t notes kinds fields line count opened are file counted
+    (subst (Is words Of) chosen_are (subst (λ x. Is words x chosen) texts_are (subst (λ w. Is w texts chosen) words_are asked)))
+
+-- ---- chosen columns
+
+-- nothing was added to a list that stayed as long
+pub unchanged : (old new : List ℕ) → HasMore old new → length new ≡ length old → new ≡ old
+unchanged old new more long = by more.more more.new_is
+  where
+    by : (added : List ℕ) → new ≡ old ++ added → new ≡ old
+    by [] is = is ∙ append-nil old
+    by (x ∷ xs) is = absurd (omega (arith, long, ap (λ (ns : List ℕ). length ns) is, length-append old (x ∷ xs)))
+
+-- what is chosen stays chosen where more is
+pub chosen_still : (words : Words) (fields : List Field) (old more : List ℕ) → AreChosen words fields old → AreChosen words fields (old ++ more)
+chosen_still words fields old more are = λ name has c says. Contains-append_left old more c (are name has c says)
+
+-- the columns of all fields
+pub all_named : (words : Words) (fields : List Field) (chosen : List ℕ) (n : ℕ) → length fields ≤ n
+    → ((k : ℕ) → k < n → (c : ℕ) → words.column (get_or fields k []) ≡ Some c → Contains chosen c) → AreChosen words fields chosen
+all_named words fields chosen n long each = λ name has c says.
+    each has.0 (omega (arith, long, has.1)) c (ap words.column (get_or_default fields has.0 [] name has.1 ∙ has.2) ∙ says)
+
+-- the column of one field more
+pub one_named : (words : Words) (fields : List Field) (old new added : List ℕ) (k : ℕ) (found : Option ℕ) → found ≡ words.column (get_or fields k [])
+    → ((j : ℕ) → j < k → (c : ℕ) → words.column (get_or fields j []) ≡ Some c → Contains old c) → new ≡ old ++ added
+    → ((c : ℕ) → found ≡ Some c → Contains new c) → (j : ℕ) → j < k + 1 → (c : ℕ) → words.column (get_or fields j []) ≡ Some c → Contains new c
+one_named words fields old new added k found here each grown own j below c says = elim (cases_eq j k) [
+  | inl same ↦ own c (here ∙ ap (λ i. words.column (get_or fields i [])) (sym same) ∙ says)
+  | inr apart ↦ subst (λ (ns : List ℕ). Contains ns c) (sym grown) (Contains-append_left old added c (each j (omega (arith, below, apart)) c says))
+]
+
+pub more_more : (first old new added : List ℕ) → HasMore first old → new ≡ old ++ added → HasMore first new
+more_more first old new added more grown = record {
+  more = more.more ++ added;
+  new_is = grown ∙ ap (λ (xs : List ℕ). xs ++ added) more.new_is ∙ append_assoc first more.more added;
+}

@@ -1,5 +1,5 @@
 mod Answered
-pub mod Answering
+pub mod Alike
 pub mod Asked
 pub mod Lines
 pub mod Replies

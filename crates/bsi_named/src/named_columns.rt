@@ -56,8 +56,8 @@ fn open_first<S: ReadAt, V: Vocabulary>(
 {
     let mut chosen = Vec::new(alloc);
     name_columns(vocabulary, fields, &mut chosen)?;
-    if chosen.is_empty() {
-        chosen.push(0)?;
+    if chosen.is_empty() && chosen.push(0).is_err() {
+        return Err(OpenFault::NoMemory);
     }
     open_chosen(alloc, file, heads, chosen)
 }

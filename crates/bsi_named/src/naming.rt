@@ -35,5 +35,6 @@ fn choose_column(c: u32, chosen: &mut Vec<u32>) -> Result<(), NoMemory>
     if chosen.contains(&c) {
         return Ok(());
     }
-    chosen.push(c)
+    chosen.push(c)?;
+    Ok(())
 }

@@ -1,5 +1,5 @@
 -- The bitmaps and the feeders that stand in their places are those of the table whose segment begins there.
-use Rattle.std.proofs.Common.{◌≡◌, ℕ, zero, suc, ◌+◌, ◌-◌, ◌*◌, ◌<◌, ◌≤◌, ◌^◌, Bool, true, false, cond, All, List, [], ◌∷◌, ◌++◌, Option, Some, None, length, get_or, take, drop, inl, inr, refl, sym, ap, subst, ◌∙◌, arith, append_assoc, append-nil, ext_get_or, length-append}
+use Rattle.std.proofs.Common.{◌≡◌, ℕ, zero, suc, ◌+◌, ◌-◌, ◌*◌, ◌<◌, ◌≤◌, ◌^◌, Bool, true, false, cond, All, List, [], ◌∷◌, ◌++◌, Option, Some, None, length, map, get_or, take, drop, inl, inr, refl, sym, ap, subst, ◌∙◌, arith, append_assoc, append-nil, ext_get_or, length-append}
 use Rattle.std.specs.Prelude.{nat_eq}
 use Rattle.std.specs.Int.{w64, to_le_bytes}
 use Rattle.std.specs.List.{flat_map}
@@ -14,6 +14,7 @@ use Rattle.bsi_places.specs.Places.{known_from, StandAt}
 use Rattle.bsi_rows.specs.Rows.{column_of, feeders_of, SourcedRow}
 use Rattle.bsi_rows.specs.Table.{Table}
 use Rattle.bsi_schema.specs.Columns.{column_at, entry_at, Declared, Entries, IsForm, NamedColumn}
+use Rattle.bsi_segments.specs.Lanes.{lanes_of}
 use Rattle.bsi_segments.specs.Bitmaps.{packed, AreBitmaps}
 use Rattle.bsi_segments.specs.Bytes.{packed_bytes}
 use Rattle.bsi_segments.specs.Segments.{bytes_of, checksum_of, counted, AreWords}
@@ -25,7 +26,7 @@ use Rattle.bsi_segments.proofs.Unique.{same_words}
 use Rattle.bsi_shift.specs.Shifted.{shifted_entries, OffsetColumn}
 use Rattle.bsi_table.specs.Bitmaps.{bitmap_count, bitmaps_of, entries_bitmaps}
 use Rattle.bsi_table.specs.Encoded.{encoded_at, no_entries, Encodes}
-use Rattle.bsi_storage.specs.ChosenColumns.{column_place, feeders_place, AreChosenColumns, BeginsAt, IsHeadOf}
+use Rattle.bsi_storage.specs.ChosenColumns.{column_place, feeders_place, said_sums, AreChosenColumns, BeginsAt, IsHeadOf}
 use Rattle.bsi_storage.specs.Decoding.{bitmaps_in}
 use Rattle.bsi_storage.specs.Heads.{head}
 use Rattle.bsi_storage.specs.Saved.{columns_words, feeder_words, rows_words}
@@ -52,6 +53,8 @@ module _ (known : KnownBytes) (first : SegmentHead) (chosen : List ℕ) (old new
       Encodes (column_at first.front.schema.columns (get_or chosen k 0)) encoded first.front.sizes.rows
       × StandAt known (column_place first (get_or chosen k 0))
       (flat_map packed (entries_bitmaps (column_at first.front.schema.columns (get_or chosen k 0)) (shifted_entries encoded)))
+      × (said_sums first (get_or chosen k 0)
+      ≡ map (λ bits. lanes_of (packed bits)) (entries_bitmaps (column_at first.front.schema.columns (get_or chosen k 0)) (shifted_entries encoded)))
 
   of_each : Of i column → (k : ℕ) → k < i + 1 → Of k (encoded_at new k)
   of_each last k within = elim (cases_eq k i) [
@@ -60,16 +63,19 @@ module _ (known : KnownBytes) (first : SegmentHead) (chosen : List ℕ) (old new
         subst (λ j. Of j (encoded_at new j)) (sym here) (subst (Of i) (sym at) last)
     | inr apart ↦
         let early : k < i = omega (arith, within, apart) in
-        subst (Of k) (sym (ap (λ xs. encoded_at xs k) is ∙ before_is old column k (omega (arith, early, many)))) (each.encodes k early, each.stands k early)
+        subst (Of k) (sym (ap (λ xs. encoded_at xs k) is ∙ before_is old column k (omega (arith, early, many)))) (each.encodes k early, each.stands k early, each.sums k early)
   ]
 
   pub chosen_more : Encodes (column_at first.front.schema.columns (get_or chosen i 0)) column first.front.sizes.rows
       → StandAt known (column_place first (get_or chosen i 0))
       (flat_map packed (entries_bitmaps (column_at first.front.schema.columns (get_or chosen i 0)) (shifted_entries column)))
+      → said_sums first (get_or chosen i 0)
+      ≡ map (λ bits. lanes_of (packed bits)) (entries_bitmaps (column_at first.front.schema.columns (get_or chosen i 0)) (shifted_entries column))
       → AreChosenColumns known first chosen new (i + 1)
-  chosen_more encodes stands = record {
-    encodes = λ k within. (of_each (encodes, stands) k within).0;
-    stands = λ k within. (of_each (encodes, stands) k within).1;
+  chosen_more encodes stands sums = record {
+    encodes = λ k within. (of_each (encodes, stands, sums) k within).0;
+    stands = λ k within. (of_each (encodes, stands, sums) k within).1;
+    sums = λ k within. (of_each (encodes, stands, sums) k within).2;
   }
 
 -- ---- what stands at a place

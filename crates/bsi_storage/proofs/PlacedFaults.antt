@@ -1,6 +1,6 @@
 -- Where the segment of a table stands, no fault is met in it but that the reader failed or memory was refused.
-use Rattle.std.proofs.Common.{◌≡◌, ℕ, zero, suc, ◌+◌, ◌-◌, ◌*◌, ◌<◌, ◌≤◌, ◌^◌, Bool, List, [], ◌++◌, Some, None, length, get_or, take, drop, inl, inr, refl, sym, ap, subst, ◌∙◌, arith, append_assoc, append-nil, length-append, length-drop, length-take, drop-cons, take-append-drop}
-use Rattle.std.specs.Prelude.{IfSome}
+use Rattle.std.proofs.Common.{◌≡◌, ℕ, zero, suc, ◌+◌, ◌-◌, ◌*◌, ◌<◌, ◌≤◌, ◌^◌, Bool, true, false, List, [], ◌∷◌, ◌++◌, Some, None, length, get_or, take, drop, inl, inr, refl, sym, ap, subst, ◌∙◌, arith, append_assoc, append-nil, length-append, length-drop, length-take, drop-cons, take-append-drop}
+use Rattle.std.specs.Prelude.{nat_eq, if◌then◌else◌, IfSome}
 use Rattle.std.specs.List.{flat_map}
 use Rattle.std.proofs.lemmas.Bool.{cases_eq}
 use Rattle.std.proofs.lemmas.Grind.{flat_map-append}
@@ -12,6 +12,7 @@ use Rattle.bsi_rows.specs.Rows.{column_of, feeders_of, SourcedRow}
 use Rattle.bsi_rows.specs.Table.{Table}
 use Rattle.bsi_schema.specs.Columns.{column_at, Declared, NamedColumn}
 use Rattle.bsi_segments.specs.Bitmaps.{packed}
+use Rattle.bsi_segments.specs.Bytes.{packed_bytes}
 use Rattle.bsi_segments.specs.Lanes.{lanes_of}
 use Rattle.bsi_segments.specs.Segments.{bytes_of, counted, AreWords, EndsWithin, MeetsFault, StopsBefore}
 use Rattle.bsi_segments.specs.declared.fault.SegmentFault.{SegmentFault}
@@ -22,7 +23,7 @@ use Rattle.bsi_segments.proofs.Chunks.{length-all, length-packed}
 use Rattle.bsi_segments.proofs.Eights.{length-bytes_of}
 use Rattle.bsi_segments.proofs.Unique.{no_fault}
 use Rattle.bsi_table.specs.Bitmaps.{bitmap_count, bitmaps_of}
-use Rattle.bsi_storage.specs.ChosenColumns.{column_place, feeders_place, BeginsAt, BeginsBy, IsHeadOf}
+use Rattle.bsi_storage.specs.ChosenColumns.{column_place, feeders_place, said_feeders, said_zone, BeginsAt, BeginsBy, IsHeadOf}
 use Rattle.bsi_storage.specs.Decoding.{bitmaps_in, feeder_word_count}
 use Rattle.bsi_storage.specs.Faults.{open_fault}
 use Rattle.bsi_storage.specs.Heads.{column_head, column_heads, feeder_checksum, head, numbers_of, zone_words}
@@ -123,6 +124,42 @@ module _ (t : Table) (words : List ℕ) (c : ℕ) (within : c < length t.schema.
             ∙ take_at sums (cut.0 ++ last) (bitmap_count (column_at t.schema.columns c).form) many;
       }
 
+  -- and its zone
+  pub zone_there : take 3 (drop (3 * c + bitmaps_in (take c t.schema.columns)) words) ≡ zone_words (numbers_of (column_of t.rows c))
+  zone_there =
+      let cut = heads_split t.schema t.rows c (length t.schema.columns) within in
+      let before = column_heads t.schema t.rows c in
+      let zone = zone_words (numbers_of (column_of t.rows c)) in
+      let sums = checksums (bitmaps_of t.schema t.rows c) in
+      let last = feeder_checksum t.feeders (feeders_of t.rows) in
+      let opened : words ≡ before ++ (zone ++ (sums ++ (cut.0 ++ last))) =
+      is ∙ ap (λ ws. ws ++ last) cut.1 ∙ append_assoc before ((zone ++ sums) ++ cut.0) last
+      ∙ ap (λ ws. before ++ ws) (append_assoc (zone ++ sums) cut.0 last ∙ append_assoc zone sums (cut.0 ++ last)) in
+      let from : length before ≡ 3 * c + bitmaps_in (take c t.schema.columns) = length-column_heads t.schema t.rows c (omega (arith, within)) in
+      ap (λ ws. take 3 (drop (3 * c + bitmaps_in (take c t.schema.columns)) ws)) opened
+      ∙ ap (take 3) (drop_at before (zone ++ (sums ++ (cut.0 ++ last))) (3 * c + bitmaps_in (take c t.schema.columns)) from)
+      ∙ take_at zone (sums ++ (cut.0 ++ last)) 3 refl
+
+-- what it says of the feeders
+feeders_said : (t : Table) (words : List ℕ) → words ≡ column_heads t.schema t.rows (length t.schema.columns) ++ feeder_checksum t.feeders (feeders_of t.rows)
+    → drop (3 * length t.schema.columns + bitmaps_in t.schema.columns) words ≡ feeder_checksum t.feeders (feeders_of t.rows)
+feeders_said t words is =
+    let n = length t.schema.columns in
+    let heads = column_heads t.schema t.rows n in
+    let last = feeder_checksum t.feeders (feeders_of t.rows) in
+    let long : length heads ≡ 3 * n + bitmaps_in t.schema.columns =
+    length-column_heads t.schema t.rows n (omega arith) ∙ ap (λ (cs : List NamedColumn). 3 * n + bitmaps_in cs) (take_all n t.schema.columns (omega arith)) in
+    ap (drop (3 * n + bitmaps_in t.schema.columns)) is ∙ drop_at heads last (3 * n + bitmaps_in t.schema.columns) long
+
+-- the checksum of the feeders, by their words
+pub sum_of_words : (feeders : ℕ) (row_feeders words : List ℕ) → words ≡ feeder_words feeders row_feeders
+    → (if nat_eq feeders 1 then [] else lanes_of words ∷ []) ≡ feeder_checksum feeders row_feeders
+sum_of_words feeders row_feeders words is = by (nat_eq feeders 1) is
+  where
+    by : (one : Bool) → words ≡ (if one then [] else packed_bytes row_feeders) → (if one then [] else lanes_of words ∷ []) ≡ (if one then [] else lanes_of (packed_bytes row_feeders) ∷ [])
+    by true same = refl
+    by false same = ap (λ ws. lanes_of ws ∷ []) same
+
 -- ---- the rows
 
 not_short : (known : KnownBytes) (at end : ℕ) (front all : List ℕ) → known_from at known ≡ Some (front ++ all) → 0 < length front → end ≤ at + length front + length all
@@ -210,6 +247,19 @@ module _ (known : KnownBytes) (at : ℕ) (t : Table) (notes kinds : List ℕ) (b
         let Of : Declared → ℕ → Type 0 = λ schema n. AreNoBitmaps known (first.rows_at + 8 * (bitmaps_in (take c schema.columns) * word_count n)) n sums fault in
         let one : Of t.schema first.front.sizes.rows = subst (λ (schema : Declared). Of schema first.front.sizes.rows) is.schema none in
         bits_fault sums sums_are fault (subst (Of t.schema) is.rows one)
+
+  -- what the head says of the feeders
+  pub said_there : said_feeders first ≡ feeder_checksum first.front.sizes.feeders (feeders_of t.rows)
+  said_there =
+      ap (λ (s : Declared). drop (3 * length s.columns + bitmaps_in s.columns) first.behind.items) is.schema
+      ∙ feeders_said t first.behind.items is.behind
+      ∙ ap (λ n. feeder_checksum n (feeders_of t.rows)) (sym is.feeders)
+
+  -- and of the zone of a column
+  pub zone_said : (c : ℕ) → c < length t.schema.columns → said_zone first c ≡ zone_words (numbers_of (column_of t.rows c))
+  zone_said c within =
+      ap (λ (s : Declared). take 3 (drop (3 * c + bitmaps_in (take c s.columns)) first.behind.items)) is.schema
+      ∙ zone_there t first.behind.items c within is.behind
 
   -- no fault of the words of the feeders
   pub feeders_at : feeders_place first ≡ first.rows_at + 8 * length (columns_words t.schema t.rows 0 (length t.schema.columns))

@@ -1,19 +1,22 @@
 -- Chosen columns of a segment of version 2: where its bytes begin, what its head is, and where its columns stand.
-use Rattle.std.specs.Prelude.{◌≡◌, ℕ, ◌+◌, ◌*◌, ◌<◌, ◌++◌, List, Some, length, slice_index, take}
+use Rattle.std.specs.Prelude.{◌≡◌, ℕ, ◌+◌, ◌*◌, ◌<◌, ◌++◌, List, Some, drop, length, map, slice_index, take}
 use Rattle.std.specs.List.{flat_map}
 use Rattle.bsi_bits.specs.BitList.{word_count}
+use Rattle.bsi_chosen.specs.Chosen.{chosen_schema}
 use Rattle.bsi_places.specs.Places.{known_from, StandAt}
+use Rattle.bsi_rows.specs.Rows.{column_of, feeders_of, SourcedRow}
 use Rattle.bsi_rows.specs.Table.{Table}
 use Rattle.bsi_schema.specs.Columns.{column_at}
 use Rattle.bsi_segments.specs.Bitmaps.{packed}
+use Rattle.bsi_segments.specs.Lanes.{lanes_of}
 use Rattle.bsi_segments.specs.declared.version.Version.{Version}
 use Rattle.bsi_segments.specs.declared.version.Version.TheVariants.{Two}
 use Rattle.bsi_shift.specs.Shifted.{shifted_entries, OffsetColumn}
-use Rattle.bsi_table.specs.Bitmaps.{entries_bitmaps}
+use Rattle.bsi_table.specs.Bitmaps.{bitmap_count, bitmaps_of, entries_bitmaps}
 use Rattle.bsi_table.specs.Encoded.{encoded_at, Encodes}
 use Rattle.bsi_storage.specs.Decoding.{bitmaps_in}
-use Rattle.bsi_storage.specs.Heads.{head, rows_head}
-use Rattle.bsi_storage.specs.Saved.{segment, MayBeSaved}
+use Rattle.bsi_storage.specs.Heads.{feeder_checksum, head, numbers_of, rows_head, zone_words}
+use Rattle.bsi_storage.specs.Saved.{feeder_words, segment, MayBeSaved}
 use Rattle.bsi_storage.specs.declared.segment_head.SegmentHead.{SegmentHead}
 use Rattle.bsi_syntax.specs.Bytes.{Bytes, KnownBytes}
 
@@ -50,6 +53,26 @@ column_place first c = first.rows_at + 8 * (bitmaps_in (take c first.front.schem
 abbrev pub feeders_place : SegmentHead → ℕ
 feeders_place first = first.rows_at + 8 * (bitmaps_in first.front.schema.columns * word_count first.front.sizes.rows)
 
+-- What the head says of the zone of column c.
+abbrev pub said_zone : SegmentHead → ℕ → List ℕ
+said_zone first c = take 3 (drop (3 * c + bitmaps_in (take c first.front.schema.columns)) first.behind.items)
+
+-- What it says of the checksums of its bitmaps.
+abbrev pub said_sums : SegmentHead → ℕ → List ℕ
+said_sums first c =
+    take (bitmap_count (column_at first.front.schema.columns c).form)
+    (drop (3 * (c + 1) + bitmaps_in (take c first.front.schema.columns)) first.behind.items)
+
+-- What it says of the checksum of the feeders.
+abbrev pub said_feeders : SegmentHead → List ℕ
+said_feeders first =
+    drop (3 * length first.front.schema.columns + bitmaps_in first.front.schema.columns) first.behind.items
+
+-- The head says the zones of the first `count` chosen columns of these rows.
+abbrev pub SaysZones : SegmentHead → List ℕ → List SourcedRow → ℕ → Type 0
+SaysZones first chosen rows count =
+    (k : ℕ) → k < count → said_zone first (slice_index chosen k) ≡ zone_words (numbers_of (column_of rows k))
+
 -- The first `count` of the chosen columns, with all their rows, as their bitmaps stand in the file.
 pub record AreChosenColumns (known : KnownBytes) (first : SegmentHead) (chosen : List ℕ) (encoded : List OffsetColumn) (count : ℕ) : Type 0 where
   -- Each column is encoded as the schema declares it, with an entry for each row.
@@ -59,3 +82,23 @@ pub record AreChosenColumns (known : KnownBytes) (first : SegmentHead) (chosen :
   pub stands : (k : ℕ) → k < count
       → StandAt known (column_place first (slice_index chosen k))
       (flat_map packed (entries_bitmaps (column_at first.front.schema.columns (slice_index chosen k)) (shifted_entries (encoded_at encoded k))))
+  -- They have the checksums that the head says.
+  pub sums : (k : ℕ) → k < count
+      → said_sums first (slice_index chosen k)
+      ≡ map (λ bits. lanes_of (packed bits)) (entries_bitmaps (column_at first.front.schema.columns (slice_index chosen k)) (shifted_entries (encoded_at encoded k)))
+
+-- A table of the chosen columns of a segment, as they stand in the file, with the checksums and the zones that the head
+-- says. It has the sizes that the head says.
+pub record SaysChosen (known : KnownBytes) (first : SegmentHead) (chosen : List ℕ) (u : Table) : Type 0 where
+  pub schema : u.schema ≡ chosen_schema chosen first.front.schema
+  pub many : length u.rows ≡ first.front.sizes.rows
+  -- The bitmaps of each column stand in their place.
+  pub stands : (k : ℕ) → k < length chosen
+      → StandAt known (column_place first (slice_index chosen k)) (flat_map packed (bitmaps_of u.schema u.rows k))
+  -- They have the checksums that the head says.
+  pub sums : (k : ℕ) → k < length chosen
+      → said_sums first (slice_index chosen k) ≡ map (λ bits. lanes_of (packed bits)) (bitmaps_of u.schema u.rows k)
+  pub zones : SaysZones first chosen u.rows (length chosen)
+  -- The feeders of the rows stand in their place, with the checksum that the head says.
+  pub feeders : StandAt known (feeders_place first) (feeder_words first.front.sizes.feeders (feeders_of u.rows))
+  pub feeder_sum : said_feeders first ≡ feeder_checksum first.front.sizes.feeders (feeders_of u.rows)

@@ -1,10 +1,11 @@
 -- A file of which the heads are read, and some columns: which table it is of (`KeepsTable`), and that the heads are those
 -- of its segments (`AreFileHeads`).
 use Rattle.std.specs.Prelude.{◌≡◌, ℕ, List, [], ◌∷◌, ◌++◌, Some, All}
-use Rattle.std.specs.List.{AllZip}
+use Rattle.std.specs.List.{concat, AllZip}
+use Rattle.bsi_rows.specs.Rows.{SourcedRow}
 use Rattle.bsi_rows.specs.Table.{Table}
 use Rattle.bsi_segments.specs.declared.version.Version.TheVariants.{Two}
-use Rattle.bsi_storage.specs.ChosenColumns.{BeginsAt, IsHeadOf}
+use Rattle.bsi_storage.specs.ChosenColumns.{BeginsAt, IsHeadOf, SaysChosen}
 use Rattle.bsi_storage.specs.Decoding.{AreSizes}
 use Rattle.bsi_storage.specs.Saved.{with_only, IsFileOf, Part}
 use Rattle.bsi_storage.specs.declared.segment_head.SegmentHead.{SegmentHead}
@@ -38,3 +39,11 @@ pub record AreFileHeads (known : KnownBytes) (heads : List SegmentHead) (t : Tab
 -- A head has the sizes of some index.
 abbrev pub HasSizes : SegmentHead → Type 0
 HasSizes first = AreSizes first.front.sizes.rows first.front.sizes.feeders first.front.sizes.limit
+
+-- A table of the chosen columns of all segments that have these heads, as they stand in the file, with the checksums and
+-- the zones that the heads say.
+pub record SaysAllChosen (known : KnownBytes) (heads : List SegmentHead) (chosen : List ℕ) (u : Table) : Type 0 where
+  -- The rows of each segment.
+  pub parts : List (List SourcedRow)
+  pub each : AllZip (λ first rows. SaysChosen known first chosen (record u { rows = rows })) heads parts
+  pub rows_are : u.rows ≡ concat parts

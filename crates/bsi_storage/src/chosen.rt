@@ -1,17 +1,19 @@
 //! Opens chosen columns of a segment of version 2 by its head (`open_segment`): it reads the bitmaps of these columns and
 //! the feeders of the rows, and no other bytes.
 
-ghost use Rattle.std.specs.Prelude.{◌≡◌, ◌<◌, ℕ, All, IfErr, IfNone, IfOk, IfSome, length};
+ghost use Rattle.std.specs.Prelude.{◌≡◌, ◌<◌, ℕ, All, IfErr, IfNone, IfOk, IfSome, length, map};
 ghost use Rattle.std.specs.List.{flat_map};
 ghost use Rattle.bsi_chosen.specs.Chosen.{chosen_table};
 ghost use Rattle.bsi_places.specs.Places.{StandAt};
 ghost use Rattle.bsi_rows.specs.Table.{Table};
 ghost use Rattle.bsi_schema.specs.Columns.{column_at, IsDeclared};
 ghost use Rattle.bsi_segments.specs.Bitmaps.{packed};
+ghost use Rattle.bsi_segments.specs.Lanes.{lanes_of};
 ghost use Rattle.bsi_shift.specs.Shifted.{shifted_entries};
 ghost use Rattle.bsi_storage.specs.Choices.{IsChoice};
-ghost use Rattle.bsi_storage.specs.ChosenColumns.{column_place, feeders_place, AreChosenColumns, BeginsAt, IsHeadOf};
+ghost use Rattle.bsi_storage.specs.ChosenColumns.{column_place, feeders_place, said_feeders, said_sums, AreChosenColumns, BeginsAt, IsHeadOf, SaysChosen};
 ghost use Rattle.bsi_storage.specs.Decoding.{AreSizes};
+ghost use Rattle.bsi_storage.specs.Heads.{feeder_checksum};
 ghost use Rattle.bsi_storage.specs.Opens.{IsReadOrNoMemory};
 ghost use Rattle.bsi_storage.specs.Saved.{feeder_words};
 ghost use Rattle.bsi_syntax.specs.Bytes.{Bytes};
@@ -23,6 +25,7 @@ use crate::OpenFault;
 use crate::chosen_schema::choose_columns;
 use crate::decoding::decode_origins;
 use crate::fronts::{count_all_bitmaps, count_feeder_words};
+use crate::said::{says_feeders, says_zones};
 use crate::segment_head::{SegmentHead, count_bitmaps_before, find_place, find_sums};
 use bsi_origins::Origins;
 use bsi_places::{At, ReadAt, read_bitmaps};
@@ -46,6 +49,9 @@ fn read_column<R: ReadAt>(
     ensures stands { IfOk result (λ column. StandAt (R.all_bytes reader.now)
         (column_place head.now c) (flat_map packed (entries_bitmaps
         (column_at head.now.front.schema.columns c) (shifted_entries column)))) }
+    ensures sums { IfOk result (λ column. said_sums head.now c
+        ≡ map (λ bits. lanes_of (packed bits)) (entries_bitmaps
+        (column_at head.now.front.schema.columns c) (shifted_entries column))) }
     ensures fault { IfErr result (λ fault. (at : ℕ) → (t : Table) → (notes kinds : Bytes) →
         BeginsAt (R.all_bytes reader.now) at t notes kinds → IsHeadOf head.now at t notes kinds →
         IsReadOrNoMemory fault) }
@@ -107,6 +113,8 @@ fn read_origins<R: ReadAt>(
         All (λ feeder. feeder < head.now.front.sizes.feeders) origins.rows) }
     ensures stands { IfOk result (λ origins. StandAt (R.all_bytes reader.now)
         (feeders_place head.now) (feeder_words head.now.front.sizes.feeders origins.rows)) }
+    ensures said { IfOk result (λ origins. said_feeders head.now
+        ≡ feeder_checksum head.now.front.sizes.feeders origins.rows) }
     ensures fault { IfErr result (λ fault. (at : ℕ) → (t : Table) → (notes kinds : Bytes) →
         BeginsAt (R.all_bytes reader.now) at t notes kinds → IsHeadOf head.now at t notes kinds →
         IsReadOrNoMemory fault) }
@@ -120,6 +128,9 @@ fn read_origins<R: ReadAt>(
     let mut words = Vec::new(alloc);
     let mut place = At::new(reader, at);
     read_words(&mut place, count, &mut words)?;
+    if !says_feeders(head, &words) {
+        return Err(OpenFault::Damaged);
+    }
     match decode_origins(alloc, sizes.feeders, sizes.rows, &words)? {
         Some(origins) => {
             // Its clause says that each row came from one of the feeders.
@@ -145,6 +156,8 @@ pub(crate) fn open_segment<R: ReadAt>(
         IsHeadOf head.now at t notes kinds → table_of index ≡ chosen_table chosen.now t)) }
     ensures there { IfOk result (λ opened. IfSome opened (λ index.
         All (λ c. c < length head.now.front.schema.columns) chosen.now)) }
+    ensures said { IfOk result (λ opened. IfSome opened
+        (λ index. SaysChosen (R.all_bytes reader.now) head.now chosen.now (table_of index))) }
     ensures none { IfOk result (λ opened. IfNone opened
         (IsChoice (length head.now.front.schema.columns) chosen.now → ⊥)) }
     ensures fault { IfErr result (λ fault. (at : ℕ) → (t : Table) → (notes kinds : Bytes) →
@@ -159,5 +172,8 @@ pub(crate) fn open_segment<R: ReadAt>(
     let _ = head.front.schema.limits();
     let origins = read_origins(alloc, reader, head)?;
     let index = Index::from_parts(alloc, narrow, columns, origins, head.front.sizes.limit)?;
+    if !says_zones(head, chosen, &index)? {
+        return Err(OpenFault::Damaged);
+    }
     Ok(Some(index))
 }

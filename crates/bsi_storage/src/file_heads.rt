@@ -8,7 +8,7 @@ ghost use Rattle.bsi_places.specs.Places.{known_from};
 ghost use Rattle.bsi_rows.specs.Rows.{SourcedRow};
 ghost use Rattle.bsi_rows.specs.Table.{Table};
 ghost use Rattle.bsi_storage.specs.Choices.{IsChoice};
-ghost use Rattle.bsi_storage.specs.ChosenFiles.{AreFileHeads, AreTwo, HasSizes, IsHeadAt, KeepsTable};
+ghost use Rattle.bsi_storage.specs.ChosenFiles.{AreFileHeads, AreTwo, HasSizes, IsHeadAt, KeepsTable, SaysAllChosen};
 ghost use Rattle.bsi_storage.specs.Decoding.{rows_word_count};
 ghost use Rattle.bsi_storage.specs.Opens.{IsReadOrNoMemory};
 ghost use Rattle.bsi_storage.specs.Saved.{with_only, Part};
@@ -154,6 +154,8 @@ impl FileHeads {
             (notes kinds : Bytes) →
             AreFileHeads (R.all_bytes reader.now) self.now.heads.items t notes kinds →
             table_of index ≡ chosen_table chosen.now t)) }
+        ensures said { IfOk result (λ opened. IfSome opened (λ index.
+            SaysAllChosen (R.all_bytes reader.now) self.now.heads.items chosen.now (table_of index))) }
         ensures there { IfOk result (λ opened. IfSome opened (λ index. (t : Table) →
             (notes kinds : Bytes) →
             AreFileHeads (R.all_bytes reader.now) self.now.heads.items t notes kinds →

@@ -12,6 +12,7 @@ mod heads;
 mod laws;
 mod opening;
 mod rows;
+mod said;
 mod segment_head;
 mod writing;
 

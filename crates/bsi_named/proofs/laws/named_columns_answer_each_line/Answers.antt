@@ -1,4 +1,4 @@
-use Rattle.bsi_named.proofs.Answering.{lines-alike}
+use Rattle.bsi_named.proofs.Alike.{lines-alike}
 use Rattle.bsi_named.proofs.laws.named_columns_answer_each_line.Goals as goal
 
 pub returns : goal.returns

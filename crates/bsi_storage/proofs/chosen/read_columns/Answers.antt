@@ -11,6 +11,6 @@ columns-preserved g c =
     record {
       many = search rules;
       each = chosen_more (g.R.ReadAt.all_bytes c.args.reader.now) c.args.head.now c.args.chosen.now old new c.in_ok-column.column i c.push_reserved.ensures.items held.many
-          held.each c.in_ok-column.ensures.encodes c.in_ok-column.ensures.stands;
+          held.each c.in_ok-column.ensures.encodes c.in_ok-column.ensures.stands c.in_ok-column.ensures.sums;
       room = omega (arith, c.push_reserved.ensures.capacity, held.room);
     }
