@@ -126,9 +126,9 @@ module _ (known : KnownBytes) (first : SegmentHead) (chosen : List ℕ) (narrow 
     feeders_are : row_feeders ≡ feeders_of u.rows
     feeders_are = sym (fed-feeders narrow.columns columns row_feeders fed_columns) ∙ ap feeders_of (sym rows)
 
-    pub says_chosen : SaysZones first chosen u.rows (length chosen) → SaysChosen known first chosen u
+    pub says_chosen : SaysZones first chosen u.rows (length chosen) → SaysChosen known first chosen u.schema u.rows
     says_chosen zones = record {
-      schema = schema ∙ made;
+      narrow = schema ∙ made;
       many = sym (feeders_long u.rows) ∙ ap (λ (fs : List ℕ). length fs) (sym feeders_are) ∙ long;
       stands = λ k below. subst (λ bs. StandAt known (column_place first (get_or chosen k 0)) (flat_map packed bs)) (bitmaps_are k below) (each.stands k below);
       sums = λ k below. each.sums k below ∙ ap (map (λ (bits : List Bool). lanes_of (packed bits))) (bitmaps_are k below);

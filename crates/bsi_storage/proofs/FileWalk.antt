@@ -11,11 +11,11 @@ use Rattle.bsi_chosen.specs.Chosen.{chosen_entries, chosen_table}
 use Rattle.bsi_places.specs.Places.{known_from}
 use Rattle.bsi_rows.specs.Rows.{row_entries, SourcedRow}
 use Rattle.bsi_rows.specs.Table.{with_rows, AreFitting, Table}
-use Rattle.bsi_schema.specs.Columns.{fits}
+use Rattle.bsi_schema.specs.Columns.{fits, Declared}
 use Rattle.bsi_segments.specs.declared.version.Version.{Version}
 use Rattle.bsi_segments.specs.declared.version.Version.TheVariants.{One, Two}
-use Rattle.bsi_storage.specs.ChosenColumns.{BeginsAt, BeginsBy, IsHeadOf}
-use Rattle.bsi_storage.specs.ChosenFiles.{parts_in, AreFileHeads, AreTwo, IsHeadAt, KeepsTable}
+use Rattle.bsi_storage.specs.ChosenColumns.{BeginsAt, BeginsBy, IsHeadOf, SaysChosen}
+use Rattle.bsi_storage.specs.ChosenFiles.{parts_in, AreFileHeads, AreTwo, IsHeadAt, KeepsTable, SaysAllChosen}
 use Rattle.bsi_storage.specs.Decoding.{rows_word_count}
 use Rattle.bsi_storage.specs.Faults.{AcceptsRowsOf}
 use Rattle.bsi_storage.specs.Saved.{part_bytes, rows_words, segment, with_only, IsPartOf, Part}
@@ -265,3 +265,34 @@ module _ (chosen : List ℕ) (t : Table) (rows more : List SourcedRow) where
   joined u v w u_is v_is is =
       is ∙ ap₂ (λ (a b : Table). with_rows a b.rows) u_is v_is
       ∙ ap (λ rs. record (chosen_table chosen t) { rows = rs }) (sym (map-append (λ (row : SourcedRow). (row.0, chosen_entries chosen row.1)) rows more))
+
+-- ---- what the heads say of the columns that were read
+
+module _ (known : KnownBytes) (heads : List SegmentHead) (chosen : List ℕ) where
+  -- of the first segment
+  pub said_first : (schema : Declared) (rows : List SourcedRow) (h : SegmentHead) → h ≡ get_or heads 0 h → 0 < length heads → SaysChosen known h chosen schema rows
+      → SaysAllChosen known (take 1 heads) chosen schema rows
+  said_first schema rows h same some says = record {
+    parts = rows ∷ [];
+    each = subst (λ (hs : List SegmentHead). AllZip (λ first part. SaysChosen known first chosen schema part) hs (rows ∷ []))
+        (ap (λ x. x ∷ []) same ∙ sym (take-suc heads 0 h some)) (says, tt);
+    rows_are = sym (append-nil rows);
+  }
+
+  -- and of one more
+  pub said_more : (k : ℕ) (h : SegmentHead) → h ≡ get_or heads k h → k < length heads → (u v : Table) (more : List SourcedRow)
+      → SaysAllChosen known (take k heads) chosen u.schema u.rows → SaysChosen known h chosen u.schema more → v ≡ with_rows u more
+      → SaysAllChosen known (take (k + 1) heads) chosen v.schema v.rows
+  said_more k h same within u v more says own is =
+      let one : k + 1 ≡ suc k = omega arith in
+      let longer : take k heads ++ h ∷ [] ≡ take (k + 1) heads = ap (λ x. take k heads ++ x ∷ []) same ∙ sym (take-suc heads k h within) ∙ ap (λ m. take m heads) (sym one) in
+      let Of : List SegmentHead → Declared → Type 0 = λ hs schema. AllZip (λ first part. SaysChosen known first chosen schema part) hs (says.parts ++ more ∷ []) in
+      let grown : Of (take k heads ++ h ∷ []) u.schema = zip-push (λ first part. SaysChosen known first chosen u.schema part) (take k heads) says.parts h more says.each own in
+      record {
+        parts = says.parts ++ more ∷ [];
+        each = subst (λ (w : Table). Of (take (k + 1) heads) w.schema) (sym is) (subst (λ hs. Of hs u.schema) longer grown);
+        rows_are =
+            ap (λ (w : Table). w.rows) is ∙ ap (λ (rs : List SourcedRow). rs ++ more) says.rows_are
+            ∙ ap (λ (rs : List SourcedRow). flat_map (λ part. part) says.parts ++ rs) (sym (append-nil more))
+            ∙ sym (flat_map-append (λ (part : List SourcedRow). part) says.parts (more ∷ []));
+      }

@@ -6,7 +6,7 @@ use Rattle.bsi_chosen.specs.Chosen.{chosen_schema}
 use Rattle.bsi_places.specs.Places.{known_from, StandAt}
 use Rattle.bsi_rows.specs.Rows.{column_of, feeders_of, SourcedRow}
 use Rattle.bsi_rows.specs.Table.{Table}
-use Rattle.bsi_schema.specs.Columns.{column_at}
+use Rattle.bsi_schema.specs.Columns.{column_at, Declared}
 use Rattle.bsi_segments.specs.Bitmaps.{packed}
 use Rattle.bsi_segments.specs.Lanes.{lanes_of}
 use Rattle.bsi_segments.specs.declared.version.Version.{Version}
@@ -87,18 +87,19 @@ pub record AreChosenColumns (known : KnownBytes) (first : SegmentHead) (chosen :
       → said_sums first (slice_index chosen k)
       ≡ map (λ bits. lanes_of (packed bits)) (entries_bitmaps (column_at first.front.schema.columns (slice_index chosen k)) (shifted_entries (encoded_at encoded k)))
 
--- A table of the chosen columns of a segment, as they stand in the file, with the checksums and the zones that the head
--- says. It has the sizes that the head says.
-pub record SaysChosen (known : KnownBytes) (first : SegmentHead) (chosen : List ℕ) (u : Table) : Type 0 where
-  pub schema : u.schema ≡ chosen_schema chosen first.front.schema
-  pub many : length u.rows ≡ first.front.sizes.rows
+-- Rows of the chosen columns of a segment, as they stand in the file, with the checksums and the zones that the head says.
+-- They are as many as it says.
+pub record SaysChosen (known : KnownBytes) (first : SegmentHead) (chosen : List ℕ) (schema : Declared) (rows : List SourcedRow) : Type 0 where
+  -- The schema is that of the chosen columns.
+  pub narrow : schema ≡ chosen_schema chosen first.front.schema
+  pub many : length rows ≡ first.front.sizes.rows
   -- The bitmaps of each column stand in their place.
   pub stands : (k : ℕ) → k < length chosen
-      → StandAt known (column_place first (slice_index chosen k)) (flat_map packed (bitmaps_of u.schema u.rows k))
+      → StandAt known (column_place first (slice_index chosen k)) (flat_map packed (bitmaps_of schema rows k))
   -- They have the checksums that the head says.
   pub sums : (k : ℕ) → k < length chosen
-      → said_sums first (slice_index chosen k) ≡ map (λ bits. lanes_of (packed bits)) (bitmaps_of u.schema u.rows k)
-  pub zones : SaysZones first chosen u.rows (length chosen)
+      → said_sums first (slice_index chosen k) ≡ map (λ bits. lanes_of (packed bits)) (bitmaps_of schema rows k)
+  pub zones : SaysZones first chosen rows (length chosen)
   -- The feeders of the rows stand in their place, with the checksum that the head says.
-  pub feeders : StandAt known (feeders_place first) (feeder_words first.front.sizes.feeders (feeders_of u.rows))
-  pub feeder_sum : said_feeders first ≡ feeder_checksum first.front.sizes.feeders (feeders_of u.rows)
+  pub feeders : StandAt known (feeders_place first) (feeder_words first.front.sizes.feeders (feeders_of rows))
+  pub feeder_sum : said_feeders first ≡ feeder_checksum first.front.sizes.feeders (feeders_of rows)

@@ -1,9 +1,10 @@
 -- A file of which the heads are read, and some columns: which table it is of (`KeepsTable`), and that the heads are those
 -- of its segments (`AreFileHeads`).
 use Rattle.std.specs.Prelude.{◌≡◌, ℕ, List, [], ◌∷◌, ◌++◌, Some, All}
-use Rattle.std.specs.List.{concat, AllZip}
+use Rattle.std.specs.List.{flat_map, AllZip}
 use Rattle.bsi_rows.specs.Rows.{SourcedRow}
 use Rattle.bsi_rows.specs.Table.{Table}
+use Rattle.bsi_schema.specs.Columns.{Declared}
 use Rattle.bsi_segments.specs.declared.version.Version.TheVariants.{Two}
 use Rattle.bsi_storage.specs.ChosenColumns.{BeginsAt, IsHeadOf, SaysChosen}
 use Rattle.bsi_storage.specs.Decoding.{AreSizes}
@@ -40,10 +41,10 @@ pub record AreFileHeads (known : KnownBytes) (heads : List SegmentHead) (t : Tab
 abbrev pub HasSizes : SegmentHead → Type 0
 HasSizes first = AreSizes first.front.sizes.rows first.front.sizes.feeders first.front.sizes.limit
 
--- A table of the chosen columns of all segments that have these heads, as they stand in the file, with the checksums and
--- the zones that the heads say.
-pub record SaysAllChosen (known : KnownBytes) (heads : List SegmentHead) (chosen : List ℕ) (u : Table) : Type 0 where
+-- Rows of the chosen columns of all segments that have these heads, as they stand in the file, with the checksums and the
+-- zones that the heads say.
+pub record SaysAllChosen (known : KnownBytes) (heads : List SegmentHead) (chosen : List ℕ) (schema : Declared) (rows : List SourcedRow) : Type 0 where
   -- The rows of each segment.
   pub parts : List (List SourcedRow)
-  pub each : AllZip (λ first rows. SaysChosen known first chosen (record u { rows = rows })) heads parts
-  pub rows_are : u.rows ≡ concat parts
+  pub each : AllZip (λ first part. SaysChosen known first chosen schema part) heads parts
+  pub rows_are : rows ≡ flat_map (λ part. part) parts

@@ -157,7 +157,7 @@ pub(crate) fn open_segment<R: ReadAt>(
     ensures there { IfOk result (λ opened. IfSome opened (λ index.
         All (λ c. c < length head.now.front.schema.columns) chosen.now)) }
     ensures said { IfOk result (λ opened. IfSome opened
-        (λ index. SaysChosen (R.all_bytes reader.now) head.now chosen.now (table_of index))) }
+        (λ index. SaysChosen (R.all_bytes reader.now) head.now chosen.now index.schema index.rows)) }
     ensures none { IfOk result (λ opened. IfNone opened
         (IsChoice (length head.now.front.schema.columns) chosen.now → ⊥)) }
     ensures fault { IfErr result (λ fault. (at : ℕ) → (t : Table) → (notes kinds : Bytes) →

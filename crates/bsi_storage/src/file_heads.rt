@@ -6,8 +6,9 @@ ghost use Rattle.std.specs.Io.KnownBytes.{IsAtEnd};
 ghost use Rattle.bsi_chosen.specs.Chosen.{chosen_table};
 ghost use Rattle.bsi_places.specs.Places.{known_from};
 ghost use Rattle.bsi_rows.specs.Rows.{SourcedRow};
-ghost use Rattle.bsi_rows.specs.Table.{Table};
+ghost use Rattle.bsi_rows.specs.Table.{with_rows, Table};
 ghost use Rattle.bsi_storage.specs.Choices.{IsChoice};
+ghost use Rattle.bsi_storage.specs.ChosenColumns.{SaysChosen};
 ghost use Rattle.bsi_storage.specs.ChosenFiles.{AreFileHeads, AreTwo, HasSizes, IsHeadAt, KeepsTable, SaysAllChosen};
 ghost use Rattle.bsi_storage.specs.Decoding.{rows_word_count};
 ghost use Rattle.bsi_storage.specs.Opens.{IsReadOrNoMemory};
@@ -155,7 +156,8 @@ impl FileHeads {
             AreFileHeads (R.all_bytes reader.now) self.now.heads.items t notes kinds →
             table_of index ≡ chosen_table chosen.now t)) }
         ensures said { IfOk result (λ opened. IfSome opened (λ index.
-            SaysAllChosen (R.all_bytes reader.now) self.now.heads.items chosen.now (table_of index))) }
+            SaysAllChosen (R.all_bytes reader.now) self.now.heads.items chosen.now
+            index.schema index.rows)) }
         ensures there { IfOk result (λ opened. IfSome opened (λ index. (t : Table) →
             (notes kinds : Bytes) →
             AreFileHeads (R.all_bytes reader.now) self.now.heads.items t notes kinds →
@@ -194,6 +196,9 @@ fn append_segment<R: ReadAt>(
         (rows : List SourcedRow) → IsHeadAt (R.all_bytes reader.now) t kinds head.now p →
         table_of whole.old ≡ chosen_table chosen.now (with_only t rows) →
         table_of whole.new ≡ chosen_table chosen.now (with_only t (rows ++ p.rows))) }
+    ensures said { IfOk result (λ done. done ≡ true → (more : List SourcedRow)
+        × SaysChosen (R.all_bytes reader.now) head.now chosen.now whole.old.schema more
+        × (table_of whole.new ≡ with_rows (table_of whole.old) more)) }
     ensures none { IfOk result (λ done. done ≡ false →
         IsChoice (length head.now.front.schema.columns) chosen.now → ⊥) }
     ensures fault { IfErr result (λ fault. (t : Table) → (kinds : Bytes) → (p : Part) →

@@ -3,6 +3,8 @@ use Rattle.std.proofs.lemmas.Result.{err_from_is_err_and}
 use Rattle.bsi_chosen.specs.Chosen.{chosen_table}
 use Rattle.bsi_rows.specs.Rows.{SourcedRow}
 use Rattle.bsi_rows.specs.Table.{with_rows, Table}
+use Rattle.bsi_schema.specs.Columns.{Declared}
+use Rattle.bsi_storage.specs.ChosenColumns.{SaysChosen}
 use Rattle.bsi_storage.specs.ChosenFiles.{IsHeadAt}
 use Rattle.bsi_storage.specs.Faults.{AcceptsRowsOf}
 use Rattle.bsi_storage.specs.Opens.{IsReadOrNoMemory}
@@ -40,3 +42,12 @@ returns-clause-appended g c = λ done t kinds part rows own before.
     let sum : table_of whole ≡ with_rows (table_of c.args.whole.now) more.rows = search rules in
     joined c.args.chosen.now t rows part.rows (table_of c.args.whole.now) (table_of more) (table_of whole) before
     (opened own.at (with_only t part.rows) part.notes kinds own.begins own.is) sum)
+
+pub returns-clause-said : goal.returns-clause-said
+returns-clause-said g c = λ done.
+    (let known = g.R.ReadAt.all_bytes c.args.reader.now in
+    let more = c.in-Some.more in
+    let says = rw c.in-Some.is at c.in_ok-more.ensures.said in
+    let same : more.schema ≡ c.args.whole.now.schema = search rules in
+    let sum : table_of c.append_index.new.self ≡ with_rows (table_of c.args.whole.now) more.rows = search rules in
+    (more.rows, subst (λ (s : Declared). SaysChosen known c.args.head.now c.args.chosen.now s more.rows) same says, sum))
