@@ -1,8 +1,6 @@
-use Rattle.std.proofs.Common.{◌≡◌, ℕ, ap, length, sym, subst, ◌∙◌}
-use Rattle.std.proofs.lemmas.Result.{err_from_is_err_and}
+use Rattle.std.proofs.Common.{◌≡◌, ap, sym, subst, ◌∙◌}
 use Rattle.bsi_chosen.specs.Chosen.{chosen_table}
 use Rattle.bsi_rows.specs.Table.{Table}
-use Rattle.bsi_schema.specs.Columns.{Declared}
 use Rattle.bsi_table.specs.Encoded.{AreEncoded}
 use Rattle.bsi_table.specs.Index.{table_of}
 use Rattle.bsi_table.proofs.Refusing.{not_refused}

@@ -1,5 +1,4 @@
 use Rattle.std.proofs.Common.{◌+◌, ◌*◌, arith, ap, drop, length, length-drop, length-take, take}
-use Rattle.bsi_storage.specs.ChosenColumns.{said_zone}
 use Rattle.bsi_storage.specs.Decoding.{bitmaps_in}
 use Rattle.bsi_storage.proofs.said.says_zone.Goals as goal
 

@@ -1,4 +1,4 @@
-use Rattle.std.proofs.Common.{◌≡◌, ◌-◌, ◌<◌, ℕ, arith, ap, get_or, length, rules, sym, ◌∙◌}
+use Rattle.std.proofs.Common.{◌≡◌, ◌-◌, arith, ap, get_or, length, rules, sym, ◌∙◌}
 use Rattle.bsi_storage.specs.ChosenFiles.{parts_in}
 use Rattle.bsi_storage.specs.Saved.{Part}
 use Rattle.bsi_storage.proofs.FileWalk.{head_is, last_part, some_head}

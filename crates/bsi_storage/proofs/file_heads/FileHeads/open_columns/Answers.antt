@@ -1,4 +1,4 @@
-use Rattle.std.proofs.Common.{◌≡◌, ◌+◌, ◌<◌, ◌≤◌, ℕ, All, List, arith, ap, get_or, length, rules, subst, sym, take, ◌∙◌}
+use Rattle.std.proofs.Common.{◌<◌, ◌≤◌, All, List, ap, get_or, length, rules, subst, sym, take, ◌∙◌}
 use Rattle.std.proofs.lemmas.List.{take_all}
 use Rattle.std.proofs.lemmas.Result.{err_from_is_err_and}
 use Rattle.bsi_chosen.specs.Chosen.{chosen_table}
@@ -9,7 +9,7 @@ use Rattle.bsi_storage.specs.Choices.{IsChoice}
 use Rattle.bsi_storage.specs.ChosenFiles.{parts_in, AreFileHeads, SaysAllChosen}
 use Rattle.bsi_storage.specs.declared.segment_head.SegmentHead.{SegmentHead}
 use Rattle.bsi_storage.specs.Opens.{IsReadOrNoMemory}
-use Rattle.bsi_storage.specs.Saved.{with_only, Part}
+use Rattle.bsi_storage.specs.Saved.{with_only}
 use Rattle.bsi_storage.proofs.FileWalk.{head_is, rows_all, rows_in, rows_more, rows_within, said_first, said_more, some_head}
 use Rattle.bsi_syntax.specs.Bytes.{Bytes}
 use Rattle.bsi_table.specs.Index.{table_of}
