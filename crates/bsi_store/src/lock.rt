@@ -52,6 +52,7 @@ impl LockFile for File {
 }
 
 /// A file that is read at places.
+#[derive(Drop)]
 pub(crate) struct PlacedFile<'a, S> {
     pub(crate) file: &'a S,
 }
