@@ -1,5 +1,5 @@
 -- What is left of answers where columns could not be read.
-use Rattle.std.proofs.Common.{◌≡◌, inr, refl}
+use Rattle.std.proofs.Common.{inr, refl}
 use Rattle.std.specs.Prelude.{false}
 use Rattle.bsi_answers.specs.declared.faults.FilesFault.TheVariants.{NoMemory}
 use Rattle.bsi_store.specs.Asked.{HasAskedFirst, LeavesNamed}

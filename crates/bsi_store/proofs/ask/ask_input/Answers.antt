@@ -13,8 +13,8 @@ returns-in-Some-clause-prefix g c =
     if_err c.ask_named.result
     (λ fault left. inr (subst (λ b. LeavesNamed g.S.Read.remaining b (g.I.Read.remaining c.args.asks) before after fault) (sym c.in-Some.ensures.all) left)) c.ask_named.ensures.prefix
 
-pub returns-in-None-clause-asked : goal.returns-in-None-clause-asked
-returns-in-None-clause-asked g c = on_ok c.ask_whole.result (λ asked. inl asked) c.ask_whole.ensures.asked
+pub returns-clause-asked : goal.returns-clause-asked
+returns-clause-asked g c = on_ok c.ask_whole.result (λ asked. inl asked) c.ask_whole.ensures.asked
 
-pub returns-in-None-clause-prefix : goal.returns-in-None-clause-prefix
-returns-in-None-clause-prefix g c = if_err c.ask_whole.result (λ fault left. inl left) c.ask_whole.ensures.prefix
+pub returns-clause-prefix : goal.returns-clause-prefix
+returns-clause-prefix g c = if_err c.ask_whole.result (λ fault left. inl left) c.ask_whole.ensures.prefix

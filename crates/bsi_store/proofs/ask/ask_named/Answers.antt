@@ -4,6 +4,7 @@ use Rattle.bsi_answers.specs.Writing.{WritesFirst}
 use Rattle.bsi_answers.specs.declared.faults.FilesFault.TheVariants.{NoMemory}
 use Rattle.bsi_named.specs.Named.{output_fault}
 use Rattle.bsi_named.specs.declared.fault.NamedFault.{NamedFault}
+use Rattle.bsi_named.specs.declared.fault.NamedFault.TheVariants.{Columns, Run}
 use Rattle.bsi_rows.specs.Table.{Table}
 use Rattle.bsi_storage.specs.ChosenFiles.{AreFileHeads}
 use Rattle.bsi_store.specs.Asked.{HasAskedFirst}
@@ -30,9 +31,10 @@ returns-in-Err-Run-clause-prefix g c =
     let before = g.O.Write.contents c.args.output.now in
     let after = g.O.Write.contents c.answer_named_asks-answered.new.writer in
     let Left : NamedFault → Type 0 = λ fault. (t : Table) → (notes kinds : Bytes) → AreFileHeads known heads t notes kinds
-        → IfSome asks (λ bytes. WritesFirst (AllZip (IsAnswer schema t)) bytes (output_fault fault) before after) in
+    → IfSome asks (λ bytes. WritesFirst (AllZip (IsAnswer schema t)) bytes (output_fault fault) before after) in
     let told : Left c.in-Err-Run.field-0 = rw c.in-Err-Run.is at c.answer_named_asks-answered.ensures.prefix in
-    let left = subst Left c.in-Err-Run.field-0-is told in (
+    let run : c.in-Err-Run.field-0 ≡ Run c.in-Err-Run.fault = rw c.in-Err-Run.is at c.in-Err-Run.field-0-is in
+    let left = subst Left run told in (
       refl,
       inl (record {
         file = c.args.file.now;
@@ -52,9 +54,10 @@ returns-in-Err-Columns-clause-prefix g c =
     let before = g.O.Write.contents c.args.output.now in
     let after = g.O.Write.contents c.answer_named_asks-answered.new.writer in
     let Left : NamedFault → Type 0 = λ fault. (t : Table) → (notes kinds : Bytes) → AreFileHeads known heads t notes kinds
-        → IfSome asks (λ bytes. WritesFirst (AllZip (IsAnswer schema t)) bytes (output_fault fault) before after) in
+    → IfSome asks (λ bytes. WritesFirst (AllZip (IsAnswer schema t)) bytes (output_fault fault) before after) in
     let told : Left c.in-Err-Columns.field-0 = rw c.in-Err-Columns.is at c.answer_named_asks-answered.ensures.prefix in
-    let left = subst Left c.in-Err-Columns.field-0-is told in
+    let unread : c.in-Err-Columns.field-0 ≡ Columns c.in-Err-Columns.field-0-0 = rw c.in-Err-Columns.is at c.in-Err-Columns.field-0-is in
+    let left = subst Left unread told in
     let first : HasAskedFirst g.S.Read.remaining asks NoMemory before after = record {
       file = c.args.file.now;
       schema = schema;

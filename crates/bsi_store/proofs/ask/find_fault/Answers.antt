@@ -1,4 +1,4 @@
-use Rattle.std.proofs.Common.{◌≡◌, None, inl, refl, subst, sym}
+use Rattle.std.proofs.Common.{None, inl, refl, subst, sym}
 use Rattle.bsi_storage.specs.declared.fault.OpenFault.TheVariants as opening
 use Rattle.bsi_store.specs.Faults.{IsOfFile}
 use Rattle.bsi_store.proofs.ask.find_fault.Goals as goal
