@@ -3,6 +3,7 @@
 
 ghost use Rattle.std.specs.Prelude.{◌≡◌, ◌+◌, ◌*◌, ◌<◌, ◌≤◌, ◌++◌, [], ℕ, List, Option, Some, All, false, true, IfErr, IfNone, IfOk, IfSome, length};
 ghost use Rattle.std.specs.Io.KnownBytes.{IsAtEnd};
+ghost use Rattle.std.specs.List.{AllZip};
 ghost use Rattle.bsi_chosen.specs.Chosen.{chosen_table};
 ghost use Rattle.bsi_places.specs.Places.{known_from};
 ghost use Rattle.bsi_rows.specs.Rows.{SourcedRow};
@@ -33,8 +34,8 @@ pub struct FileHeads {
     ghost sizes: { All HasSizes heads.items },
 }
 
-/// Reads the heads of all segments of a file, and none of their rows. It is none if there is no segment, or if one of them
-/// is of version 1: such a file can only be read as a whole.
+/// Reads the heads of all segments of a file, and none of their rows. It is none if there is no segment, if one of them is
+/// of version 1, or does not belong behind the first: such a file can only be read as a whole.
 pub fn read_heads<R: ReadAt>(alloc: Global, reader: &R) -> Result<Option<FileHeads>, OpenFault>
     ensures heads { IfOk result (λ found. IfSome found (λ file. (t : Table) → (notes kinds : Bytes) →
         KeepsTable (R.all_bytes reader.now) t notes kinds →
@@ -54,6 +55,9 @@ pub fn read_heads<R: ReadAt>(alloc: Global, reader: &R) -> Result<Option<FileHea
         let Some(head) = read_head(alloc, reader, at)? else {
             return Ok(None);
         };
+        if !follows(&heads, &head) {
+            return Ok(None);
+        }
         let Some(end) = find_end(&head) else {
             return Err(OpenFault::Read);
         };
@@ -63,6 +67,32 @@ pub fn read_heads<R: ReadAt>(alloc: Global, reader: &R) -> Result<Option<FileHea
         at = end;
     }
     Err(OpenFault::Read)
+}
+
+/// Returns whether a segment with this head may follow segments with those heads, if there are any.
+fn follows(heads: &[SegmentHead], head: &SegmentHead) -> bool
+    ensures { result ≡ false → (known : Option (List ℕ)) → (t : Table) → (kinds : Bytes) →
+        (parts : List Part) → (p : Part) → AllZip (IsHeadAt known t kinds) heads.now parts →
+        IsHeadAt known t kinds head.now p → ⊥ }
+{
+    if heads.is_empty() {
+        return true;
+    }
+    are_alike(&heads[0], head)
+}
+
+/// Returns whether two heads say the same feeders, limit, schema and kinds.
+fn are_alike(first: &SegmentHead, head: &SegmentHead) -> bool
+    ensures { result ≡ false →
+        first.now.front.sizes.feeders ≡ head.now.front.sizes.feeders →
+        first.now.front.sizes.limit ≡ head.now.front.sizes.limit →
+        first.now.front.schema ≡ head.now.front.schema →
+        first.now.front.kinds.items ≡ head.now.front.kinds.items → ⊥ }
+{
+    first.front.sizes.feeders == head.front.sizes.feeders
+        && first.front.sizes.limit == head.front.sizes.limit
+        && first.front.schema.is_same(&head.front.schema)
+        && first.front.kinds.as_slice() == head.front.kinds.as_slice()
 }
 
 /// Returns whether no byte stands at a place or behind it.

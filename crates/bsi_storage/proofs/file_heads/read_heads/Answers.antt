@@ -1,9 +1,10 @@
-use Rattle.std.proofs.Common.{◌≡◌, ◌∷◌, ◌++◌, [], List, rules, subst, sym}
+use Rattle.std.proofs.Common.{◌≡◌, ◌∷◌, ◌++◌, [], List, rules, subst, sym, refl}
 use Rattle.std.specs.Prelude.{All}
+use Rattle.std.specs.List.{AllZip}
 use Rattle.std.proofs.lemmas.Result.{err_from_is_err_and}
 use Rattle.std.proofs.lemmas.List.Elements.{All-append, All-cons, All-nil}
 use Rattle.bsi_rows.specs.Table.{Table}
-use Rattle.bsi_storage.specs.ChosenFiles.{AreFileHeads, HasSizes, KeepsTable}
+use Rattle.bsi_storage.specs.ChosenFiles.{AreFileHeads, HasSizes, IsHeadAt, KeepsTable}
 use Rattle.bsi_storage.specs.Opens.{IsReadOrNoMemory}
 use Rattle.bsi_syntax.specs.Bytes.{Bytes}
 use Rattle.bsi_storage.specs.Saved.{with_only}
@@ -76,3 +77,17 @@ returns-in_default-clause-none g c = λ t notes kinds keeps two.
     let n = next known t notes kinds keeps c.segments.heads.items c.segments.at walked (c.in_ok-has_ended.ensures.no c.if-branch.false) in
     none (with_only t n.p.rows) n.p.notes kinds
     (begins_two known t notes kinds keeps c.segments.heads.items c.segments.at walked n (next_two known t notes kinds keeps c.segments.heads.items c.segments.at walked n two)))
+
+-- and belongs there
+pub returns-then-not-follows-clause-none : goal.returns-then-not-follows-clause-none
+returns-then-not-follows-clause-none g c = λ t notes kinds keeps two.
+    (let known = g.R.ReadAt.all_bytes c.args.reader.now in
+    let heads = c.segments.heads.items in
+    let at = c.segments.at in
+    let walked = c.segments.invariant.walked t notes kinds keeps in
+    let n = next known t notes kinds keeps heads at walked (c.in_ok-has_ended.ensures.no c.if-branch.false) in
+    let begins = begins_two known t notes kinds keeps heads at walked n (next_two known t notes kinds keeps heads at walked n two) in
+    let is = rw c.in-Some.is at c.in_ok-head.ensures.is in
+    c.if-not-follows.ensures refl known t kinds walked.done n.p
+    (subst (λ (hs : List SegmentHead). AllZip (IsHeadAt known t kinds) hs walked.done) (sym c.deref.ensures.value) walked.each)
+    (record { at = at; begins = begins; is = is (with_only t n.p.rows) n.p.notes kinds begins }))
