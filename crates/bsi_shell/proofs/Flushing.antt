@@ -59,7 +59,7 @@ of_some D (Err e) before after done = tt
 -- a fault names one of more paths
 pub names_more : {P Q : Bor (List ℕ) → Type 0} (fault : StoreFault) → ((path : Bor (List ℕ)) → P path → Q path) → NamesPath P fault → NamesPath Q fault
 names_more (CannotOpen path) follows is = follows path is
-names_more (CannotWrite path) follows is = follows path is
+names_more (CannotWrite path why) follows is = follows path is
 names_more (Unusable path why) follows is = follows path is
 names_more (BadRecords bad) follows is = tt
 names_more (Run fault) follows is = tt

@@ -1,14 +1,14 @@
 //! Writes the line of a fault on stderr, or the usage line of a command; and the text of `bsi help` (`HELP`).
 ghost use Rattle.std.specs.Prelude.{◌≡◌, ◌≤◌, ◌++◌, codes, length};
 ghost use Rattle.bsi_answers.specs.FaultTexts.{max_fault_text};
-ghost use Rattle.bsi_store.specs.Faults.{bad_records_line, file_fault_text, store_fault_line};
+ghost use Rattle.bsi_store.specs.Faults.{bad_records_line, file_fault_text, store_fault_line, write_fault_reason};
 ghost use Rattle.bsi_shell.specs.FaultLines.{fault_line, usage_of, IsLineWritten};
 
 use crate::files::RunFault;
 use crate::request::Subcommand;
 use arrayvec::ArrayString;
 use bsi_files::MAX_FAULT_TEXT;
-use bsi_store::{FileFault, MAX_FILE_TEXT, StoreFault};
+use bsi_store::{FileFault, MAX_FILE_TEXT, StoreFault, WriteReason};
 use bsi_text::{WriteFault, write_bytes};
 use itoa::Buffer;
 use std::io::Write;
@@ -72,7 +72,7 @@ pub(crate) fn write_store_fault<F: Write>(
 {
     match fault {
         StoreFault::CannotOpen(path) => write_message("bsi: cannot open ", path, "\n", stderr),
-        StoreFault::CannotWrite(path) => write_message("bsi: cannot write ", path, "\n", stderr),
+        StoreFault::CannotWrite(path, why) => write_unwritten_file(path, why, stderr),
         StoreFault::Unusable(path, fault) => write_unusable_file(path, fault, stderr),
         StoreFault::BadRecords(bad) => write_bad_records(bad, stderr),
         StoreFault::Run(fault) => write_fault(fault.text().as_str(), stderr),
@@ -112,6 +112,21 @@ fn write_unusable_file<F: Write>(
     reported.push_str(fault.text().as_str());
     reported.push_str("\n");
     write_message("bsi: ", path, reported.as_str(), stderr)
+}
+
+/// Writes the line of why the file of a path can't be written.
+fn write_unwritten_file<F: Write>(
+    path: &str,
+    why: WriteReason,
+    stderr: &mut F,
+) -> Result<(), WriteFault>
+    ensures { IsLineWritten result (F.contents stderr.old) (F.contents stderr.new)
+        (codes "bsi: cannot write " ++ (path.now ++ (write_fault_reason why ++ codes "\n"))) }
+{
+    let mut reported = ArrayString::<MAX_FILE_LINE>::new();
+    reported.push_str(why.text());
+    reported.push_str("\n");
+    write_message("bsi: cannot write ", path, reported.as_str(), stderr)
 }
 
 /// Writes a line that has a path between two texts.

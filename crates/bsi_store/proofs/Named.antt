@@ -35,7 +35,7 @@ file_named path bytes reported (inr (inr bad)) = subst (Named path) (sym bad.rep
 -- a fault names one of more paths
 pub names_more : (P Q : Bor (List ℕ) → Type 0) (fault : StoreFault) → ((path : Bor (List ℕ)) → P path → Q path) → NamesPath P fault → NamesPath Q fault
 names_more P Q (CannotOpen path) follows is = follows path is
-names_more P Q (CannotWrite path) follows is = follows path is
+names_more P Q (CannotWrite path why) follows is = follows path is
 names_more P Q (Unusable path why) follows is = follows path is
 names_more P Q (BadRecords bad) follows is = tt
 names_more P Q (Run fault) follows is = tt
@@ -65,7 +65,7 @@ file_not_bad path bytes bad (inr (inr kinds)) = cc kinds.reported_is
 -- and is that of the file
 pub file_is : {S : Type 0} (rem : S → KnownBytes) (path : Bor (List ℕ)) (file : S) (reported : StoreFault) → IsFileFault path (rem file) reported → IsOfFile rem reported
 file_is rem path file (CannotOpen named) is = tt
-file_is rem path file (CannotWrite named) is = tt
+file_is rem path file (CannotWrite named why) is = tt
 file_is rem path file (Unusable named why) is =
     (file, subst (λ p. IsFileFault p (rem file) (Unusable named why)) (sym (file_named path (rem file) (Unusable named why) is)) is)
 file_is rem path file (BadRecords bad) is = file_not_bad path (rem file) bad is

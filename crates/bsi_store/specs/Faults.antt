@@ -5,14 +5,14 @@ use Rattle.bsi_answers.specs.FaultTexts.{fault_text}
 use Rattle.bsi_answers.specs.declared.faults.FilesFault.TheVariants.{NoMemory}
 use Rattle.bsi_storage.specs.declared.fault.OpenFault.{OpenFault}
 use Rattle.bsi_storage.specs.declared.fault.OpenFault.TheVariants as opening
-use Rattle.bsi_storage.specs.declared.fault.SaveFault.{SaveFault}
-use Rattle.bsi_storage.specs.declared.fault.SaveFault.TheVariants as saving
 use Rattle.bsi_storage.specs.Faults.{IsFirstSegmentFault, IsOpened}
 use Rattle.bsi_rows.specs.Table.{Table}
 use Rattle.bsi_store.specs.Kinds.{SaysNoSchema}
 use Rattle.bsi_store.specs.declared.fault.FileFault.{FileFault}
 use Rattle.bsi_store.specs.declared.fault.FileFault.TheVariants.{BadKinds, CutShort, Damaged, InUse, LongKinds, NotAnIndex, OtherVersion, Read, TooManyFiles}
 use Rattle.bsi_store.specs.declared.fault.StoreFault.{StoreFault}
+use Rattle.bsi_store.specs.declared.fault.WriteReason.{WriteReason}
+use Rattle.bsi_store.specs.declared.fault.WriteReason.TheVariants as reason
 use Rattle.bsi_store.specs.declared.fault.StoreFault.TheVariants.{BadRecords, CannotOpen, CannotWrite, Unusable, Run}
 use Rattle.bsi_syntax.specs.Bytes.{Bytes, KnownBytes}
 
@@ -28,6 +28,16 @@ file_fault_text (TooManyFiles feeders) = codes "more than " ++ decimal feeders +
 file_fault_text BadKinds = codes "of kinds that are not known"
 file_fault_text LongKinds = codes "texts past 64 MiB"
 
+-- What follows the path of a file that can't be written.
+abbrev pub write_fault_reason : WriteReason → List ℕ
+write_fault_reason reason.NotFound = codes ": no such file or folder"
+write_fault_reason reason.PermissionDenied = codes ": permission denied"
+write_fault_reason reason.NotAFolder = codes ": not a folder"
+write_fault_reason reason.NotAFile = codes ": not a regular file"
+write_fault_reason reason.ReadOnly = codes ": read-only file system"
+write_fault_reason reason.NoSpace = codes ": no space left"
+write_fault_reason reason.Unnamed = codes ""
+
 -- The line that says how many records of row files are bad.
 abbrev pub bad_records_line : ℕ → List ℕ
 bad_records_line bad = codes "bsi: bad records: " ++ decimal bad ++ codes "; bsi check says which\n"
@@ -35,7 +45,7 @@ bad_records_line bad = codes "bsi: bad records: " ++ decimal bad ++ codes "; bsi
 -- The line of a fault.
 abbrev pub store_fault_line : StoreFault → List ℕ
 store_fault_line (CannotOpen path) = codes "bsi: cannot open " ++ path.now ++ codes "\n"
-store_fault_line (CannotWrite path) = codes "bsi: cannot write " ++ path.now ++ codes "\n"
+store_fault_line (CannotWrite path why) = codes "bsi: cannot write " ++ path.now ++ (write_fault_reason why ++ codes "\n")
 store_fault_line (Unusable path fault) = codes "bsi: " ++ path.now ++ (codes ": " ++ (file_fault_text fault ++ codes "\n"))
 store_fault_line (BadRecords bad) = bad_records_line bad
 store_fault_line (Run fault) = fault_text fault ++ codes "\n"
@@ -43,7 +53,7 @@ store_fault_line (Run fault) = fault_text fault ++ codes "\n"
 -- If the fault names a path, the path satisfies `Is`.
 abbrev pub NamesPath : (Bor (List ℕ) → Type 0) → StoreFault → Type 0
 NamesPath Is (CannotOpen path) = Is path
-NamesPath Is (CannotWrite path) = Is path
+NamesPath Is (CannotWrite path why) = Is path
 NamesPath Is (Unusable path fault) = Is path
 NamesPath Is (BadRecords bad) = Unit {0}
 NamesPath Is (Run fault) = Unit {0}
@@ -56,11 +66,6 @@ cut_off path opening.CutShort rows = Unusable path (CutShort rows)
 cut_off path opening.Damaged rows = Unusable path (Damaged rows)
 cut_off path opening.Read rows = Unusable path Read
 cut_off path opening.NoMemory rows = Run NoMemory
-
--- The fault of an index that could not be written to a file.
-abbrev pub unsaved : Bor (List ℕ) → SaveFault → StoreFault
-unsaved path saving.Write = CannotWrite path
-unsaved path saving.NoMemory = Run NoMemory
 
 -- The fault of a file from which no index could be opened.
 abbrev pub unopened : Bor (List ℕ) → OpenFault → StoreFault

@@ -17,11 +17,12 @@ ghost use Rattle.bsi_table.specs.Index.{table_of};
 use crate::add_file::{lock_to_add, open_each, open_to_add};
 use crate::opening::read_table_schema;
 use crate::summary::{Summary, refuse_bad, summarize};
+use crate::writing::append_to_file;
 use crate::{FileFault, LockFile, StoreFault, read_saved};
 use bsi_files::{FilesFault, Gate, Loaded, Stopping, load_files};
 use bsi_input::write_bytes;
 use bsi_logical::TableSchema;
-use bsi_storage::{LoadedIndex, OpenFault, Version, accepts_rows_of, write_index};
+use bsi_storage::{LoadedIndex, OpenFault, Version, accepts_rows_of};
 use bsi_table::{Index, NoMemory};
 use std::alloc::Global;
 use std::fs::OpenFile;
@@ -149,8 +150,9 @@ fn reread_if_changed<'a, S: Read + OpenFile + LockFile>(
     ensures fault { IfErr result (IsMet S.remaining) }
     ensures named { IfErr result (NamesPath (λ named. named ≡ path.entry)) }
 {
-    let Ok(metadata) = file.metadata() else {
-        return Err(StoreFault::CannotWrite(path));
+    let metadata = match file.metadata() {
+        Ok(metadata) => metadata,
+        Err(error) => return Err(StoreFault::unwritten(path, &error)),
     };
     if metadata.len() < saved.bytes {
         return Err(StoreFault::Unusable(path, FileFault::InUse));
@@ -158,8 +160,8 @@ fn reread_if_changed<'a, S: Read + OpenFile + LockFile>(
     if metadata.len() == saved.bytes && saved.fault.is_none() {
         return Ok(saved);
     }
-    if file.rewind().is_err() {
-        return Err(StoreFault::CannotWrite(path));
+    if let Err(error) = file.rewind() {
+        return Err(StoreFault::unwritten(path, &error));
     }
     read_to_add(alloc, path, file, so_far)
 }
@@ -276,14 +278,18 @@ fn append_segment<'a, S: Write + OpenFile>(
     ensures fault { IfErr result IsNotAboutBytes }
     ensures named { IfErr result (NamesPath (λ named. named ≡ path.entry)) }
 {
-    if saved.fault.is_some() && file.set_len(saved.bytes).is_err() {
-        return Err(StoreFault::CannotWrite(path));
+    if saved.fault.is_some() {
+        if let Err(error) = file.set_len(saved.bytes) {
+            return Err(StoreFault::unwritten(path, &error));
+        }
     }
-    let written = write_index(alloc, more, &saved.notes, &saved.kinds, file);
+    let written = append_to_file(alloc, path, more, &saved.notes, &saved.kinds, file);
     let fault = match written {
-        Ok(()) if file.sync_all().is_ok() => return Ok(()),
-        Ok(()) => StoreFault::CannotWrite(path),
-        Err(fault) => StoreFault::unsaved(path, fault),
+        Ok(()) => match file.sync_all() {
+            Ok(()) => return Ok(()),
+            Err(error) => StoreFault::unwritten(path, &error),
+        },
+        Err(fault) => fault,
     };
     let _ = file.set_len(saved.bytes);
     Err(fault)

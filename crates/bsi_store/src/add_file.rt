@@ -53,7 +53,7 @@ pub(crate) fn open_to_add<'a, R: Files<File = S>, S: OpenFile + LockFile + Drop>
     match lock_to_read(&file) {
         Ok(true) => Ok(file),
         Ok(false) => Err(StoreFault::Unusable(path, FileFault::InUse)),
-        Err(_) => Err(StoreFault::CannotWrite(path)),
+        Err(error) => Err(StoreFault::unwritten(path, &error)),
     }
 }
 
@@ -78,7 +78,7 @@ pub(crate) fn lock_to_add<'a, R: Clock + Files<File = S>, S: OpenFile + LockFile
     match lock_current_file(rt, path, file) {
         Ok(true) => Ok(()),
         Ok(false) => Err(StoreFault::Unusable(path, FileFault::InUse)),
-        Err(_) => Err(StoreFault::CannotWrite(path)),
+        Err(error) => Err(StoreFault::unwritten(path, &error)),
     }
 }
 

@@ -1,14 +1,17 @@
-//! Why a command over a saved index ends early (`StoreFault`), and the text of what is wrong with a file (`FileFault`).
+//! Why a command over a saved index ends early (`StoreFault`), and the texts of what is wrong with a file (`FileFault`) and
+//! of why one can't be written (`WriteReason`).
 
 ghost use Rattle.std.specs.Prelude.{◌≡◌, ◌+◌, ◌≤◌, ◌++◌, [], decimal, length};
-ghost use Rattle.bsi_store.specs.Faults.{cut_off, file_fault_text, unopened, unsaved};
+ghost use Rattle.bsi_store.specs.Faults.{cut_off, file_fault_text, unopened, write_fault_reason, NamesPath};
+ghost use Rattle.bsi_store.specs.Saving.{IsNotAboutBytes};
 
 use arrayvec::ArrayString;
 use bsi_answers::FilesFault;
 use bsi_input::{SchemaFault, WriteFault};
-use bsi_storage::{OpenFault, SaveFault};
+use bsi_storage::OpenFault;
 use itoa::Buffer;
 use std::alloc::AllocError;
+use std::io;
 
 /// The most bytes of the text about a file: those of `cut short after `, of a number of 20 digits and of ` rows`.
 pub const MAX_FILE_TEXT: usize = 41;
@@ -39,13 +42,32 @@ pub enum FileFault {
     LongKinds,
 }
 
+/// Why a file can't be written, as the system says it.
+#[derive(Clone, Copy, Debug, PartialEq, Eq)]
+pub enum WriteReason {
+    /// There is no such file, or no such folder.
+    NotFound,
+    /// The system's rights forbid it.
+    PermissionDenied,
+    /// A part of the path before the last is no folder.
+    NotAFolder,
+    /// It is a folder, a pipe or a device.
+    NotAFile,
+    /// The file system is only read.
+    ReadOnly,
+    /// There is no space for it.
+    NoSpace,
+    /// The system names none of these.
+    Unnamed,
+}
+
 /// Why a command over a saved index ends early. Each path is as it was written.
 #[derive(Clone, Copy, Debug)]
 pub enum StoreFault<'a> {
     /// The file of this path can't be opened.
     CannotOpen(&'a str),
     /// The file of this path, or the new one beside it, can't be written.
-    CannotWrite(&'a str),
+    CannotWrite(&'a str, WriteReason),
     /// This is wrong with the file of this path.
     Unusable(&'a str, FileFault),
     /// So many records of the row files are bad, and none was to be.
@@ -98,14 +120,12 @@ impl From<SchemaFault> for StoreFault<'_> {
 }
 
 impl<'a> StoreFault<'a> {
-    /// Returns the fault of an index that was not written to the file of a path.
-    pub fn unsaved(path: &'a str, fault: SaveFault) -> StoreFault<'a>
-        ensures { result ≡ unsaved path.entry fault }
+    /// Returns the fault of a file of a path that can't be written, by the error of the system.
+    pub(crate) fn unwritten(path: &'a str, error: &io::Error) -> StoreFault<'a>
+        ensures fault { IsNotAboutBytes result }
+        ensures named { NamesPath (λ named. named ≡ path.entry) result }
     {
-        match fault {
-            SaveFault::Write => StoreFault::CannotWrite(path),
-            SaveFault::NoMemory => StoreFault::Run(FilesFault::NoMemory),
-        }
+        StoreFault::CannotWrite(path, WriteReason::of(error))
     }
 
     /// Returns the fault of a file of a path that no index was opened of.
@@ -130,6 +150,40 @@ impl<'a> StoreFault<'a> {
             OpenFault::CutShort => StoreFault::Unusable(path, FileFault::CutShort(rows)),
             OpenFault::Read => StoreFault::Unusable(path, FileFault::Read),
             OpenFault::NoMemory => StoreFault::Run(FilesFault::NoMemory),
+        }
+    }
+}
+
+impl WriteReason {
+    /// Returns the reason that an error of the system names. It has no `ensures`, because no contract says which error a
+    /// call of the system has.
+    pub(crate) fn of(error: &io::Error) -> WriteReason {
+        match error.kind() {
+            io::ErrorKind::NotFound => WriteReason::NotFound,
+            io::ErrorKind::PermissionDenied => WriteReason::PermissionDenied,
+            io::ErrorKind::NotADirectory => WriteReason::NotAFolder,
+            io::ErrorKind::IsADirectory | io::ErrorKind::InvalidInput => WriteReason::NotAFile,
+            io::ErrorKind::ReadOnlyFilesystem => WriteReason::ReadOnly,
+            io::ErrorKind::StorageFull
+            | io::ErrorKind::QuotaExceeded
+            | io::ErrorKind::FileTooLarge => WriteReason::NoSpace,
+            _ => WriteReason::Unnamed,
+        }
+    }
+
+    /// Returns what follows the path in the line of the fault, in at most 26 bytes.
+    pub fn text(self) -> &'static str
+        ensures text { result.now ≡ write_fault_reason self }
+        ensures within { length result.now ≤ 26 }
+    {
+        match self {
+            WriteReason::NotFound => ": no such file or folder",
+            WriteReason::PermissionDenied => ": permission denied",
+            WriteReason::NotAFolder => ": not a folder",
+            WriteReason::NotAFile => ": not a regular file",
+            WriteReason::ReadOnly => ": read-only file system",
+            WriteReason::NoSpace => ": no space left",
+            WriteReason::Unnamed => "",
         }
     }
 }

@@ -15,10 +15,11 @@ mod show;
 mod summary;
 mod surveying;
 mod target;
+mod writing;
 
 pub use add::{AddPaths, add_rows};
 pub use ask::{AskPaths, ask_input, ask_over};
-pub use fault::{FileFault, FileText, MAX_FILE_TEXT, StoreFault};
+pub use fault::{FileFault, FileText, MAX_FILE_TEXT, StoreFault, WriteReason};
 pub use lines::push_count_line;
 pub use lock::LockFile;
 pub use opening::{open_file, read_saved};

@@ -8,8 +8,9 @@ ghost use Rattle.bsi_store.specs.Saving.{IsNotAboutBytes};
 ghost use Rattle.bsi_store.specs.Faults.{NamesPath};
 
 use crate::target::SaveTarget;
-use crate::{FileFault, LockFile, StoreFault};
-use bsi_storage::{Version, write_index};
+use crate::writing::append_to_file;
+use crate::{FileFault, LockFile, StoreFault, WriteReason};
+use bsi_storage::Version;
 use bsi_table::{Index, NoMemory};
 use std::alloc::Global;
 use std::fs::{OpenFile, OpenOptions, Permissions};
@@ -66,10 +67,7 @@ impl<'a, S: Read + Write + OpenFile + LockFile + Drop> NewFile<'a, S> {
         ensures named { IfErr result (NamesPath (λ named. named ≡ self.old.target.path)) }
         ensures path { self.new.target.path ≡ self.old.target.path }
     {
-        match write_index(alloc, index, &[], kinds, &mut self.file) {
-            Ok(()) => Ok(()),
-            Err(fault) => Err(StoreFault::unsaved(self.target.path, fault)),
-        }
+        append_to_file(alloc, self.target.path, index, &[], kinds, &mut self.file)
     }
 
     /// Puts the file in its place, once the system has stored it. It refuses that if something else is there since the
@@ -79,17 +77,17 @@ impl<'a, S: Read + Write + OpenFile + LockFile + Drop> NewFile<'a, S> {
         ensures named { IfErr result (NamesPath (λ named. named ≡ self.now.target.path)) }
     {
         let path = self.target.path;
-        if self.file.sync_all().is_err() {
-            return Err(StoreFault::CannotWrite(path));
+        if let Err(error) = self.file.sync_all() {
+            return Err(StoreFault::unwritten(path, &error));
         }
         match self.target.is_unchanged(rt) {
             Ok(true) => {}
             Ok(false) => return Err(StoreFault::Unusable(path, FileFault::InUse)),
-            Err(_) => return Err(StoreFault::CannotWrite(path)),
+            Err(error) => return Err(StoreFault::unwritten(path, &error)),
         }
         match fs::rename(rt, self.new_path.as_str(), self.target.file_path()) {
             Ok(()) => Ok(()),
-            Err(_) => Err(StoreFault::CannotWrite(path)),
+            Err(error) => Err(StoreFault::unwritten(path, &error)),
         }
     }
 
@@ -100,7 +98,7 @@ impl<'a, S: Read + Write + OpenFile + LockFile + Drop> NewFile<'a, S> {
     {
         match self.target.folder.sync_all() {
             Ok(()) => Ok(()),
-            Err(_) => Err(StoreFault::CannotWrite(self.target.path)),
+            Err(error) => Err(StoreFault::unwritten(self.target.path, &error)),
         }
     }
 
@@ -125,18 +123,19 @@ fn create<'a, R: AllocGlobal + Files<File = S>, S: Read + OpenFile + LockFile + 
     ensures fault { IfErr result IsNotAboutBytes }
     ensures named { IfErr result (NamesPath (λ named. named ≡ target.now.path)) }
 {
-    let Ok(rights) = rights_of(target) else {
-        return Err(StoreFault::CannotWrite(target.path));
+    let rights = match rights_of(target) {
+        Ok(rights) => rights,
+        Err(error) => return Err(StoreFault::unwritten(target.path, &error)),
     };
     'names: for number in 1..=MAX_NAMES {
         let new_path = name_new(rt.alloc(), target.file_path(), number)?;
         match create_new(rt, new_path.as_str(), &rights) {
             Ok(file) => return Ok(Created { file, new_path }),
             Err(error) if error.kind() == io::ErrorKind::AlreadyExists => {}
-            Err(_) => return Err(StoreFault::CannotWrite(target.path)),
+            Err(error) => return Err(StoreFault::unwritten(target.path, &error)),
         }
     }
-    Err(StoreFault::CannotWrite(target.path))
+    Err(StoreFault::CannotWrite(target.path, WriteReason::Unnamed))
 }
 
 /// Returns the name of a new file that is to replace the one of a path.

@@ -2,7 +2,7 @@
 
 ghost use Rattle.std.specs.Prelude.{◌≡◌, false, IfErr, IfOk};
 ghost use Rattle.bsi_segments.specs.Segments.{MayBegin};
-ghost use Rattle.bsi_store.specs.Saving.{IsMet};
+ghost use Rattle.bsi_store.specs.Saving.{IsMet, IsNotAboutBytes};
 ghost use Rattle.bsi_store.specs.Faults.{NamesPath};
 
 use crate::add_file::is_at;
@@ -39,8 +39,9 @@ impl<'a, S: Read + OpenFile + LockFile + Drop> SaveTarget<'a, S> {
         ensures fault { IfErr result (IsMet S.remaining) }
         ensures named { IfErr result (NamesPath (λ named. named ≡ path.entry)) }
     {
-        let Ok(existing) = find_existing(rt, path) else {
-            return Err(StoreFault::CannotWrite(path));
+        let existing = match find_existing(rt, path) {
+            Ok(existing) => existing,
+            Err(error) => return Err(StoreFault::unwritten(path, &error)),
         };
         match existing {
             Existing::Nothing => {
@@ -93,9 +94,13 @@ fn open_folder<'a, R: Files<File = S>, S: Drop>(
     path: &'a str,
     target: &str,
 ) -> Result<S, StoreFault<'a>>
-    ensures { IfErr result (λ fault. fault ≡ StoreFault.CannotWrite path.entry) }
+    ensures fault { IfErr result IsNotAboutBytes }
+    ensures named { IfErr result (NamesPath (λ named. named ≡ path.entry)) }
 {
-    fs::open(rt, folder_of(target)).map_err(|_| StoreFault::CannotWrite(path))
+    match fs::open(rt, folder_of(target)) {
+        Ok(folder) => Ok(folder),
+        Err(error) => Err(StoreFault::unwritten(path, &error)),
+    }
 }
 
 /// Returns the folder of a path.
@@ -118,7 +123,7 @@ enum Existing {
 /// Looks what a path names, and follows links. It refuses an empty path, a link to nothing, and what is no regular file.
 fn find_existing<R: AllocGlobal + Files>(rt: &R, path: &str) -> io::Result<Existing> {
     if path.is_empty() {
-        return Err(io::Error::from(io::ErrorKind::InvalidInput));
+        return Err(io::Error::from(io::ErrorKind::NotFound));
     }
     match fs::symlink_metadata(rt, path) {
         Ok(metadata) if metadata.is_file() => Ok(Existing::File(None)),

@@ -11,8 +11,8 @@ returns-in-CannotOpen g c =
 
 pub returns-in-CannotWrite : goal.returns-in-CannotWrite
 returns-in-CannotWrite g c =
-    subst (λ (fault : StoreFault). IsLineWritten c.write_message-in-CannotWrite.result (g.F.Write.contents c.args.stderr.now) (g.F.Write.contents c.write_message-in-CannotWrite.new.stderr) (store_fault_line fault))
-    (sym c.in-CannotWrite.is) c.write_message-in-CannotWrite.ensures
+    subst (λ (fault : StoreFault). IsLineWritten c.write_unwritten_file.result (g.F.Write.contents c.args.stderr.now) (g.F.Write.contents c.write_unwritten_file.new.stderr) (store_fault_line fault))
+    (sym c.in-CannotWrite.is) c.write_unwritten_file.ensures
 
 pub returns-in-BadRecords : goal.returns-in-BadRecords
 returns-in-BadRecords g c =
