@@ -12,6 +12,6 @@ pub columns_left : {S : Type 0} (rem : S → KnownBytes) (asks before after : Kn
     → LeavesNamed rem false asks before after fault
 columns_left rem asks before after first (Run fault) = (refl, inr first)
 columns_left rem asks before after first (CannotOpen path) = (refl, first)
-columns_left rem asks before after first (CannotWrite path) = (refl, first)
+columns_left rem asks before after first (CannotWrite path why) = (refl, first)
 columns_left rem asks before after first (Unusable path why) = (refl, first)
 columns_left rem asks before after first (BadRecords bad) = (refl, first)
