@@ -12,8 +12,9 @@ use crate::heads::{NamedHeads, open_heads};
 use crate::lock::{LockFile, PlacedFile};
 use crate::opening::{open_file, open_index};
 use crate::{FileFault, StoreFault};
-use bsi_answers::{Grammar, answer_asks};
+use bsi_answers::{FilesFault, Grammar, answer_asks};
 use bsi_named::{NamedFault, answer_named_asks};
+use bsi_storage::OpenFault;
 use std::io::{Read, Write};
 use std::rt::Files;
 use std::thread::Threads;
@@ -141,19 +142,23 @@ fn ask_named<
     match answered {
         Ok(()) => Ok(()),
         Err(NamedFault::Run(fault)) => Err(StoreFault::Run(fault)),
-        Err(NamedFault::Columns(_)) => Err(find_fault(rt, path)),
+        Err(NamedFault::Columns(met)) => Err(find_fault(rt, path, met)),
     }
 }
 
-/// Returns what is wrong with a file of which columns could not be read: the fault that is met where it is opened as a
-/// whole, or that it can't be read.
+/// Returns what is wrong with a file of which columns could not be read: no memory if that was met, the fault that is met
+/// when the file is opened as a whole, or that it can't be read.
 fn find_fault<'a, R: AllocGlobal + Files<File = S>, S: Read + LockFile + Drop>(
     rt: &R,
     path: &'a str,
+    met: OpenFault,
 ) -> StoreFault<'a>
     ensures named { NamesPath (λ named. named ≡ path.entry) result }
     ensures fault { IsOfFile S.remaining result }
 {
+    if matches!(met, OpenFault::NoMemory) {
+        return StoreFault::Run(FilesFault::NoMemory);
+    }
     match open_index(rt, path, false) {
         Ok(_) => StoreFault::Unusable(path, FileFault::Read),
         Err(fault) => fault,

@@ -56,7 +56,7 @@ returns-in-Err-Columns-clause-prefix g c =
     let Left : NamedFault → Type 0 = λ fault. (t : Table) → (notes kinds : Bytes) → AreFileHeads known heads t notes kinds
     → IfSome asks (λ bytes. WritesFirst (AllZip (IsAnswer schema t)) bytes (output_fault fault) before after) in
     let told : Left c.in-Err-Columns.field-0 = rw c.in-Err-Columns.is at c.answer_named_asks-answered.ensures.prefix in
-    let unread : c.in-Err-Columns.field-0 ≡ Columns c.in-Err-Columns.field-0-0 = rw c.in-Err-Columns.is at c.in-Err-Columns.field-0-is in
+    let unread : c.in-Err-Columns.field-0 ≡ Columns c.in-Err-Columns.met = rw c.in-Err-Columns.is at c.in-Err-Columns.field-0-is in
     let left = subst Left unread told in
     let first : HasAskedFirst g.S.Read.remaining asks NoMemory before after = record {
       file = c.args.file.now;
