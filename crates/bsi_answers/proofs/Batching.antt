@@ -1,105 +1,84 @@
--- Batches of questions, as they grow, and the lines that answer them.
-use Rattle.std.proofs.Common.{◌≡◌, ◌≤◌, ◌<◌, ℕ, zero, suc, ◌+◌, List, [], ◌∷◌, ◌++◌, get_or, length, take, drop, Option, Some, None, IfSome, MatchOption, Result, Ok, Err, inl, inr, refl, ap, sym, subst, arith, ◌∙◌}
-use Rattle.std.specs.Prelude.{◌⊎◌, IfErr, IfOk, option_to_list}
+-- Batches of records, as they grow, and the lines that are written of them.
+use Rattle.std.proofs.Common.{◌≡◌, ◌≤◌, ◌<◌, ℕ, zero, suc, ◌+◌, List, [], ◌∷◌, ◌++◌, get_or, length, take, drop, Bool, true, false, Bor, Option, Some, None, IfSome, MatchOption, Result, Ok, Err, inl, inr, refl, ap, sym, subst, arith, ◌∙◌}
+use Rattle.std.specs.Prelude.{◌⊎◌, All, IfErr, IfOk}
 use Rattle.std.specs.Io.KnownBytes.{Appends}
 use Rattle.std.specs.List.{concat, AllZip}
-use Rattle.std.proofs.lemmas.List.{append-nil, append_assoc, drop_more, length-append, take_all, take_more}
+use Rattle.std.proofs.lemmas.List.{append-nil, append_assoc, drop_more, length-append, take-append-drop, take_more}
+use Rattle.std.proofs.lemmas.List.Elements.{All-cons, All-head, All-nil, All-tail}
 use Rattle.std.proofs.lemmas.List.Folds.{concat-append}
 use Rattle.csv.proofs.WriteFacts.{appends-more, appends-none}
 use Rattle.csv.specs.Reading.{reader_state, source_of}
 use Rattle.csv.specs.declared.reader.Reader.{Reader}
-use Rattle.bsi_syntax.specs.Bytes.{KnownBytes}
-use Rattle.bsi_syntax.specs.Questions.{IsQuestion}
-use Rattle.bsi_syntax.specs.Notations.{NumberTexts}
-use Rattle.bsi_syntax.specs.Vocabularies.{Words}
-use Rattle.bsi_syntax.specs.declared.grammar.Grammar.{Grammar}
-use Rattle.bsi_syntax.specs.Lines.{bad_line}
-use Rattle.bsi_rows.specs.Fields.{Field}
-use Rattle.bsi_input.proofs.FirstRecords.{first_more, HasReadFirst}
-use Rattle.bsi_input.proofs.Waiting.{cut_whole}
-use Rattle.bsi_input.specs.RecordSources.{RecordSource}
-use Rattle.bsi_input.specs.Formats.{max_records}
-use Rattle.bsi_input.specs.Sources.{HasReadRecords}
-use Rattle.bsi_input.specs.BufferedOutput.{AppendsPrefix}
-use Rattle.bsi_rows.specs.Rows.{SourcedRow}
-use Rattle.bsi_rows.specs.declared.question.Question.{Question}
-use Rattle.bsi_schema.specs.Columns.{Declared}
-use Rattle.bsi_answers.proofs.Asking.{out_after, out_all, wrote_all, wrote_more, wrote_part, HasWritten}
-use Rattle.bsi_answers.proofs.Passing.{emptied}
-use Rattle.bsi_answers.specs.AskLines.{IsAskLineBy, IsQuestionLine}
-use Rattle.bsi_answers.specs.Writing.{AreWrittenBefore, WritesAll, WritesFirst}
+use Rattle.bsi_answers.proofs.Asking.{out_after, out_all, HasWritten}
+use Rattle.bsi_answers.specs.Writing.{WritesFirst}
 use Rattle.bsi_answers.specs.declared.faults.FilesFault.{FilesFault}
 use Rattle.bsi_answers.specs.declared.faults.FilesFault.TheVariants.{NoMemory, TooLong, Write}
 use Rattle.bsi_answers.specs.declared.faults.Which.TheVariants.{AsksFile}
-use Rattle.bsi_answers.specs.Batches.{AreFirstReplies, GaveQuestions, GivesQuestions, ReadsAsk, ReadsBatch, ReadsQuestion, StopsInBatch, WritesAnswers, WritesFirstAnswers}
-use Rattle.bsi_answers.specs.declared.batches.BatchEnd.{BatchEnd}
-use Rattle.bsi_answers.specs.declared.batches.BatchEnd.TheVariants.{Bad, End, More}
-
--- ---- the questions of a batch
-
-module _ {R : Type 0} (rem : R → KnownBytes) (grammar : Grammar) (words : Words) where
-  gives_push : (old at new : Reader R) (questions : List Question) (question : Question) (fields : List Field) → GivesQuestions rem grammar words old questions at
-      → HasReadRecords rem at new (fields ∷ []) → IsQuestion grammar words fields question → GivesQuestions rem grammar words old (questions ++ question ∷ []) new
-  gives_push old at new [] question fields same read asks = (fields, new, subst (λ r. HasReadRecords rem r new (fields ∷ [])) (sym same) read, asks, refl)
-  gives_push old at new (first ∷ questions) question fields gives read asks =
-      (gives.0, gives.1, gives.2, gives.3, gives_push gives.1 at new questions question fields gives.4 read asks)
-
-  pub given_none : (old : RecordSource R) (questions : List Question) → old.read_so_far ≤ max_records → questions ≡ [] → GaveQuestions rem grammar words old questions old.input old.read_so_far
-  given_none old questions few none = subst (λ qs. GaveQuestions rem grammar words old qs old.input old.read_so_far) (sym none) (record { gives = refl; counted = omega arith; few = few })
-
-  pub given_push : (old middle new : RecordSource R) (questions after : List Question) (question : Question) → GaveQuestions rem grammar words old questions middle.input middle.read_so_far
-      → after ≡ questions ++ question ∷ [] → ReadsQuestion rem grammar words middle new question → GaveQuestions rem grammar words old after new.input new.read_so_far
-  given_push old middle new questions after question given is reads = subst (λ qs. GaveQuestions rem grammar words old qs new.input new.read_so_far) (sym is) (record {
-    gives = gives_push old.input middle.input new.input questions question reads.fields given.gives reads.read reads.asks;
-    counted = omega (arith, length-append questions (question ∷ []), given.counted, reads.counted);
-    few = reads.few;
-  })
-
-  -- a batch ends where a record was taken, or none was left
-  pub batch_of : (old middle new : RecordSource R) (questions after : List Question) (batch_end : BatchEnd) → GaveQuestions rem grammar words old questions middle.input middle.read_so_far
-      → ReadsAsk rem grammar words middle new questions after batch_end → ReadsBatch rem grammar words old new after batch_end
-  batch_of old middle new questions after More given reads = (
-    given_push old middle new questions after reads.0 given reads.1 reads.2,
-    omega (arith, length-append questions (reads.0 ∷ []), subst (λ qs. length qs ≡ length (questions ++ reads.0 ∷ [])) (sym reads.1) refl),
-    reads.2.going,
-  )
-  batch_of old middle new questions after Bad given reads =
-      (middle.input, middle.read_so_far, subst (λ qs. GaveQuestions rem grammar words old qs middle.input middle.read_so_far) (sym reads.0) given, reads.1)
-  batch_of old middle new questions after End given reads =
-      (middle.input, middle.read_so_far, subst (λ qs. GaveQuestions rem grammar words old qs middle.input middle.read_so_far) (sym reads.0) given, reads.1)
+use Rattle.bsi_input.proofs.FirstRecords.{first_more, HasReadFirst}
+use Rattle.bsi_input.specs.BufferedOutput.{AppendsPrefix}
+use Rattle.bsi_input.specs.Formats.{max_records}
+use Rattle.bsi_input.specs.RecordSources.{RecordSource}
+use Rattle.bsi_input.specs.Sources.{HasReadRecords}
+use Rattle.bsi_answers.specs.Batches.{GaveRecords, GivesRecords, ReadsBatch, ReadsMore, ReadsOne, StopsInBatch, WritesFirstLines, WritesLines}
+use Rattle.bsi_rows.specs.Fields.{Field}
+use Rattle.bsi_syntax.specs.Bytes.{Bytes, KnownBytes}
+use Rattle.bsi_syntax.specs.Notations.{AppendsText}
 
 -- ---- the records of a batch
 
-module _ {R : Type 0} (rem : R → KnownBytes) (grammar : Grammar) (words : Words) (bytes : List ℕ) where
-  -- the records that ask them were read on
-  records_on : (old at : Reader R) (questions : List Question) (records : List (List Field)) → GivesQuestions rem grammar words old questions at
-      → HasReadFirst bytes (reader_state old) (source_of rem old) records
-      → (more : List (List Field)) × HasReadFirst bytes (reader_state at) (source_of rem at) (records ++ more) × AllZip (IsQuestion grammar words) more questions
-      × (length more ≡ length questions)
-  records_on old at [] records same read = (
-    [],
-    subst (λ (r : Reader R). HasReadFirst bytes (reader_state r) (source_of rem r) (records ++ [])) same
-        (subst (HasReadFirst bytes (reader_state old) (source_of rem old)) (sym (append-nil records)) read),
-    tt,
-    refl,
-  )
-  records_on old at (question ∷ questions) records gives read =
-      let next = gives.1 in
-      let on = records_on next at questions (records ++ gives.0 ∷ []) gives.4 (first_more rem bytes old next records gives.0 read gives.2) in (
-        gives.0 ∷ on.0,
-        subst (HasReadFirst bytes (reader_state at) (source_of rem at)) (append_assoc records (gives.0 ∷ []) on.0) on.1,
-        (gives.3, on.2),
-        ap suc on.3,
-      )
+module _ {R : Type 0} (rem : R → KnownBytes) where
+  gives_push : (old at new : Reader R) (records : List (List Field)) (fields : List Field) → GivesRecords rem old records at
+      → HasReadRecords rem at new (fields ∷ []) → GivesRecords rem old (records ++ fields ∷ []) new
+  gives_push old at new [] fields same read = (new, subst (λ r. HasReadRecords rem r new (fields ∷ [])) (sym same) read, refl)
+  gives_push old at new (first ∷ records) fields gives read = (gives.0, gives.1, gives_push gives.0 at new records fields gives.2 read)
 
-  -- and those of the first ones
-  gives_first : (count : ℕ) (old at : Reader R) (questions : List Question) → GivesQuestions rem grammar words old questions at
-      → (middle : Reader R) × GivesQuestions rem grammar words old (take count questions) middle
-  gives_first zero old at [] gives = (old, refl)
-  gives_first zero old at (question ∷ questions) gives = (old, refl)
-  gives_first (suc count) old at [] gives = (at, gives)
-  gives_first (suc count) old at (question ∷ questions) gives =
-      let first = gives_first count gives.1 at questions gives.4 in (first.0, (gives.0, gives.1, gives.2, gives.3, first.1))
+  pub gave_none : (old : RecordSource R) (records : List (List Field)) → old.read_so_far ≤ max_records → records ≡ [] → GaveRecords rem old records old.input old.read_so_far
+  gave_none old records few none = subst (λ rs. GaveRecords rem old rs old.input old.read_so_far) (sym none) (record { gives = refl; counted = omega arith; few = few })
+
+  pub gave_push : (old middle new : RecordSource R) (records after : List (List Field)) (fields : List Field) → GaveRecords rem old records middle.input middle.read_so_far
+      → after ≡ records ++ fields ∷ [] → ReadsMore rem middle new fields → GaveRecords rem old after new.input new.read_so_far
+  gave_push old middle new records after fields gave is reads = subst (λ rs. GaveRecords rem old rs new.input new.read_so_far) (sym is) (record {
+    gives = gives_push old.input middle.input new.input records fields gave.gives reads.read;
+    counted = omega (arith, length-append records (fields ∷ []), gave.counted, reads.counted);
+    few = reads.few;
+  })
+
+  -- a batch ends where a record was read, or none was left
+  pub batch_of : (old middle new : RecordSource R) (records after : List (List Field)) (more : Bool) → GaveRecords rem old records middle.input middle.read_so_far
+      → ReadsOne rem middle new records after more → ReadsBatch rem old new after more
+  batch_of old middle new records after true gave reads = (
+    gave_push old middle new records after reads.0 gave reads.1 reads.2,
+    omega (arith, length-append records (reads.0 ∷ []), subst (λ rs. length rs ≡ length (records ++ reads.0 ∷ [])) (sym reads.1) refl),
+    reads.2.going,
+  )
+  batch_of old middle new records after false gave reads =
+      (middle.input, middle.read_so_far, subst (λ rs. GaveRecords rem old rs middle.input middle.read_so_far) (sym reads.0) gave, reads.1)
+
+  -- however a batch ended, the source gave its records
+  pub gave_some : (old new : RecordSource R) (records : List (List Field)) (read : Result Bool FilesFault)
+      → IfOk read (ReadsBatch rem old new records) → IfErr read (StopsInBatch rem old records)
+      → (at : Reader R) × (read_so_far : ℕ) × GaveRecords rem old records at read_so_far
+  gave_some old new records (Ok true) reads stops = (new.input, new.read_so_far, reads.0)
+  gave_some old new records (Ok false) reads stops = (reads.0, reads.1, reads.2)
+  gave_some old new records (Err fault) reads stops = (stops.at, stops.read_so_far, stops.gave)
+
+  module _ (bytes : List ℕ) where
+    -- the records of a batch were read behind others
+    records_on : (old at : Reader R) (more : List (List Field)) (records : List (List Field)) → GivesRecords rem old more at
+        → HasReadFirst bytes (reader_state old) (source_of rem old) records → HasReadFirst bytes (reader_state at) (source_of rem at) (records ++ more)
+    records_on old at [] records same read =
+        subst (λ (r : Reader R). HasReadFirst bytes (reader_state r) (source_of rem r) (records ++ [])) same
+        (subst (HasReadFirst bytes (reader_state old) (source_of rem old)) (sym (append-nil records)) read)
+    records_on old at (fields ∷ more) records gives read =
+        subst (HasReadFirst bytes (reader_state at) (source_of rem at)) (append_assoc records (fields ∷ []) more)
+        (records_on gives.0 at more (records ++ fields ∷ []) gives.2 (first_more rem bytes old gives.0 records fields read gives.1))
+
+  -- and the first ones of it
+  gives_first : (old at : Reader R) (first rest : List (List Field)) → GivesRecords rem old (first ++ rest) at
+      → (middle : Reader R) × GivesRecords rem old first middle
+  gives_first old at [] rest gives = (old, refl)
+  gives_first old at (fields ∷ first) rest gives =
+      let more = gives_first gives.0 at first rest gives.2 in (more.0, (gives.0, gives.1, more.1))
 
 -- ---- records and their lines
 
@@ -110,239 +89,152 @@ matched_append Is [] xs' (y ∷ ys) ys' first last = absurd first
 matched_append Is (x ∷ xs) xs' [] ys' first last = absurd first
 matched_append Is (x ∷ xs) xs' (y ∷ ys) ys' first last = (first.0, matched_append Is xs xs' ys ys' first.1 last)
 
-module _ (grammar : Grammar) (words : Words) (Of : NumberTexts) (schema : Declared) (rows : List SourcedRow) where
-  line_of : (fields : List Field) (question : Question) (line : List ℕ) → IsQuestion grammar words fields question → IsQuestionLine Of schema rows question line
-      → IsAskLineBy grammar words Of schema rows fields line
-  line_of fields question line asked answered =
-      inr (record { asked = question; is = asked; answered = answered })
-
-  lines_of : (records : List (List Field)) (questions : List Question) (lines : List (List ℕ)) → AllZip (IsQuestion grammar words) records questions
-      → AllZip (IsQuestionLine Of schema rows) questions lines → AllZip (IsAskLineBy grammar words Of schema rows) records lines
-  lines_of [] [] [] asked answered = tt
-  lines_of [] [] (line ∷ lines) asked answered = absurd answered
-  lines_of [] (question ∷ questions) lines asked answered = absurd asked
-  lines_of (fields ∷ records) [] lines asked answered = absurd asked
-  lines_of (fields ∷ records) (question ∷ questions) [] asked answered = absurd answered
-  lines_of (fields ∷ records) (question ∷ questions) (line ∷ lines) asked answered =
-      (line_of fields question line asked.0 answered.0, lines_of records questions lines asked.1 answered.1)
-
 -- a fault of memory or of the writer is none of the text
 late_fault : (fault : FilesFault) → (fault ≡ NoMemory) ⊎ (fault ≡ Write) → fault ≡ TooLong AsksFile → ⊥
 late_fault fault (inl memory) is = absurd (cc (memory, is))
 late_fault fault (inr write) is = absurd (cc (write, is))
 
-take_few : {X : Type 0} (count : ℕ) (xs : List X) → length (take count xs) ≤ length xs
-take_few zero [] = omega arith
-take_few zero (x ∷ xs) = omega arith
-take_few (suc count) [] = omega arith
-take_few (suc count) (x ∷ xs) = let few = take_few count xs in omega (arith, few)
-
-module _ (grammar : Grammar) (words : Words) (Of : NumberTexts) (schema : Declared) (rows : List SourcedRow) {R : Type 0} (rem : R → KnownBytes) (bytes : List ℕ) (old : RecordSource R)
-    (before now after : KnownBytes)
-    (stands : HasWritten (IsAskLineBy grammar words Of schema rows) bytes (reader_state old.input) (source_of rem old.input) old.read_so_far before now)
-    (questions : List Question) (at : Reader R) (read_so_far : ℕ) (given : GaveQuestions rem grammar words old questions at read_so_far) where
+module _ (Is : List Field → Bytes → Type 0) {R : Type 0} (rem : R → KnownBytes) (bytes : List ℕ) (old : RecordSource R) (before now after : KnownBytes)
+    (stands : HasWritten Is bytes (reader_state old.input) (source_of rem old.input) old.read_so_far before now)
+    (records : List (List Field)) (at : Reader R) (read_so_far : ℕ) (gave : GaveRecords rem old records at read_so_far) where
   -- the lines of the batch were written too
-  pub batch_stands : WritesAnswers (IsQuestionLine Of schema rows) questions now after
-      → HasWritten (IsAskLineBy grammar words Of schema rows) bytes (reader_state at) (source_of rem at) read_so_far before after
-  batch_stands tells =
-      let on = records_on rem grammar words bytes old.input at questions stands.records given.gives stands.begun in
-      record {
-        records = stands.records ++ on.0;
-        lines = stands.lines ++ tells.lines;
-        begun = on.1;
-        many = omega (arith, length-append stands.records on.0, stands.many, on.3, given.counted);
-        each = matched_append (IsAskLineBy grammar words Of schema rows) stands.records on.0 stands.lines tells.lines stands.each
-            (lines_of grammar words Of schema rows on.0 questions tells.lines on.2 tells.each);
-        written = subst (Appends before after) (sym (concat-append stands.lines tells.lines))
-            (appends-more before now after (concat stands.lines) (concat tells.lines) stands.written tells.written);
-      }
+  pub batch_stands : WritesLines Is records now after → HasWritten Is bytes (reader_state at) (source_of rem at) read_so_far before after
+  batch_stands wrote = record {
+    records = stands.records ++ records;
+    lines = stands.lines ++ wrote.lines;
+    begun = records_on rem bytes old.input at records stands.records gave.gives stands.begun;
+    many = omega (arith, length-append stands.records records, stands.many, gave.counted);
+    each = matched_append Is stands.records records stands.lines wrote.lines stands.each wrote.each;
+    written = subst (Appends before after) (sym (concat-append stands.lines wrote.lines))
+        (appends-more before now after (concat stands.lines) (concat wrote.lines) stands.written wrote.written);
+  }
 
-  -- lines of its first questions were, before a fault
-  pub batch_prefix : (fault : FilesFault) → WritesFirstAnswers (IsQuestionLine Of schema rows) questions now after fault
-      → WritesFirst (AllZip (IsAskLineBy grammar words Of schema rows)) bytes fault before after
-  batch_prefix fault tells =
-      let first = gives_first rem grammar words bytes tells.count old.input at questions given.gives in
-      let on = records_on rem grammar words bytes old.input first.0 (take tells.count questions) stands.records first.1 stands.begun in
-      let few = take_few tells.count questions in
+  -- lines of its first records were, before a fault
+  pub batch_prefix : (fault : FilesFault) → WritesFirstLines Is records now after fault → WritesFirst (AllZip Is) bytes fault before after
+  batch_prefix fault wrote =
+      let first = gives_first rem old.input at wrote.first wrote.rest (subst (λ rs. GivesRecords rem old.input rs at) wrote.are gave.gives) in
+      let begun = records_on rem bytes old.input first.0 wrote.first stands.records first.1 stands.begun in
+      let long : length records ≡ length (wrote.first ++ wrote.rest) = ap (λ (rs : List (List Field)). length rs) wrote.are in
       record {
-        records = stands.records ++ on.0;
-        lines = stands.lines ++ tells.lines;
+        records = stands.records ++ wrote.first;
+        lines = stands.lines ++ wrote.lines;
         state = reader_state first.0;
-        rest = on.1.rest;
-        first = on.1.first;
-        few = omega (arith, length-append stands.records on.0, stands.many, on.3, given.counted, given.few, few);
-        too_long = λ is. absurd (late_fault fault tells.late is);
-        are = matched_append (IsAskLineBy grammar words Of schema rows) stands.records on.0 stands.lines tells.lines stands.each
-            (lines_of grammar words Of schema rows on.0 (take tells.count questions) tells.lines on.2 tells.each);
-        out = out_after fault stands.lines tells.lines before now after stands.written tells.out;
-      }
-
--- whatever stands batch_end a batch, the source gave its questions
-pub given_some : {R : Type 0} (rem : R → KnownBytes) (grammar : Grammar) (words : Words) (old new : RecordSource R) (questions : List Question) (read : Result BatchEnd FilesFault)
-    → IfOk read (ReadsBatch rem grammar words old new questions) → IfErr read (StopsInBatch rem grammar words old questions)
-    → (at : Reader R) × (read_so_far : ℕ) × GaveQuestions rem grammar words old questions at read_so_far
-given_some rem grammar words old new questions (Ok More) reads stops = (new.input, new.read_so_far, reads.0)
-given_some rem grammar words old new questions (Ok Bad) reads stops = (reads.0, reads.1, reads.2)
-given_some rem grammar words old new questions (Ok End) reads stops = (reads.0, reads.1, reads.2)
-given_some rem grammar words old new questions (Err fault) reads stops = (stops.at, stops.read_so_far, stops.given)
-
--- unless the text ends batch_end it, the source goes on with more records taken
-pub goes_on : {R : Type 0} (rem : R → KnownBytes) (grammar : Grammar) (words : Words) (old new : RecordSource R) (questions : List Question) (batch_end : BatchEnd)
-    → ReadsBatch rem grammar words old new questions batch_end → (batch_end ≡ More) ⊎ (batch_end ≡ Bad) → (new.end ≡ None) × (old.read_so_far + 1 ≤ new.read_so_far) × (new.read_so_far ≤ max_records)
-goes_on rem grammar words old new questions More reads way = (reads.2, omega (arith, reads.0.counted, reads.1), reads.0.few)
-goes_on rem grammar words old new questions Bad reads way = (reads.3.going, omega (arith, reads.2.counted, reads.3.counted), reads.3.few)
-goes_on rem grammar words old new questions End reads (inl way) = absurd (cc (way))
-goes_on rem grammar words old new questions End reads (inr way) = absurd (cc (way))
-
--- what follows once the lines of a batch were written
-module _ (grammar : Grammar) (words : Words) (Of : NumberTexts) (schema : Declared) (rows : List SourcedRow) {R : Type 0} (rem : R → KnownBytes) (bytes : List ℕ) (old new : RecordSource R)
-    (before now middle : KnownBytes)
-    (stands : HasWritten (IsAskLineBy grammar words Of schema rows) bytes (reader_state old.input) (source_of rem old.input) old.read_so_far before now)
-    (questions : List Question) (tells : WritesAnswers (IsQuestionLine Of schema rows) questions now middle) where
-  -- the record batch_end it asks no question
-  bad_line_of : (fields : List Field) → ((question : Question) → IsQuestion grammar words fields question → ⊥) → IsAskLineBy grammar words Of schema rows fields bad_line
-  bad_line_of fields none = inl (record {
-    none = none;
-    line_is = refl;
-  })
-
-  pub stands_bad : (after : KnownBytes) → ReadsBatch rem grammar words old new questions Bad → Appends middle after bad_line
-      → HasWritten (IsAskLineBy grammar words Of schema rows) bytes (reader_state new.input) (source_of rem new.input) new.read_so_far before after
-  stands_bad after reads written =
-      wrote_more (IsAskLineBy grammar words Of schema rows) rem bytes reads.0 new.input reads.1 reads.2.few before middle
-      (batch_stands grammar words Of schema rows rem bytes old before now middle stands questions reads.0 reads.1 reads.2 tells)
-      reads.3.fields bad_line new.read_so_far after reads.3.read reads.3.counted (bad_line_of reads.3.fields reads.3.none) written
-
-  pub prefix_bad : (after : KnownBytes) (fault : FilesFault) → ReadsBatch rem grammar words old new questions Bad → AreWrittenBefore fault (bad_line ∷ []) middle after
-      → (fault ≡ NoMemory) ⊎ (fault ≡ Write) → WritesFirst (AllZip (IsAskLineBy grammar words Of schema rows)) bytes fault before after
-  prefix_bad after fault reads out late =
-      let stood = batch_stands grammar words Of schema rows rem bytes old before now middle stands questions reads.0 reads.1 reads.2 tells in
-      let fields = reads.3.fields in
-      let begun = first_more rem bytes reads.0 new.input stood.records fields stood.begun reads.3.read in
-      record {
-        records = stood.records ++ fields ∷ [];
-        lines = stood.lines ++ bad_line ∷ [];
-        state = reader_state new.input;
         rest = begun.rest;
         first = begun.first;
-        few = omega (arith, length-append stood.records (fields ∷ []), stood.many, reads.3.counted, reads.3.few);
-        too_long = λ is. absurd (late_fault fault late is);
-        are = matched_append (IsAskLineBy grammar words Of schema rows) stood.records (fields ∷ []) stood.lines (bad_line ∷ []) stood.each
-            (bad_line_of fields reads.3.none, tt);
-        out = out_after fault stood.lines (bad_line ∷ []) before middle after stood.written out;
+        few = omega (arith, length-append stands.records wrote.first, length-append wrote.first wrote.rest, long, stands.many, gave.counted, gave.few);
+        too_long = λ is. absurd (late_fault fault wrote.late is);
+        are = matched_append Is stands.records wrote.first stands.lines wrote.lines stands.each wrote.each;
+        out = out_after fault stands.lines wrote.lines before now after stands.written wrote.out;
       }
 
-  -- no record stands batch_end it
-  pub all_end : ReadsBatch rem grammar words old new questions End → WritesAll (AllZip (IsAskLineBy grammar words Of schema rows)) bytes before middle
-  all_end reads =
-      wrote_all (IsAskLineBy grammar words Of schema rows) rem bytes reads.0 reads.0 reads.1 reads.2.few before middle
-      (batch_stands grammar words Of schema rows rem bytes old before now middle stands questions reads.0 reads.1 reads.2 tells) reads.3
+-- ---- lines that are written one after the other
 
-  -- a fault stands batch_end it
-  pub prefix_stopped : (fault : FilesFault) → StopsInBatch rem grammar words old questions fault
-      → WritesFirst (AllZip (IsAskLineBy grammar words Of schema rows)) bytes fault before middle
-  prefix_stopped fault stops =
-      wrote_part (IsAskLineBy grammar words Of schema rows) rem bytes stops.at stops.at stops.read_so_far stops.given.few before middle
-      (batch_stands grammar words Of schema rows rem bytes old before now middle stands questions stops.at stops.read_so_far stops.given tells) fault stops.too_long
+pub lines_none : (Is : List Field → Bytes → Type 0) (now : KnownBytes) → WritesLines Is [] now now
+lines_none Is now = record { lines = []; each = tt; written = appends-none now }
 
-  -- the next batch is read batch_end it, or batch_end a record that asks no question
-  pub stands_on : (after : KnownBytes) (batch_end : BatchEnd) → ReadsBatch rem grammar words old new questions batch_end
-      → ((batch_end ≡ More) × (after ≡ middle)) ⊎ ((batch_end ≡ Bad) × Appends middle after bad_line)
-      → HasWritten (IsAskLineBy grammar words Of schema rows) bytes (reader_state new.input) (source_of rem new.input) new.read_so_far before after
-  stands_on after More reads (inl way) =
-      subst (HasWritten (IsAskLineBy grammar words Of schema rows) bytes (reader_state new.input) (source_of rem new.input) new.read_so_far before) (sym way.1)
-      (batch_stands grammar words Of schema rows rem bytes old before now middle stands questions new.input new.read_so_far reads.0 tells)
-  stands_on after Bad reads (inr way) = stands_bad after reads way.1
-  stands_on after More reads (inr way) = absurd (cc (way.0))
-  stands_on after Bad reads (inl way) = absurd (cc (way.0))
-  stands_on after End reads (inl way) = absurd (cc (way.0))
-  stands_on after End reads (inr way) = absurd (cc (way.0))
+module _ (Is : List Field → Bytes → Type 0) (before now after : KnownBytes) (records : List (List Field)) (k : ℕ) (fields d : List Field) (within : k < length records)
+    (at : fields ≡ get_or records k d) (wrote : WritesLines Is (take k records) before now) where
+  pub lines_more : WritesLines Is (fields ∷ []) now after → WritesLines Is (take (k + 1) records) before after
+  lines_more one = subst (λ rs. WritesLines Is rs before after) (ap (λ fs. take k records ++ fs ∷ []) at ∙ sym (take_more records k d within)) (record {
+    lines = wrote.lines ++ one.lines;
+    each = matched_append Is (take k records) (fields ∷ []) wrote.lines one.lines wrote.each one.each;
+    written = subst (Appends before after) (sym (concat-append wrote.lines one.lines)) (appends-more before now after (concat wrote.lines) (concat one.lines) wrote.written one.written);
+  })
 
--- ---- the lines of a batch
-
--- the lines of the first questions were written
-pub record WroteFirstAnswers (Is : Question → List ℕ → Type 0) (questions : List Question) (count : ℕ) (before now : KnownBytes) : Type 0 where
-  pub lines : List (List ℕ)
-  pub each : AllZip Is (take count questions) lines
-  pub written : Appends before now (concat lines)
-
-pub written_none : (Is : Question → List ℕ → Type 0) (questions : List Question) (now : KnownBytes) → WroteFirstAnswers Is questions 0 now now
-written_none Is [] now = record { lines = []; each = tt; written = appends-none now }
-written_none Is (question ∷ questions) now = record { lines = []; each = tt; written = appends-none now }
-
-module _ (Is : Question → List ℕ → Type 0) (questions : List Question) (count : ℕ) (before now after : KnownBytes)
-    (answered : WroteFirstAnswers Is questions count before now) where
-  pub written_all : length questions ≤ count → WritesAnswers Is questions before now
-  written_all all = record {
-    lines = answered.lines;
-    each = subst (λ qs. AllZip Is qs answered.lines) (take_all count questions all) answered.each;
-    written = answered.written;
+  pub lines_cut : (fault : FilesFault) → WritesFirstLines Is (fields ∷ []) now after fault → WritesFirstLines Is records before after fault
+  lines_cut fault one = record {
+    first = take k records ++ one.first;
+    rest = one.rest ++ drop (k + 1) records;
+    are = sym (take-append-drop k records) ∙ ap (λ rs. take k records ++ rs) (drop_more records k d within ∙ ap (λ fs. fs ∷ drop (k + 1) records) (sym at)
+        ∙ ap (λ rs. rs ++ drop (k + 1) records) one.are ∙ append_assoc one.first one.rest (drop (k + 1) records))
+        ∙ sym (append_assoc (take k records) one.first (one.rest ++ drop (k + 1) records));
+    lines = wrote.lines ++ one.lines;
+    each = matched_append Is (take k records) one.first wrote.lines one.lines wrote.each one.each;
+    out = out_after fault wrote.lines one.lines before now after wrote.written one.out;
+    late = one.late;
   }
 
-  -- all lines so far stand before a fault of memory
-  pub written_part : (fault : FilesFault) → fault ≡ NoMemory → WritesFirstAnswers Is questions before now fault
-  written_part fault memory = record {
-    count = count;
-    lines = answered.lines;
-    each = answered.each;
-    out = out_all fault answered.lines before now answered.written;
-    late = inl memory;
-  }
+-- a line that was made of the record at a place
+zip_at : {A B : Type 0} (Is : A → B → Type 0) (xs : List A) (ys : List B) (k : ℕ) (d : A) (e : B) → AllZip Is xs ys → k < length ys → Is (get_or xs k d) (get_or ys k e)
+zip_at Is [] [] k d e are within = let no : ⊥ = omega (arith, within) in absurd no
+zip_at Is [] (y ∷ ys) k d e are within = absurd are
+zip_at Is (x ∷ xs) [] k d e are within = absurd are
+zip_at Is (x ∷ xs) (y ∷ ys) zero d e are within = are.0
+zip_at Is (x ∷ xs) (y ∷ ys) (suc k) d e are within = zip_at Is xs ys k d e are.1 (omega (arith, within))
 
-  module _ (question d : Question) (line : List ℕ) (within : count < length questions) (at : question ≡ get_or questions count d) (is : Is question line) where
-    each_more : AllZip Is (take (count + 1) questions) (answered.lines ++ line ∷ [])
-    each_more = subst (λ qs. AllZip Is qs (answered.lines ++ line ∷ [])) (sym (take_more questions count d within))
-        (matched_append Is (take count questions) (get_or questions count d ∷ []) answered.lines (line ∷ []) answered.each (subst (λ q. Is q line) at is, tt))
+pub made_at : {A B : Type 0} (Is : A → B → Type 0) (xs : List A) (ys : List B) (k : ℕ) (x d : A) → x ≡ get_or xs k d → (ys ≡ []) ⊎ AllZip Is xs ys
+    → (made : Option (Bor B)) → IfSome made (λ lent. lent.now ≡ get_or ys k lent.now) → IfSome made (λ lent. k < length ys) → IfSome made (λ lent. Is x lent.now)
+made_at Is xs ys k x d at are None same within = tt
+made_at Is xs ys k x d at (inl none) (Some lent) same within =
+    let long : length ys ≡ 0 = ap (λ zs. length zs) none in let no : ⊥ = omega (arith, within, long) in absurd no
+made_at Is xs ys k x d at (inr are) (Some lent) same within =
+    subst (Is x) (sym same) (subst (λ z. Is z (get_or ys k lent.now)) (sym at) (zip_at Is xs ys k d lent.now are within))
 
-    text_more : concat (answered.lines ++ line ∷ []) ≡ concat answered.lines ++ line
-    text_more = concat-append answered.lines (line ∷ []) ∙ ap (λ last. concat answered.lines ++ last) (append-nil line)
+pub within_of : {B : Type 0} (P : Bor B → Type 0) (made : Option (Bor B)) (k n : ℕ) → MatchOption made (n ≤ k) (λ lent. (k < n) × P lent) → IfSome made (λ lent. k < n)
+within_of P None k n is = tt
+within_of P (Some lent) k n is = is.0
 
-    pub written_more : Appends now after line → WroteFirstAnswers Is questions (count + 1) before after
-    written_more written = record {
-      lines = answered.lines ++ line ∷ [];
-      each = each_more;
-      written = subst (Appends before after) (sym text_more) (appends-more before now after (concat answered.lines) line answered.written written);
-    }
+-- one line, or a first part of it
+module _ (Is : List Field → Bytes → Type 0) (now after : KnownBytes) (fields : List Field) (line : Bytes) (is : Is fields line) where
+  pub line_written : Appends now after line → WritesLines Is (fields ∷ []) now after
+  line_written written = record { lines = line ∷ []; each = (is, tt); written = subst (Appends now after) (sym (append-nil line)) written }
 
-    -- a first prefix of the next line was written
-    pub written_cut : (fault : FilesFault) → fault ≡ Write → AppendsPrefix now after line → WritesFirstAnswers Is questions before after fault
-    written_cut fault failed cut = subst (WritesFirstAnswers Is questions before after) (sym failed) (record {
-      count = count + 1;
-      lines = answered.lines ++ line ∷ [];
-      each = each_more;
-      out = subst (AppendsPrefix before after) (sym text_more) (cut_whole before now after (concat answered.lines) line answered.written cut);
-      late = inr refl;
-    })
+  pub line_cut : (fault : FilesFault) → fault ≡ Write → AppendsPrefix now after line → WritesFirstLines Is (fields ∷ []) now after fault
+  line_cut fault failed cut = subst (WritesFirstLines Is (fields ∷ []) now after) (sym failed) (record {
+    first = fields ∷ [];
+    rest = [];
+    are = refl;
+    lines = line ∷ [];
+    each = (is, tt);
+    out = subst (AppendsPrefix now after) (sym (append-nil line)) cut;
+    late = inr refl;
+  })
 
--- ---- replies
+-- a line that was appended to no bytes
+pub line_alone : (Is : List Field → Bytes → Type 0) (lent fields : List Field) (old new : Bytes) → lent ≡ fields → old ≡ [] → AppendsText (Is lent) old new → Is fields new
+line_alone Is lent fields old new same none appended =
+    subst (λ (fs : List Field). Is fs new) same (subst (Is lent) (sym (appended.written ∙ ap (λ o. o ++ appended.text) none)) appended.is)
 
-pub first_replies : {A B : Type 0} (Is : A → B → Type 0) (questions : List A) (replies : List B) → AllZip Is questions replies → AreFirstReplies Is questions replies
-first_replies Is [] [] all = tt
-first_replies Is [] (reply ∷ replies) all = all
-first_replies Is (question ∷ questions) [] all = tt
-first_replies Is (question ∷ questions) (reply ∷ replies) all = (all.0, first_replies Is questions replies all.1)
+-- no line, for want of memory
+pub no_line : (Is : List Field → Bytes → Type 0) (now : KnownBytes) (records : List (List Field)) (fault : FilesFault) → fault ≡ NoMemory → WritesFirstLines Is records now now fault
+no_line Is now records fault memory = record {
+  first = [];
+  rest = records;
+  are = refl;
+  lines = [];
+  each = tt;
+  out = out_all fault [] now now (appends-none now);
+  late = inl memory;
+}
 
--- a call that gave nothing
-pub left_none : {B : Type 0} (m n : ℕ) (P : B → Type 0) (o : Option B) → MatchOption o ((m ≡ 0) × (n ≡ 0)) P → o ≡ None → n ≡ 0
-left_none m n P None both is = both.1
-left_none m n P (Some x) p is = absurd (cc (is))
+-- ---- what follows of the lines of a batch
 
--- the next reply is that of the next question
-module _ {A B : Type 0} (Is : A → B → Type 0) (questions : List A) (count : ℕ) (question d : A) (within : count < length questions)
-    (at : question ≡ get_or questions count d) (reply : Option B) (replies left : List B) (are : AreFirstReplies Is (drop count questions) replies)
-    (gave : replies ≡ option_to_list reply ++ left) (none : reply ≡ None → length left ≡ 0) where
-  next_here : (rest : List A) (o : Option B) → AreFirstReplies Is (question ∷ rest) replies → replies ≡ option_to_list o ++ left → (o ≡ None → length left ≡ 0)
-      → IfSome o (Is question) × AreFirstReplies Is rest left
-  next_here rest None first gives empty = (tt, subst (AreFirstReplies Is rest) (sym (emptied left (empty refl))) tt)
-  next_here rest (Some reply) first gives empty = subst (AreFirstReplies Is (question ∷ rest)) gives first
+matched_follows : {A B : Type 0} (Is Too : A → B → Type 0) (xs : List A) (ys : List B) → All (λ (x : A). (y : B) → Is x y → Too x y) xs → AllZip Is xs ys → AllZip Too xs ys
+matched_follows Is Too [] [] follows all = tt
+matched_follows Is Too [] (y ∷ ys) follows all = absurd all
+matched_follows Is Too (x ∷ xs) [] follows all = absurd all
+matched_follows {A} {B} Is Too (x ∷ xs) (y ∷ ys) follows all =
+    let Each : A → Type 0 = λ a. (b : B) → Is a b → Too a b in
+    (All-head Each x xs follows y all.0, matched_follows Is Too xs ys (All-tail Each x xs follows) all.1)
 
-  next_both : IfSome reply (Is question) × AreFirstReplies Is (drop (count + 1) questions) left
-  next_both = next_here (drop (count + 1) questions) reply
-      (subst (λ q. AreFirstReplies Is (q ∷ drop (count + 1) questions) replies) (sym at) (subst (λ qs. AreFirstReplies Is qs replies) (drop_more questions count d within) are))
-      gave none
+all_left : {X : Type 0} (P : X → Type 0) (xs ys : List X) → All P (xs ++ ys) → All P xs
+all_left P [] ys are = All-nil P
+all_left P (x ∷ xs) ys are = All-cons P x xs (All-head P x (xs ++ ys) are) (all_left P xs ys (All-tail P x (xs ++ ys) are))
 
-  pub next_reply : IfSome reply (Is question)
-  next_reply = next_both.0
+module _ (Is Too : List Field → Bytes → Type 0) (records : List (List Field)) (before after : KnownBytes)
+    (follows : All (λ (fields : List Field). (line : Bytes) → Is fields line → Too fields line) records) where
+  pub lines_follow : WritesLines Is records before after → WritesLines Too records before after
+  lines_follow wrote = record { lines = wrote.lines; each = matched_follows Is Too records wrote.lines follows wrote.each; written = wrote.written }
 
-  pub next_left : AreFirstReplies Is (drop (count + 1) questions) left
-  next_left = next_both.1
+  pub first_lines_follow : (fault : FilesFault) → WritesFirstLines Is records before after fault → WritesFirstLines Too records before after fault
+  first_lines_follow fault wrote =
+      let Each : List Field → Type 0 = λ fields. (line : Bytes) → Is fields line → Too fields line in
+      record {
+        first = wrote.first;
+        rest = wrote.rest;
+        are = wrote.are;
+        lines = wrote.lines;
+        each = matched_follows Is Too wrote.first wrote.lines (all_left Each wrote.first wrote.rest (subst (All Each) wrote.are follows)) wrote.each;
+        out = wrote.out;
+        late = wrote.late;
+      }

@@ -1,5 +1,5 @@
 pub mod Asking
-mod Batching
+pub mod Batching
 mod Certain
 mod Entries
 mod Listed

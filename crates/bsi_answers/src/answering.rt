@@ -1,38 +1,27 @@
 //! Answers each record of a text by a line (`answer_asks`), behind the lines of the row files (`answer_all`). Threads
 //! answer the questions of a batch if these pass over many rows.
 
-ghost use Rattle.std.specs.Prelude.{◌≡◌, ◌≤◌, ◌∷◌, ◌⊎◌, [], None, IfErr, IfSome, OnOk, length, map, true};
-ghost use Rattle.std.specs.Io.KnownBytes.{Appends};
+ghost use Rattle.std.specs.Prelude.{◌≡◌, ◌≤◌, None, IfErr, IfSome, OnOk, length, map, true};
 ghost use Rattle.std.specs.List.{AllZip};
 ghost use Rattle.csv.specs.Reading.{reader_state, source_of};
 ghost use Rattle.csv.specs.declared.parser.State.TheVariants as st;
-ghost use Rattle.bsi_syntax.specs.Lines.{bad_line};
 ghost use Rattle.bsi_syntax.specs.declared.grammar.Grammar.TheVariants.{Script};
 ghost use Rattle.bsi_rows.specs.Table.{max_feeders};
 ghost use Rattle.bsi_input.specs.Texts.{ForText};
-ghost use Rattle.bsi_aggregates.specs.QuestionReplies.{IsQuestionReply};
-ghost use Rattle.bsi_answers.specs.AskLines.{IsAskLine, IsAskLineBy, IsQuestionLine};
-ghost use Rattle.bsi_answers.specs.Batches.{AreFirstReplies, WritesAnswers, WritesFirstAnswers};
+ghost use Rattle.bsi_answers.specs.AskLines.{IsAskLine, IsAskLineBy};
 ghost use Rattle.bsi_answers.specs.Faults.{may_follow_output};
 ghost use Rattle.bsi_answers.specs.RowFiles.{fed_counts};
 ghost use Rattle.bsi_answers.specs.Runs.{AreLines};
-ghost use Rattle.bsi_answers.specs.Writing.{AreWrittenBefore, WritesAll, WritesFirst};
+ghost use Rattle.bsi_answers.specs.Writing.{WritesAll, WritesFirst};
 
-use crate::batches::{BatchEnd, read_batch};
-use crate::parallel::answer_each;
-use crate::reply_lines::write_reply_line;
-use crate::{Fed, FilesFault, NoMemory, Which, write_fed_lines};
-use bsi_aggregates::{GroupError, QuestionReply, answer};
-use bsi_input::{RecordAwareReader, RecordSource, write_bytes};
-use bsi_rows::{AskError, Question};
-use bsi_syntax::{Grammar, Notation, Vocabulary, write_bad};
+use crate::batches::read_batch;
+use crate::lines::write_answer_lines;
+use crate::{Fed, FilesFault, Which, write_fed_lines};
+use bsi_input::{RecordAwareReader, RecordSource};
+use bsi_syntax::{Grammar, Notation, Vocabulary};
 use bsi_table::Index;
-use csv::ByteRecord;
 use std::io::{Read, Write};
 use std::thread::Threads;
-
-/// From so many rows on, counted once for each question, threads save more time than they take to start.
-const MANY_ROWS: u64 = 1 << 23;
 
 /// Writes a line for each feeder, and then a line for each record of the text: the answer to its question over the rows
 /// of the table, or that it is bad.
@@ -81,7 +70,7 @@ pub fn answer_plain_asks<R: Threads + AllocGlobal + Sync, A: Read + Drop, W: Wri
 /// mean and how answers write the numbers of columns.
 pub fn answer_asks<
     R: Threads + AllocGlobal + Sync,
-    V: Vocabulary + Notation,
+    V: Vocabulary + Notation + Sync,
     A: Read + Drop,
     W: Write,
 >(
@@ -107,7 +96,7 @@ pub fn answer_asks<
 /// Writes a line for each record of a text of which no record was read.
 fn answer_batches<
     R: Threads + AllocGlobal + Sync,
-    V: Vocabulary + Notation,
+    V: Vocabulary + Notation + Sync,
     A: Read + Drop,
     W: Write,
 >(
@@ -129,127 +118,16 @@ fn answer_batches<
         (V.number_texts vocabulary.now) table.now.schema table.now.rows)) bytes fault
         (W.contents writer.old) (W.contents writer.new))) }
 {
-    let mut fields = ByteRecord::new(rt.alloc());
-    let mut questions = Vec::new(rt.alloc());
+    let mut batch = Vec::new(rt.alloc());
     let mut line = Vec::new(rt.alloc());
     // No text has so many records. The bound lets the proof see that the loop ends.
     'batches: for _ in 0..u64::MAX {
-        let batch_end = read_batch(
-            rt.alloc(),
-            vocabulary,
-            grammar,
-            records,
-            &mut fields,
-            &mut questions,
-        );
-        answer_batch(rt, table, vocabulary, &questions, &mut line, writer)?;
-        match batch_end? {
-            BatchEnd::More => {}
-            BatchEnd::Bad => write_bad_line(&mut line, writer)?,
-            BatchEnd::End => return Ok(()),
+        let more = read_batch(rt.alloc(), records, &mut batch);
+        write_answer_lines(rt, table, vocabulary, grammar, &batch, &mut line, writer)?;
+        if !more? {
+            return Ok(());
         }
     }
     // No text has so many records, so the loop has returned.
     Err(FilesFault::TooLong(Which::AsksFile))
-}
-
-/// Writes the line of the answer to each question, in their order.
-fn answer_batch<R: Threads + AllocGlobal + Sync, N: Notation, W: Write>(
-    rt: &R,
-    table: &Index,
-    notation: &N,
-    questions: &[Question],
-    line: &mut Vec<u8>,
-    writer: &mut W,
-) -> Result<(), FilesFault>
-    ensures ok { OnOk result (WritesAnswers (IsQuestionLine (N.number_texts notation.now) table.now.schema
-        table.now.rows) questions.now (W.contents writer.old) (W.contents writer.new)) }
-    ensures prefix { IfErr result (WritesFirstAnswers (IsQuestionLine (N.number_texts notation.now)
-        table.now.schema table.now.rows) questions.now (W.contents writer.old) (W.contents writer.new)) }
-{
-    let mut replies = answer_together(rt, table, questions).into_iter();
-    'questions: for question in questions {
-        make_answer_line(rt, table, notation, question, replies.next(), line)?;
-        write_bytes(writer, line.as_slice())?;
-    }
-    Ok(())
-}
-
-/// Answers several questions on several threads if they pass over many rows. Otherwise, or if memory is refused, there
-/// are no replies.
-fn answer_together<R: Threads + AllocGlobal + Sync>(
-    rt: &R,
-    table: &Index,
-    questions: &[Question],
-) -> Vec<QuestionReply>
-    ensures { AreFirstReplies (IsQuestionReply table.now.schema table.now.rows) questions.now
-        result.items }
-{
-    let rows = table.len().saturating_mul(questions.len() as u64);
-    if questions.len() < 2 || rows < MANY_ROWS {
-        return Vec::new(rt.alloc());
-    }
-    match answer_each(rt, rt.alloc(), table, questions) {
-        Ok(replies) => replies,
-        Err(_) => Vec::new(rt.alloc()),
-    }
-}
-
-/// Makes `line` the line of the answer to a question, which may have a reply already.
-fn make_answer_line<R: AllocGlobal, N: Notation>(
-    rt: &R,
-    table: &Index,
-    notation: &N,
-    question: &Question,
-    reply: Option<QuestionReply>,
-    line: &mut Vec<u8>,
-) -> Result<(), NoMemory>
-    requires { IfSome reply (IsQuestionReply table.now.schema table.now.rows question.now) }
-    ensures { OnOk result (IsQuestionLine (N.number_texts notation.now) table.now.schema table.now.rows
-        question.now line.new.items) }
-{
-    line.clear();
-    let reply = reply_to(rt, table, question, reply);
-    write_reply_line(question, reply, table, notation, line)
-}
-
-/// Returns the reply to a question that has one already, and answers the others. One that found no memory beside others
-/// may find it alone.
-fn reply_to<R: AllocGlobal>(
-    rt: &R,
-    table: &Index,
-    question: &Question,
-    reply: Option<QuestionReply>,
-) -> QuestionReply
-    requires { IfSome reply (IsQuestionReply table.now.schema table.now.rows question.now) }
-    ensures { IsQuestionReply table.now.schema table.now.rows question.now result }
-{
-    match reply {
-        Some(reply) if !found_no_memory(&reply) => reply,
-        _ => answer(rt.alloc(), table, question),
-    }
-}
-
-/// Returns whether memory was refused to a reply.
-pub(crate) fn found_no_memory(reply: &QuestionReply) -> bool {
-    matches!(
-        reply,
-        QuestionReply::Total(Err(AskError::NoMemory))
-            | QuestionReply::Groups(Err(GroupError::NoMemory))
-            | QuestionReply::Top(Err(AskError::NoMemory))
-            | QuestionReply::Distinct(Err(AskError::NoMemory))
-            | QuestionReply::Quantile(Err(AskError::NoMemory))
-    )
-}
-
-/// Writes the line of a record that asks nothing.
-fn write_bad_line<W: Write>(line: &mut Vec<u8>, writer: &mut W) -> Result<(), FilesFault>
-    ensures ok { OnOk result (Appends (W.contents writer.old) (W.contents writer.new) bad_line) }
-    ensures prefix { IfErr result (λ fault. AreWrittenBefore fault (bad_line ∷ []) (W.contents writer.old) (W.contents writer.new)) }
-    ensures fault { IfErr result (λ fault. (fault ≡ FilesFault.NoMemory) ⊎ (fault ≡ FilesFault.Write)) }
-{
-    line.clear();
-    write_bad(line)?;
-    write_bytes(writer, line.as_slice())?;
-    Ok(())
 }

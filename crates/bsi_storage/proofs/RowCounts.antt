@@ -24,7 +24,7 @@ module _ (schema : Declared) (feeders : ℕ) (rows : List SourcedRow) (are : Are
   column_long : (c : ℕ) → c < length schema.columns → length (flat_map packed (bitmaps_of schema rows c)) ≡ bitmap_count (column_at schema.columns c).form * word_count (length rows)
   column_long c within = words_long (column_at schema.columns c) (column_of rows c) (length rows) (column_entries schema rows feeders (length rows) c are refl within).many
 
-  length-columns_words : (c : ℕ) → c ≤ length schema.columns → length (columns_words schema rows 0 c) ≡ bitmaps_in (take c schema.columns) * word_count (length rows)
+  pub length-columns_words : (c : ℕ) → c ≤ length schema.columns → length (columns_words schema rows 0 c) ≡ bitmaps_in (take c schema.columns) * word_count (length rows)
   length-columns_words zero within = (let none : 0 * word_count (length rows) ≡ 0 = omega arith in sym none)
   length-columns_words (suc c) within =
       let f : ℕ → List ℕ = λ k. flat_map packed (bitmaps_of schema rows k) in
@@ -39,7 +39,7 @@ module _ (schema : Declared) (feeders : ℕ) (rows : List SourcedRow) (are : Are
       ap (λ m. m * word_count (length rows)) sums ∙ omega arith in
       omega (arith, product, before, here, ap (λ (ws : List ℕ). length ws) split, length-append (flat_map f (range_with_len 0 c)) (f c))
 
-  length-feeder_words : length (feeder_words feeders (feeders_of rows)) ≡ feeder_word_count feeders (length rows)
+  pub length-feeder_words : length (feeder_words feeders (feeders_of rows)) ≡ feeder_word_count feeders (length rows)
   length-feeder_words = by (nat_eq feeders 1)
     where
       by : (one : Bool) → length (if one then [] else packed_bytes (feeders_of rows)) ≡ (if one then 0 else div_ceil (length rows) 8)

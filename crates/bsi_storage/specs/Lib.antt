@@ -1,3 +1,6 @@
+pub mod Choices
+pub mod ChosenColumns
+pub mod ChosenFiles
 pub mod Decoding
 pub mod Faults
 pub mod Heads

@@ -204,7 +204,7 @@ fn decode_column<'a>(
 }
 
 /// Makes the list of the feeders of so many rows whose words these are, or none if they are those of no such feeders.
-fn decode_origins(
+pub(crate) fn decode_origins(
     alloc: Global,
     feeders: u32,
     rows: u64,
@@ -219,6 +219,7 @@ fn decode_origins(
     ensures none { IfOk result (λ decoded. IfNone decoded ((row_feeders : List ℕ) →
         All (λ feeder. feeder < feeders) row_feeders → length row_feeders ≡ rows →
         words.now ≡ feeder_words feeders row_feeders → ⊥)) }
+    ensures fit { AreWords words.now }
 {
     if feeders == 1 {
         if !words.is_empty() {

@@ -162,7 +162,7 @@ pub(crate) fn count_row_words(schema: &Schema, sizes: Sizes) -> u64
 }
 
 /// Returns how many words the feeders of the rows of a segment have.
-fn count_feeder_words(sizes: Sizes) -> u64
+pub(crate) fn count_feeder_words(sizes: Sizes) -> u64
     requires { AreSizes sizes.rows sizes.feeders sizes.limit }
     ensures count { result ≡ feeder_word_count sizes.feeders sizes.rows }
     ensures within { result ≤ 2 ^ 29 }
@@ -175,7 +175,7 @@ fn count_feeder_words(sizes: Sizes) -> u64
 }
 
 /// Returns how many bitmaps all columns of a schema have.
-fn count_all_bitmaps(schema: &Schema) -> u64
+pub(crate) fn count_all_bitmaps(schema: &Schema) -> u64
     requires { IsDeclared schema.now }
     ensures count { result ≡ bitmaps_in schema.now.columns }
     ensures within { result ≤ 2 ^ 17 }

@@ -98,7 +98,7 @@ fn encode_column<'a>(
 }
 
 /// Returns the words of the zone of a column.
-fn find_zone(column: &Shifted) -> Result<[u64; 3], NoMemory>
+pub(crate) fn find_zone(column: &Shifted) -> Result<[u64; 3], NoMemory>
     ensures { IfOk result (λ words. words ≡ zone_words (numbers_of (shifted_entries column.now))) }
 {
     let rows = column.not_null();

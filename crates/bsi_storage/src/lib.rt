@@ -1,19 +1,25 @@
 //! An index in a file: written, added to and opened.
 #![tactic(auto)]
 
+mod chosen;
+mod chosen_schema;
 mod columns;
 mod decoding;
 mod fault;
+mod file_heads;
 mod fronts;
 mod heads;
 mod laws;
 mod opening;
 mod rows;
+mod said;
+mod segment_head;
 mod writing;
 
 pub use bsi_segments::{Version, may_begin};
 pub use bsi_table::NoMemory;
 pub use fault::{OpenFault, SaveFault};
+pub use file_heads::{FileHeads, read_heads};
 pub use laws::{
     a_cut_file_has_whole_segments, a_cut_segment_is_not_opened, a_file_has_one_table,
     a_further_segment_adds_rows, a_saved_table_is_opened,

@@ -1,4 +1,5 @@
 mod Failing
+mod LeftAnswers
 mod Named
 mod Notes
 mod SaidKinds

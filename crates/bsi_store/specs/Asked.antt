@@ -11,14 +11,16 @@ use Rattle.std.specs.List.{AllZip}
 use Rattle.bsi_answers.specs.Writing.{WritesAll, WritesFirst}
 use Rattle.bsi_store.specs.declared.fault.StoreFault.{StoreFault}
 use Rattle.bsi_store.specs.declared.fault.StoreFault.TheVariants.{Run}
-use Rattle.bsi_answers.specs.declared.faults.FilesFault.TheVariants.{Write}
+use Rattle.bsi_answers.specs.declared.faults.FilesFault.{FilesFault}
+use Rattle.bsi_answers.specs.declared.faults.FilesFault.TheVariants.{NoMemory, Write}
+use Rattle.bsi_storage.specs.ChosenFiles.{KeepsTable}
 use Rattle.bsi_storage.specs.Faults.{IsOpened}
 use Rattle.bsi_storage.specs.declared.fault.OpenFault.{OpenFault}
-use Rattle.bsi_storage.specs.declared.fault.OpenFault.TheVariants.{Read, NoMemory}
+use Rattle.bsi_storage.specs.declared.fault.OpenFault.TheVariants as opening
 
 -- A fault of the file's bytes: neither the reader failed nor was memory refused.
 abbrev pub IsAboutBytes : OpenFault → Type 0
-IsAboutBytes fault = (fault ≢ Read) × (fault ≢ NoMemory)
+IsAboutBytes fault = (fault ≢ opening.Read) × (fault ≢ opening.NoMemory)
 
 -- The table was opened from a file.
 pub record IsSavedIn {S : Type 0} (rem : S → KnownBytes) (so_far : Bool) (t : Table) : Type 0 where
@@ -46,20 +48,60 @@ pub record IsOpenedAs {S : Type 0} (rem : S → KnownBytes) (so_far : Bool) (tab
   pub saved : IsSavedIn rem so_far table
   pub says : SaysSchema saved.kinds table schema
 
--- A saved index was opened, and the answers to the questions of a text over its rows were written to the output.
-pub record HasAsked {S : Type 0} (rem : S → KnownBytes) (so_far : Bool) (asks before after : KnownBytes)
+-- A saved index was opened as a whole, and the answers to the questions of a text over its rows were written to the
+-- output.
+pub record HasAskedWhole {S : Type 0} (rem : S → KnownBytes) (so_far : Bool) (asks before after : KnownBytes)
     : Type 0 where
   pub table : Table
   pub schema : TableSchema
   pub opened : IsOpenedAs rem so_far table schema
   pub answered : IfSome asks (λ asked. WritesAll (AllZip (IsAnswer schema table)) asked before after)
 
--- What a fault leaves of the answers: nothing, or the first lines of the answers over a saved table.
-abbrev pub LeavesAnswers : {S : Type 0} → (S → KnownBytes) → Bool → KnownBytes → KnownBytes → KnownBytes → StoreFault → Type 0
-LeavesAnswers rem so_far asks before after (Run fault) =
+-- The heads of a file were read, and a schema of its columns: that of each table that the bytes of the file keep.
+pub record HasNamed {S : Type 0} (rem : S → KnownBytes) (file : S) (schema : TableSchema) : Type 0 where
+  pub says : (t : Table) → (notes kinds : Bytes) → KeepsTable (rem file) t notes kinds → SaysSchema kinds t schema
+
+-- Of a file, the columns were read that questions name. Where its bytes keep a table, the answers over all rows of that
+-- table were written to the output.
+pub record HasAskedNamed {S : Type 0} (rem : S → KnownBytes) (asks before after : KnownBytes) : Type 0 where
+  pub file : S
+  pub schema : TableSchema
+  pub named : HasNamed rem file schema
+  pub answered : (t : Table) → (notes kinds : Bytes) → KeepsTable (rem file) t notes kinds
+      → IfSome asks (λ asked. WritesAll (AllZip (IsAnswer schema t)) asked before after)
+
+-- The same up to a fault: the first lines of these answers were written.
+pub record HasAskedFirst {S : Type 0} (rem : S → KnownBytes) (asks : KnownBytes) (fault : FilesFault) (before after : KnownBytes) : Type 0 where
+  pub file : S
+  pub schema : TableSchema
+  pub named : HasNamed rem file schema
+  pub answered : (t : Table) → (notes kinds : Bytes) → KeepsTable (rem file) t notes kinds
+      → IfSome asks (λ asked. WritesFirst (AllZip (IsAnswer schema t)) asked fault before after)
+
+-- The questions of a text were answered over a saved index, which was opened as a whole. Or, where all of it is asked,
+-- only the columns were read that the questions name.
+abbrev pub HasAsked : {S : Type 0} → (S → KnownBytes) → Bool → KnownBytes → KnownBytes → KnownBytes → Type 0
+HasAsked rem so_far asks before after =
+    HasAskedWhole rem so_far asks before after ⊎ ((so_far ≡ false) × HasAskedNamed rem asks before after)
+
+-- What a fault leaves of answers over the columns that questions name: the first lines. Where the columns could not be
+-- read, these are whole.
+abbrev pub LeavesNamed : {S : Type 0} → (S → KnownBytes) → Bool → KnownBytes → KnownBytes → KnownBytes → StoreFault → Type 0
+LeavesNamed rem so_far asks before after (Run fault) =
+    (so_far ≡ false) × (HasAskedFirst rem asks fault before after ⊎ HasAskedFirst rem asks NoMemory before after)
+LeavesNamed rem so_far asks before after fault = (so_far ≡ false) × HasAskedFirst rem asks NoMemory before after
+
+-- What a fault leaves of answers over an index that is opened as a whole: nothing, or the first lines.
+abbrev pub LeavesWhole : {S : Type 0} → (S → KnownBytes) → Bool → KnownBytes → KnownBytes → KnownBytes → StoreFault → Type 0
+LeavesWhole rem so_far asks before after (Run fault) =
     (after ≡ before) ⊎ ((table : Table) × (schema : TableSchema) × IsOpenedAs rem so_far table schema
     × IfSome asks (λ asked. WritesFirst (AllZip (IsAnswer schema table)) asked fault before after))
-LeavesAnswers rem so_far asks before after fault = after ≡ before
+LeavesWhole rem so_far asks before after fault = after ≡ before
+
+-- What a fault leaves of the answers.
+abbrev pub LeavesAnswers : {S : Type 0} → (S → KnownBytes) → Bool → KnownBytes → KnownBytes → KnownBytes → StoreFault → Type 0
+LeavesAnswers rem so_far asks before after fault =
+    LeavesWhole rem so_far asks before after fault ⊎ LeavesNamed rem so_far asks before after fault
 
 -- The description of a saved table was written to the output.
 pub record HasShown {S : Type 0} (rem : S → KnownBytes) (before after : KnownBytes) : Type 0 where

@@ -5,6 +5,7 @@ mod add;
 mod add_file;
 mod ask;
 mod fault;
+mod heads;
 mod lines;
 mod lock;
 mod new_file;

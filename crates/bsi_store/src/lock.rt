@@ -1,11 +1,15 @@
-//! The lock on a file: one command writes it, and then none reads it.
+//! The lock on a file: one command writes it, and then none reads it. A locked file may be read at places (`PlacedFile`).
 
+ghost use Rattle.std.specs.Io.{ReadsAtMost};
+ghost use Rattle.bsi_places.specs.Places.{ReadsFrom};
+
+use bsi_places::ReadAt;
 use std::fs::{File, TryLockError};
 use std::io;
-use std::io::Seek;
+use std::io::{Read, Seek};
 
-/// A file that can be locked, and read anew. A lock ends where the file is dropped, or the program ends.
-pub trait LockFile: Seek {
+/// A file that can be locked, read anew, and read at places. A lock ends where the file is dropped, or the program ends.
+pub trait LockFile: Seek + Read {
     /// Locks the file for one writer. It returns false where another command has a lock.
     fn try_lock_exclusive(&self) -> io::Result<bool>;
 
@@ -17,6 +21,12 @@ pub trait LockFile: Seek {
 
     /// Ends the lock.
     fn unlock(&self) -> io::Result<()>;
+
+    /// Reads some of the bytes from place `at` on of a file of which none was read, and returns how many: none only if no
+    /// more stand there, or if there is no room for one. It fails for a file that has no places, as a pipe.
+    fn read_place(&self, bytes: &mut [u8], at: u64) -> io::Result<usize>
+        ensures bound { ReadsAtMost result bytes.new }
+        ensures bytes { ReadsFrom (Self.remaining self.now) at result bytes.new };
 }
 
 impl LockFile for File {
@@ -34,6 +44,24 @@ impl LockFile for File {
 
     fn unlock(&self) -> io::Result<()> {
         File::unlock(self)
+    }
+
+    fn read_place(&self, bytes: &mut [u8], at: u64) -> io::Result<usize> {
+        ReadAt::read_at(self, bytes, at)
+    }
+}
+
+/// A file that is read at places.
+#[derive(Drop)]
+pub(crate) struct PlacedFile<'a, S> {
+    pub(crate) file: &'a S,
+}
+
+impl<S: LockFile> ReadAt for PlacedFile<'_, S> {
+    ghost all_bytes = { λ placed. S.remaining placed.file.now };
+
+    fn read_at(&self, bytes: &mut [u8], at: u64) -> io::Result<usize> {
+        self.file.read_place(bytes, at)
     }
 }
 

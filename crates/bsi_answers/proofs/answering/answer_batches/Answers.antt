@@ -1,17 +1,12 @@
-use Rattle.std.proofs.Common.{◌≡◌, ◌∷◌, [], List, ap, arith, inl, inr, rules, sym, subst}
-use Rattle.std.specs.Prelude.{◌⊎◌, IfErr}
-use Rattle.std.specs.Io.KnownBytes.{Appends}
-use Rattle.bsi_syntax.specs.Lines.{bad_line}
-use Rattle.bsi_answers.proofs.Asking.{wrote_none}
-use Rattle.bsi_answers.proofs.Passing.{if_err, if_err_both}
-use Rattle.bsi_answers.specs.Writing.{AreWrittenBefore}
-use Rattle.bsi_answers.specs.declared.faults.FilesFault.TheVariants.{NoMemory, Write}
-use Rattle.bsi_rows.specs.declared.question.Question.{Question}
-use Rattle.bsi_answers.specs.AskLines.{IsQuestionLine}
-use Rattle.bsi_answers.specs.Batches.{ReadsBatch, StopsInBatch, WritesAnswers, WritesFirstAnswers}
-use Rattle.bsi_answers.specs.declared.batches.BatchEnd.TheVariants.{Bad, End, More}
-use Rattle.bsi_answers.proofs.Batching.{all_end, batch_prefix, given_some, goes_on, prefix_bad, prefix_stopped, stands_on}
-use Rattle.bsi_answers.proofs.answering.answer_batches.Goals.{in-Bad+in_ok-write_bad_line-in-Bad, in-More}
+use Rattle.std.proofs.Common.{List, ℕ, arith, map, rules, subst, true, false}
+use Rattle.std.specs.Prelude.{IfErr}
+use Rattle.csv.specs.Records.{fields_of}
+use Rattle.bsi_rows.specs.Fields.{Field}
+use Rattle.bsi_answers.proofs.Asking.{wrote_all, wrote_none, wrote_part}
+use Rattle.bsi_answers.proofs.Passing.{if_err}
+use Rattle.bsi_answers.specs.AskLines.{IsAskLineBy}
+use Rattle.bsi_answers.specs.Batches.{ReadsBatch, StopsInBatch, WritesFirstLines, WritesLines}
+use Rattle.bsi_answers.proofs.Batching.{batch_prefix, batch_stands, gave_some}
 use Rattle.bsi_answers.proofs.answering.answer_batches.Goals as goal
 
 pub batches-init : goal.batches-init
@@ -22,112 +17,64 @@ batches-init g c = record {
   stands = λ bytes left. wrote_none _ bytes _ _ _ _ c.requires.start c.requires.fresh.0 left;
 }
 
--- lines of a first prefix of the batch were written
-pub returns-in_err-answer_batch-clause-prefix : goal.returns-in_err-answer_batch-clause-prefix
-returns-in_err-answer_batch-clause-prefix g c =
-    let grammar = c.args.grammar in
-    let words = g.V.Vocabulary.words c.args.vocabulary.now in
-    let Of = g.V.Notation.number_texts c.args.vocabulary.now in
-    let schema = c.args.table.now.schema in
-    let rows = c.args.table.now.rows in
-    let questions = c.read_batch-batch_end.new.questions.items in
+-- lines of first records of the batch were written
+pub returns-in_err-write_answer_lines-clause-prefix : goal.returns-in_err-write_answer_lines-clause-prefix
+returns-in_err-write_answer_lines-clause-prefix g c =
+    let Is : List Field → List ℕ → Type 0 =
+    IsAskLineBy c.args.grammar (g.V.Vocabulary.words c.args.vocabulary.now) (g.V.Notation.number_texts c.args.vocabulary.now) c.args.table.now.schema c.args.table.now.rows in
+    let batch = c.read_batch-more.new.batch.items in
     let now = g.W.Write.contents c.batches.writer in
-    let after = g.W.Write.contents c.answer_batch.new.writer in
-    let given = given_some (λ w. g.A.Read.remaining w.inner) grammar words c.batches.records c.read_batch-batch_end.new.records questions
-    c.read_batch-batch_end.result c.read_batch-batch_end.ensures.reads c.read_batch-batch_end.ensures.stopped in
-    let tells : IfErr c.from_residual.result (WritesFirstAnswers (IsQuestionLine Of schema rows) c.deref.result.now now after) = search rules in
-    if_err c.from_residual.result (λ fault answered bytes left. batch_prefix grammar words Of schema rows (λ w. g.A.Read.remaining w.inner) bytes c.batches.records
-    (g.W.Write.contents c.args.writer.now) now after (c.batches.invariant.stands bytes left) questions given.0 given.1
-    given.2 fault
-    (subst (λ (qs : List Question). WritesFirstAnswers (IsQuestionLine Of schema rows) qs now after fault) c.deref.ensures.value answered)) tells
+    let after = g.W.Write.contents c.write_answer_lines.new.writer in
+    let gave = gave_some (λ w. g.A.Read.remaining w.inner) c.batches.records c.read_batch-more.new.records (map fields_of batch) c.read_batch-more.result c.read_batch-more.ensures.reads
+    c.read_batch-more.ensures.stopped in
+    let wrote : IfErr c.from_residual.result (WritesFirstLines Is (map fields_of c.deref.result.now) now after) = search rules in
+    if_err c.from_residual.result (λ fault wrote bytes left. batch_prefix Is (λ w. g.A.Read.remaining w.inner) bytes c.batches.records (g.W.Write.contents c.args.writer.now) now after
+    (c.batches.invariant.stands bytes left) (map fields_of batch) gave.0 gave.1 gave.2 fault
+    (subst (λ items. WritesFirstLines Is (map fields_of items) now after fault) c.deref.ensures.value wrote)) wrote
 
 -- all of them were, and then a fault was met
-pub returns-in_err-batch_end-clause-prefix : goal.returns-in_err-batch_end-clause-prefix
-returns-in_err-batch_end-clause-prefix g c =
-    let grammar = c.args.grammar in
-    let words = g.V.Vocabulary.words c.args.vocabulary.now in
-    let Of = g.V.Notation.number_texts c.args.vocabulary.now in
-    let schema = c.args.table.now.schema in
-    let rows = c.args.table.now.rows in
-    let questions = c.read_batch-batch_end.new.questions.items in
+pub returns-in_err-more-clause-prefix : goal.returns-in_err-more-clause-prefix
+returns-in_err-more-clause-prefix g c =
+    let Is : List Field → List ℕ → Type 0 =
+    IsAskLineBy c.args.grammar (g.V.Vocabulary.words c.args.vocabulary.now) (g.V.Notation.number_texts c.args.vocabulary.now) c.args.table.now.schema c.args.table.now.rows in
+    let records = map fields_of c.read_batch-more.new.batch.items in
+    let before = g.W.Write.contents c.args.writer.now in
     let now = g.W.Write.contents c.batches.writer in
-    let after = g.W.Write.contents c.answer_batch.new.writer in
-    let answered : WritesAnswers (IsQuestionLine Of schema rows) questions now after =
-    subst (λ (qs : List Question). WritesAnswers (IsQuestionLine Of schema rows) qs now after) c.deref.ensures.value c.in_ok-answer_batch.ensures.ok in
-    let stops : IfErr c.from_residual-in_err-batch_end.result (StopsInBatch (λ w. g.A.Read.remaining w.inner) grammar words c.batches.records questions) =
-    search rules in
-    if_err c.from_residual-in_err-batch_end.result (λ fault stopped bytes left. prefix_stopped grammar words Of schema rows (λ w. g.A.Read.remaining w.inner) bytes c.batches.records
-    c.read_batch-batch_end.new.records (g.W.Write.contents c.args.writer.now) now after (c.batches.invariant.stands bytes left) questions answered fault
-    stopped) stops
+    let after = g.W.Write.contents c.write_answer_lines.new.writer in
+    let wrote : WritesLines Is records now after = subst (λ items. WritesLines Is (map fields_of items) now after) c.deref.ensures.value c.in_ok-write_answer_lines.ensures.ok in
+    let stops : IfErr c.from_residual-in_err-more.result (StopsInBatch (λ w. g.A.Read.remaining w.inner) c.batches.records records) = search rules in
+    if_err c.from_residual-in_err-more.result (λ fault stopped bytes left. wrote_part Is (λ w. g.A.Read.remaining w.inner) bytes stopped.at stopped.at stopped.read_so_far stopped.gave.few before after
+    (batch_stands Is (λ w. g.A.Read.remaining w.inner) bytes c.batches.records before now after (c.batches.invariant.stands bytes left) records stopped.at stopped.read_so_far stopped.gave wrote)
+    fault stopped.too_long) stops
 
--- the record batch_end them asks no question, and a first prefix of its line was written
-pub returns-in_err-write_bad_line-in-Bad-clause-prefix : goal.returns-in_err-write_bad_line-in-Bad-clause-prefix
-returns-in_err-write_bad_line-in-Bad-clause-prefix g c =
-    let grammar = c.args.grammar in
-    let words = g.V.Vocabulary.words c.args.vocabulary.now in
-    let Of = g.V.Notation.number_texts c.args.vocabulary.now in
-    let schema = c.args.table.now.schema in
-    let rows = c.args.table.now.rows in
-    let questions = c.read_batch-batch_end.new.questions.items in
+-- no record is left
+pub returns-then-not-branch-clause-ok : goal.returns-then-not-branch-clause-ok
+returns-then-not-branch-clause-ok g c = λ bytes left.
+    let Is : List Field → List ℕ → Type 0 =
+    IsAskLineBy c.args.grammar (g.V.Vocabulary.words c.args.vocabulary.now) (g.V.Notation.number_texts c.args.vocabulary.now) c.args.table.now.schema c.args.table.now.rows in
+    let records = map fields_of c.read_batch-more.new.batch.items in
+    let before = g.W.Write.contents c.args.writer.now in
     let now = g.W.Write.contents c.batches.writer in
-    let middle = g.W.Write.contents c.answer_batch.new.writer in
-    let after = g.W.Write.contents c.write_bad_line.new.writer in
-    let answered : WritesAnswers (IsQuestionLine Of schema rows) questions now middle =
-    subst (λ (qs : List Question). WritesAnswers (IsQuestionLine Of schema rows) qs now middle) c.deref.ensures.value c.in_ok-answer_batch.ensures.ok in
-    let reads : ReadsBatch (λ w. g.A.Read.remaining w.inner) grammar words c.batches.records c.read_batch-batch_end.new.records questions Bad =
-    subst (ReadsBatch (λ w. g.A.Read.remaining w.inner) grammar words c.batches.records c.read_batch-batch_end.new.records questions) c.in-Bad.is
-    c.in_ok-batch_end.ensures.reads in
-    let out : IfErr c.from_residual-in_err-write_bad_line-in-Bad.result (λ fault. AreWrittenBefore fault (bad_line ∷ []) middle after) = search rules in
-    let late : IfErr c.from_residual-in_err-write_bad_line-in-Bad.result (λ fault. (fault ≡ NoMemory) ⊎ (fault ≡ Write)) = search rules in
-    if_err_both c.from_residual-in_err-write_bad_line-in-Bad.result
-    (λ fault out late bytes left. prefix_bad grammar words Of schema rows (λ w. g.A.Read.remaining w.inner) bytes c.batches.records c.read_batch-batch_end.new.records
-    (g.W.Write.contents c.args.writer.now) now middle (c.batches.invariant.stands bytes left) questions answered after fault reads out late) out late
-
-pub returns-in-End-clause-ok : goal.returns-in-End-clause-ok
-returns-in-End-clause-ok g c = λ bytes left.
-    let grammar = c.args.grammar in
-    let words = g.V.Vocabulary.words c.args.vocabulary.now in
-    let Of = g.V.Notation.number_texts c.args.vocabulary.now in
-    let schema = c.args.table.now.schema in
-    let rows = c.args.table.now.rows in
-    let questions = c.read_batch-batch_end.new.questions.items in
-    let now = g.W.Write.contents c.batches.writer in
-    let middle = g.W.Write.contents c.answer_batch.new.writer in
-    let answered : WritesAnswers (IsQuestionLine Of schema rows) questions now middle =
-    subst (λ (qs : List Question). WritesAnswers (IsQuestionLine Of schema rows) qs now middle) c.deref.ensures.value c.in_ok-answer_batch.ensures.ok in
-    let reads : ReadsBatch (λ w. g.A.Read.remaining w.inner) grammar words c.batches.records c.read_batch-batch_end.new.records questions End =
-    subst (ReadsBatch (λ w. g.A.Read.remaining w.inner) grammar words c.batches.records c.read_batch-batch_end.new.records questions) c.in-End.is
-    c.in_ok-batch_end.ensures.reads in
-    all_end grammar words Of schema rows (λ w. g.A.Read.remaining w.inner) bytes c.batches.records c.read_batch-batch_end.new.records (g.W.Write.contents c.args.writer.now) now middle
-    (c.batches.invariant.stands bytes left) questions answered reads
+    let after = g.W.Write.contents c.write_answer_lines.new.writer in
+    let wrote : WritesLines Is records now after = subst (λ items. WritesLines Is (map fields_of items) now after) c.deref.ensures.value c.in_ok-write_answer_lines.ensures.ok in
+    let reads : ReadsBatch (λ w. g.A.Read.remaining w.inner) c.batches.records c.read_batch-more.new.records records false = search rules in
+    wrote_all Is (λ w. g.A.Read.remaining w.inner) bytes reads.0 reads.0 reads.1 reads.2.few before after
+    (batch_stands Is (λ w. g.A.Read.remaining w.inner) bytes c.batches.records before now after (c.batches.invariant.stands bytes left) records reads.0 reads.1 reads.2 wrote) reads.3
 
 pub batches-preserved : goal.batches-preserved
 batches-preserved g c =
-    let grammar = c.args.grammar in
-    let words = g.V.Vocabulary.words c.args.vocabulary.now in
-    let Of = g.V.Notation.number_texts c.args.vocabulary.now in
-    let schema = c.args.table.now.schema in
-    let rows = c.args.table.now.rows in
-    let questions = c.read_batch-batch_end.new.questions.items in
+    let Is : List Field → List ℕ → Type 0 =
+    IsAskLineBy c.args.grammar (g.V.Vocabulary.words c.args.vocabulary.now) (g.V.Notation.number_texts c.args.vocabulary.now) c.args.table.now.schema c.args.table.now.rows in
+    let records = map fields_of c.read_batch-more.new.batch.items in
+    let before = g.W.Write.contents c.args.writer.now in
     let now = g.W.Write.contents c.batches.writer in
-    let middle = g.W.Write.contents c.answer_batch.new.writer in
-    let after = g.W.Write.contents c.match-branch-3.writer in
-    let answered : WritesAnswers (IsQuestionLine Of schema rows) questions now middle =
-    subst (λ (qs : List Question). WritesAnswers (IsQuestionLine Of schema rows) qs now middle) c.deref.ensures.value c.in_ok-answer_batch.ensures.ok in
-    let reads : ReadsBatch (λ w. g.A.Read.remaining w.inner) grammar words c.batches.records c.read_batch-batch_end.new.records questions c.in_ok-batch_end.field-0 =
-    c.in_ok-batch_end.ensures.reads in
-    let way : ((c.in_ok-batch_end.field-0 ≡ More) × (after ≡ middle)) ⊎ ((c.in_ok-batch_end.field-0 ≡ Bad) × Appends middle after bad_line) =
-    elim c.match-branch-3.branch [
-      | in-More w ↦ inl (w.in-More.is, ap (λ o. g.W.Write.contents o) w.writer-is)
-      | in-Bad+in_ok-write_bad_line-in-Bad w ↦ inr (w.in-Bad.is, subst (λ o. Appends middle (g.W.Write.contents o) bad_line) (sym w.writer-is) w.in_ok-write_bad_line-in-Bad.ensures.ok)
-    ] in
-    let only : (c.in_ok-batch_end.field-0 ≡ More) ⊎ (c.in_ok-batch_end.field-0 ≡ Bad) =
-    elim c.match-branch-3.branch [ in-More w ↦ inl w.in-More.is | in-Bad+in_ok-write_bad_line-in-Bad w ↦ inr w.in-Bad.is ] in
-    let on = goes_on (λ w. g.A.Read.remaining w.inner) grammar words c.batches.records c.read_batch-batch_end.new.records questions c.in_ok-batch_end.field-0 reads only in
+    let after = g.W.Write.contents c.write_answer_lines.new.writer in
+    let wrote : WritesLines Is records now after = subst (λ items. WritesLines Is (map fields_of items) now after) c.deref.ensures.value c.in_ok-write_answer_lines.ensures.ok in
+    let reads : ReadsBatch (λ w. g.A.Read.remaining w.inner) c.batches.records c.read_batch-more.new.records records true = search rules in
     record {
-      going = on.0;
-      counted = omega (arith, on.1, c.batches.invariant.counted);
-      few = on.2;
-      stands = λ bytes left. stands_on grammar words Of schema rows (λ w. g.A.Read.remaining w.inner) bytes c.batches.records c.read_batch-batch_end.new.records
-          (g.W.Write.contents c.args.writer.now) now middle (c.batches.invariant.stands bytes left) questions answered after c.in_ok-batch_end.field-0 reads way;
+      going = reads.2;
+      counted = omega (arith, reads.0.counted, reads.1, c.batches.invariant.counted);
+      few = reads.0.few;
+      stands = λ bytes left. batch_stands Is (λ w. g.A.Read.remaining w.inner) bytes c.batches.records before now after (c.batches.invariant.stands bytes left) records
+          c.read_batch-more.new.records.input c.read_batch-more.new.records.read_so_far reads.0 wrote;
     }

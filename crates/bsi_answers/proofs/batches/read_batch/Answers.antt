@@ -1,55 +1,62 @@
-use Rattle.std.proofs.Common.{◌≡◌, [], arith, rules, subst, sym}
+use Rattle.std.proofs.Common.{◌≡◌, ◌∷◌, ◌++◌, [], List, ap, arith, length, map, rules, subst, sym, true}
 use Rattle.std.specs.Prelude.{IfErr}
+use Rattle.std.proofs.lemmas.List.{length-append, length-map}
+use Rattle.csv.specs.Records.{fields_of}
+use Rattle.bsi_rows.specs.Fields.{Field}
+use Rattle.bsi_input.specs.declared.record_aware.RecordAwareReader.{RecordAwareReader}
+use Rattle.bsi_syntax.specs.Bytes.{KnownBytes}
 use Rattle.bsi_input.specs.Formats.{max_records}
 use Rattle.bsi_input.specs.Sources.{HasNext}
 use Rattle.bsi_answers.proofs.Passing.{if_err_both}
 use Rattle.bsi_answers.specs.declared.faults.FilesFault.TheVariants.{TooLong}
 use Rattle.bsi_answers.specs.declared.faults.Which.TheVariants.{AsksFile}
-use Rattle.bsi_answers.specs.Batches.{GaveQuestions, ReadsAsk}
-use Rattle.bsi_answers.specs.declared.batches.BatchEnd.TheVariants.{More}
-use Rattle.bsi_answers.proofs.Batching.{batch_of, given_none, given_push}
+use Rattle.bsi_answers.specs.Batches.{GaveRecords, ReadsOne}
+use Rattle.bsi_answers.proofs.Batching.{batch_of, gave_none, gave_push}
 use Rattle.bsi_answers.proofs.batches.read_batch.Goals as goal
 
-pub asks-init : goal.asks-init
-asks-init g c =
+pub records-init : goal.records-init
+records-init g c =
     let none : c.clear.new.self.items ≡ [] = search rules in
     record {
       going = c.requires.going;
-      given = given_none (λ w. g.A.Read.remaining w.inner) c.args.grammar (g.V.Vocabulary.words c.args.vocabulary.now) c.args.records.now c.clear.new.self.items c.requires.few none;
+      gave = gave_none (λ w. g.A.Read.remaining w.inner) c.args.records.now (map fields_of c.clear.new.self.items) c.requires.few (ap (map fields_of) none);
       many = rw none (omega arith);
     }
 
--- the questions so far stand before a fault
-pub returns-in_err-batch_end-clause-stopped : goal.returns-in_err-batch_end-clause-stopped
-returns-in_err-batch_end-clause-stopped g c =
-    let before = c.asks.questions.items in
-    let after = c.read_ask.new.questions.items in
+-- the records so far stand before a fault
+pub returns-in_err-more-clause-stopped : goal.returns-in_err-more-clause-stopped
+returns-in_err-more-clause-stopped g c =
+    let before = c.records.batch.items in
+    let after = c.read_one.new.batch.items in
     let unchanged : IfErr c.from_residual.result (λ fault. after ≡ before) = search rules in
-    let long : IfErr c.from_residual.result (λ fault. fault ≡ TooLong AsksFile → (c.asks.records.read_so_far ≡ max_records)
-    × HasNext (λ w. g.A.Read.remaining w.inner) c.asks.records.input) = search rules in
+    let long : IfErr c.from_residual.result (λ fault. fault ≡ TooLong AsksFile → (c.records.records.read_so_far ≡ max_records)
+    × HasNext (λ w. g.A.Read.remaining w.inner) c.records.records.input) = search rules in
     if_err_both c.from_residual.result
     (λ fault is long. record {
-      at = c.asks.records.input;
-      read_so_far = c.asks.records.read_so_far;
-      given = subst (λ questions. GaveQuestions (λ w. g.A.Read.remaining w.inner) c.args.grammar (g.V.Vocabulary.words c.args.vocabulary.now) c.args.records.now questions c.asks.records.input c.asks.records.read_so_far)
-          (sym is) c.asks.invariant.given;
+      at = c.records.records.input;
+      read_so_far = c.records.records.read_so_far;
+      gave = subst (λ (rs : List (List Field)). GaveRecords (λ w. g.A.Read.remaining w.inner) c.args.records.now rs c.records.records.input c.records.records.read_so_far)
+          (sym (ap (map fields_of) is)) c.records.invariant.gave;
       too_long = long;
     }) unchanged long
 
-pub returns-then-ne-clause-reads : goal.returns-then-ne-clause-reads
-returns-then-ne-clause-reads g c =
-    batch_of (λ w. g.A.Read.remaining w.inner) c.args.grammar (g.V.Vocabulary.words c.args.vocabulary.now) c.args.records.now c.asks.records c.read_ask.new.records c.asks.questions.items
-    c.read_ask.new.questions.items c.in_ok-batch_end.batch_end c.asks.invariant.given c.in_ok-batch_end.ensures.reads
+-- the last record was read, or none was left
+pub returns-then-not-more-clause-reads : goal.returns-then-not-more-clause-reads
+returns-then-not-more-clause-reads g c =
+    batch_of (λ w. g.A.Read.remaining w.inner) c.args.records.now c.records.records c.read_one.new.records (map fields_of c.records.batch.items)
+    (map fields_of c.read_one.new.batch.items) c.in_ok-more.more c.records.invariant.gave c.in_ok-more.ensures.reads
 
-pub asks-preserved : goal.asks-preserved
-asks-preserved g c =
-    let same : c.in_ok-batch_end.batch_end ≡ More = search rules in
-    let reads = subst (λ batch_end. ReadsAsk (λ w. g.A.Read.remaining w.inner) c.args.grammar (g.V.Vocabulary.words c.args.vocabulary.now) c.asks.records c.read_ask.new.records c.asks.questions.items
-    c.read_ask.new.questions.items batch_end) same c.in_ok-batch_end.ensures.reads in
-    let given = given_push (λ w. g.A.Read.remaining w.inner) c.args.grammar (g.V.Vocabulary.words c.args.vocabulary.now) c.args.records.now c.asks.records c.read_ask.new.records c.asks.questions.items
-    c.read_ask.new.questions.items reads.0 c.asks.invariant.given reads.1 reads.2 in
+pub records-preserved : goal.records-preserved
+records-preserved g c =
+    let rem : RecordAwareReader g.row.A.Denot → KnownBytes = λ w. g.A.Read.remaining w.inner in
+    let before = map fields_of c.records.batch.items in
+    let after = map fields_of c.read_one.new.batch.items in
+    let is : c.in_ok-more.more ≡ true = search rules in
+    let reads : ReadsOne rem c.records.records c.read_one.new.records before after true =
+    subst (ReadsOne rem c.records.records c.read_one.new.records before after) is c.in_ok-more.ensures.reads in
+    let long : length after ≡ length (before ++ reads.0 ∷ []) = ap (λ (rs : List (List Field)). length rs) reads.1 in
     record {
       going = reads.2.going;
-      given = given;
-      many = omega (arith, given.counted, reads.2.counted, c.asks.invariant.given.counted, c.asks.invariant.many);
+      gave = gave_push rem c.args.records.now c.records.records c.read_one.new.records before after reads.0 c.records.invariant.gave reads.1 reads.2;
+      many = omega (arith, length-map c.read_one.new.batch.items fields_of, length-map c.records.batch.items fields_of, long, length-append before (reads.0 ∷ []), c.records.invariant.many);
     }

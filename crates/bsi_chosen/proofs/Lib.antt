@@ -1,0 +1,4 @@
+pub mod Both
+pub mod Joining
+pub mod Places
+pub mod Shown

@@ -1,0 +1,10 @@
+use Rattle.std.proofs.Common.{◌≡◌, ◌*◌, ◌≤◌, take}
+use Rattle.bsi_storage.specs.Decoding.{bitmaps_in}
+use Rattle.bsi_storage.proofs.segment_head.count_bitmaps_before.Given as goal
+
+-- the bitmaps of the columns so far
+abbrev pub invariant-columns : goal.invariant-columns
+invariant-columns l = record {
+  sum : l.count ≡ bitmaps_in (take l.k l.schema.columns);
+  within : l.count ≤ 2048 * l.k;
+}
