@@ -46,11 +46,11 @@ MAX_SIZES = {
     "docs/C.md": 5_900,
     "docs/DECISIONS.md": 10_850,
     "docs/DESIGN.md": 8_850,
-    "docs/FORMATS.md": 21_900,
+    "docs/FORMATS.md": 22_050,
     "docs/GLOSSARY.md": 7_500,
     "docs/GUIDE.md": 8_900,
     "docs/PERFORMANCE.md": 8_700,
-    "docs/PROMISES.md": 20_500,
+    "docs/PROMISES.md": 20_700,
     "docs/PYTHON.md": 10_650,
     "docs/TOOLS.md": 4_600,
 }
