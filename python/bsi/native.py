@@ -78,6 +78,7 @@ _CALLS: Dict[str, List[Any]] = {
     "bsi_reserve": [c_uint64],
     "bsi_append": [c_uint32, c_void_p, c_size_t, POINTER(c_uint64), POINTER(c_size_t)],
     "bsi_ask": [c_void_p, c_size_t, POINTER(_Answer), c_void_p, c_size_t],
+    "bsi_answer_line": [c_void_p, c_size_t, c_void_p, c_size_t, POINTER(c_size_t)],
     "bsi_group_by": [c_void_p, c_size_t, c_void_p, c_size_t, c_void_p, c_size_t, POINTER(c_size_t)],
     "bsi_group_by_two": [*[c_void_p, c_size_t] * 4, POINTER(c_size_t)],
     "bsi_select": [c_void_p, c_size_t, c_void_p, c_size_t],
@@ -346,13 +347,18 @@ class Handle:
         """Returns the text of kinds, which is empty if the numbers are whole numbers."""
         return self._text("bsi_kinds")
 
-    def _text(self, name: str) -> bytes:
+    def answer_line(self, fields: Sequence[bytes]) -> bytes:
+        """Returns the line that `bsi ask` writes for a record of these fields."""
+        slices, length, _kept = _slices(tuple(fields))
+        return self._text("bsi_answer_line", slices, length)
+
+    def _text(self, name: str, *given: Any) -> bytes:
         """Returns the text that a call writes."""
         size = c_size_t()
         status, text = NO_ROOM, np.empty(0, np.uint8)
         while status == NO_ROOM:
             text = np.empty(size.value, np.uint8)
-            status = self._call(name, _address(text), len(text), byref(size))
+            status = self._call(name, *given, _address(text), len(text), byref(size))
         check(status)
         return text[: size.value].tobytes()
 

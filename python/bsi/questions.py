@@ -12,6 +12,8 @@ P is made of `COLUMN SIGN CONSTANT` with one of = == != < <= > >= startswith end
 binds closest, then `and`. A name or a constant that is no plain word, or one of these words, is in quotes:
 "Amount (EUR)", 'Okafor, Ada'; a quote within them is written twice.
 Constants are read as the column's own kind: 100, 12.50, 2026-01-31, true, Meyer.
+
+A record of `bsi ask`, whose first word a comma follows, is answered by its line: by,day,sum,price,qty,>,3
 """
 
 from __future__ import annotations
@@ -25,6 +27,7 @@ from .errors import BadQuery
 from .groups import Groups
 from .kinds import Texts
 from .predicates import MATCHES, Column, DatePart, Predicate, all_rows, col
+from .records import is_record, line_of
 from .table import Table
 
 TOTALS = ("sum", "mean", "median", "least", "greatest", "min", "max", "distinct")
@@ -69,7 +72,7 @@ def tokens_of(text: str) -> List[Token]:
 
 def is_question(text: str) -> bool:
     """Returns whether the text begins as a question does."""
-    return text.split(None, 1)[:1] != [] and text.split(None, 1)[0] in WORDS
+    return is_record(text) or text.split(None, 1)[:1] != [] and text.split(None, 1)[0] in WORDS
 
 
 def awaits_figure(text: str) -> bool:
@@ -79,10 +82,12 @@ def awaits_figure(text: str) -> bool:
 
 
 def ask(table: Table, text: str) -> Any:
-    """Returns the answer of an Index, or of parts, to a question that is a text."""
+    """Returns the answer of an Index, or of parts, to a question that is a text. Of a record it is the line."""
     if not isinstance(table, Table) or not isinstance(text, str):
         given = f"{type(table).__name__} and {type(text).__name__}"
         raise TypeError(f"ask needs an index and a question that is a text, not {given}")
+    if is_record(text):
+        return line_of(table, text)
     tokens = tokens_of(text)
     if not tokens or tokens[0].quoted or tokens[0] not in WORDS:
         raise BadQuery(f"a question begins with one of {', '.join(WORDS)}")

@@ -4,6 +4,7 @@ The variable BSI_PROGRAM names the command where it is not built in the reposito
 
 import os
 import subprocess
+import sys
 from decimal import Decimal
 
 import numpy as np
@@ -122,3 +123,47 @@ def test_the_command_adds_to_a_file_of_the_package(tmp_path):
     with bsi.open(path) as index:
         assert index.forms == tenths and len(index) == 3 and index.sum("temp") == Decimal("-29.1")
         assert command("ask", path, asks="sum,temp,all\n") == ["sum -29.1"]
+
+
+RECORDS = (
+    "by,Customer,sum,Amount (EUR),all",
+    'count,Customer,=,"Okafor, Ada"',
+    "greatest,Ordered,Amount (EUR),>,100",
+    "median,Amount (EUR),Shipped,null,not",
+    "top,Amount (EUR),2,Ordered,<,2026-02-28",
+    "quantile,Ordered,1,2,all",
+    "distinct,Customer,all",
+    "list,Amount (EUR),>,100",
+    "by,Ordered,by,Customer,count,all",
+)
+
+
+def test_records_are_answered_by_the_lines_of_the_command(tmp_path):
+    export, saved = os.path.join(TOP, "examples", "own", "export.csv"), tmp_path / "own.bsi"
+    command("save", "--to", saved, export)
+    lines = command("ask", saved, asks=text_of(RECORDS))
+    with bsi.open(saved) as index, bsi.read_csv(export, nulls=["", "n/a"]) as read:
+        assert [bsi.ask(index, record) for record in RECORDS] == lines
+        assert [bsi.ask(read, record) for record in RECORDS] == lines
+    ran = subprocess.run(
+        [sys.executable, "-m", "bsi", str(saved), *RECORDS[:2], "count Customer = Meyer"], capture_output=True, text=True
+    )
+    assert ran.returncode == 0 and ran.stdout.splitlines()[-3:] == [*lines[:2], "2"]
+
+
+@pytest.mark.parametrize("record", ["count,Nobody,=,1", "sum,Customer,all", "by,count,all", 'count,"Customer,=,Sato', "list,"])
+def test_records_that_ask_nothing(record):
+    export = os.path.join(TOP, "examples", "own", "export.csv")
+    with bsi.read_csv(export, nulls=["", "n/a"]) as index:
+        with pytest.raises(bsi.BadQuery, match="asks nothing|is no record"):
+            bsi.ask(index, record)
+
+
+def test_records_are_asked_of_one_index_in_kinds_of_files():
+    with bsi.Parts.from_frame(2, {"n": [1, 2, 3]}) as parts:
+        with pytest.raises(bsi.BadQuery, match="several"):
+            bsi.ask(parts, "count,all")
+    with bsi.Index.from_frame({"t": ["a", "b"]}, spare=10) as index:
+        with pytest.raises(bsi.BadQuery, match="kinds"):
+            bsi.ask(index, "count,all")
+        assert bsi.ask(index, "count") == 2
