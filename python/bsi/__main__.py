@@ -33,6 +33,7 @@ from .kinds import Decimals, Flags, Texts, Times, Whole
 from .parts import Parts, open_parts
 from .questions import NoSign, ask, awaits_figure, is_question
 from .reading import read_csv
+from .records import is_record
 from .report import values_of
 from .summary import lines_of
 from .version import __version__
@@ -200,7 +201,9 @@ def _joined(words: List[str]) -> List[str]:
 
 def main(words: Optional[List[str]] = None) -> int:
     given = _arguments(words)
-    first = next((place for place, word in enumerate(given.words) if is_question(word)), len(given.words))
+    # (a file may be named as a record begins)
+    are = (is_question(word) and not (is_record(word) and os.path.exists(word)) for word in given.words)
+    first = next((place for place, is_one in enumerate(are) if is_one), len(given.words))
     files, asked = given.words[:first], _joined(given.words[first:])
     try:
         table = _read(files, given)

@@ -5,6 +5,7 @@ from __future__ import annotations
 from typing import Any, Iterable, Mapping, Optional, Union
 
 from .choosing import chosen_of
+from .errors import BadQuery
 from .forms import Form
 from .kept import Kept, Path, kept_bytes, opened_bytes, opened_file, replace, say_kinds
 from .kinds import Kind
@@ -56,6 +57,12 @@ class Index(Table):
         """The records of the schema, as `bsi files --schema` reads them. A column whose name is none there has one with
         its number."""
         return self._store.schema().decode()
+
+    def answer_line(self, fields: Iterable[str]) -> str:
+        """Returns the line that the command `bsi ask` writes for a record of these fields, without its end."""
+        if not say_kinds(self._store, self._forms):
+            raise BadQuery("a record is answered in kinds that a file can have, and a column has another")
+        return self._store.answer_line([field.encode("utf-8", "surrogateescape") for field in fields]).decode().rstrip("\n")
 
     def share(self) -> "Index":
         """Opens the index once more, for another thread: both can be asked at the same time, and from then on neither

@@ -7,8 +7,7 @@ import re
 from typing import List
 
 from .errors import BadQuery, NoMemory
-from .kept import say_kinds
-from .native import Handle
+from .index import Index
 from .table import Table
 
 RECORD = re.compile("(count|sum|least|greatest|median|list|rank|quantile|distinct|top|bottom|by),")
@@ -20,13 +19,10 @@ def is_record(text: str) -> bool:
 
 
 def line_of(table: Table, text: str) -> str:
-    """Returns the line that `bsi ask` writes for this record, without its end."""
-    handle = table._store
-    if not isinstance(handle, Handle):
+    """Returns the line that answers this record."""
+    if not isinstance(table, Index):
         raise BadQuery("a question with commas is asked of one index, and these are several")
-    if not say_kinds(handle, table._forms):
-        raise BadQuery("a question with commas is asked in kinds that files can have, and a column has another")
-    line = handle.answer_line([field.encode("utf-8", "surrogateescape") for field in _fields(text)]).decode().rstrip("\n")
+    line = table.answer_line(_fields(text))
     if line == "bad":
         raise BadQuery(f"{text!r} asks nothing: a question with commas is written as for `bsi ask`")
     if line == "no memory":

@@ -15,6 +15,7 @@ import kept_format
 
 TOP = os.path.join(os.path.dirname(os.path.abspath(__file__)), "..", "..")
 PROGRAM = os.environ.get("BSI_PROGRAM") or os.path.join(TOP, "crates", "bsi", "out", "bsi")
+PACKAGE = os.path.abspath(os.path.join(TOP, "python"))
 WEATHER = os.path.join(TOP, "examples", "weather")
 STATIONS = ["airport.csv", "harbour.csv", "hill.csv", "valley.csv"]
 FORMS = {
@@ -149,9 +150,17 @@ def test_records_are_answered_by_the_lines_of_the_command(tmp_path):
         [sys.executable, "-m", "bsi", str(saved), *RECORDS[:2], "count Customer = Meyer"], capture_output=True, text=True
     )
     assert ran.returncode == 0 and ran.stdout.splitlines()[-3:] == [*lines[:2], "2"]
+    # (a file's name may begin as a record does)
+    (tmp_path / "list,1.csv").write_text("n\n5\n")
+    words = [sys.executable, "-m", "bsi", "list,1.csv", "sum,n,all"]
+    ran = subprocess.run(words, cwd=tmp_path, capture_output=True, text=True, env={**os.environ, "PYTHONPATH": PACKAGE})
+    assert ran.returncode == 0 and ran.stdout.splitlines()[-1] == "sum 5"
 
 
-@pytest.mark.parametrize("record", ["count,Nobody,=,1", "sum,Customer,all", "by,count,all", 'count,"Customer,=,Sato', "list,"])
+NOTHING = ("count,Nobody,=,1", "sum,Customer,all", "by,count,all", 'count,"Customer,=,Sato', "list,")
+
+
+@pytest.mark.parametrize("record", NOTHING)
 def test_records_that_ask_nothing(record):
     export = os.path.join(TOP, "examples", "own", "export.csv")
     with bsi.read_csv(export, nulls=["", "n/a"]) as index:
