@@ -67,11 +67,27 @@ def ending(status):
     return f"signal {-status}" if status < 0 else f"status {status}"
 
 
+def listed():
+    """Returns what crates.txt lists, in its order: by a crate's name the words behind it, and the libraries that it uses."""
+    with open(os.path.join(TOP, "crates.txt"), encoding="utf-8") as file:
+        lines = [line.partition("#")[0].strip().partition(":") for line in file]
+    heads = [(head.split(), uses.split()) for head, _, uses in lines if head]
+    return {head[0]: (head[1:], uses) for head, uses in heads}
+
+
 def crates():
     """Returns the names of the crates that crates.txt lists, in its order."""
-    with open(os.path.join(TOP, "crates.txt"), encoding="utf-8") as file:
-        lines = [line.partition("#")[0].strip() for line in file]
-    return [line.partition(":")[0].split()[0] for line in lines if line]
+    return list(listed())
+
+
+def libraries(crate):
+    """Returns the names of the libraries that a crate uses."""
+    return listed()[crate][1]
+
+
+def options_of(crate):
+    """Returns the words by which the compiler makes a static library of a crate that is listed as one."""
+    return ["--crate-type", "staticlib"] if "staticlib" in listed()[crate][0] else []
 
 
 class Tally:

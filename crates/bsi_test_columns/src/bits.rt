@@ -114,7 +114,7 @@ const COUNTS: [(u64, [u64; 3]); 11] = [
 
 fn counts_are_exact(alloc: Global) -> Result<bool, NoMemory> {
     let mut exact = true;
-    for (places, expected) in COUNTS {
+    for &(places, expected) in &COUNTS {
         exact &= counts_are(alloc, places, expected)?;
     }
     Ok(exact)

@@ -30,7 +30,7 @@ pub(crate) fn selects<C: Column>(
 
 /// Returns whether each of those comparisons selects what it should.
 pub(crate) fn selects_shown<C: Column>(column: &C) -> Result<bool, NoMemory> {
-    for (op, constant, expected) in SHOWN {
+    for &(op, constant, expected) in &SHOWN {
         if !selects(column, op, constant, &expected)? {
             return Ok(false);
         }
@@ -106,7 +106,7 @@ const COUNTED: [(Op, u64, u64); 14] = [
 
 // Whether each of those comparisons selects as many rows as it should.
 fn counts_shown(column: &AnyColumn) -> Result<bool, NoMemory> {
-    for (op, constant, expected) in COUNTED {
+    for &(op, constant, expected) in &COUNTED {
         if compared(column, op, constant)?.count() != expected {
             return Ok(false);
         }
@@ -126,7 +126,7 @@ fn is_compared(alloc: Global, form: TestForm) -> Result<bool, MakingError> {
 
 #[test]
 fn comparisons_table(rt: HostRuntime) {
-    for form in FORMS {
+    for &form in &FORMS {
         assert!(rt;
             matches!(is_compared(rt.alloc(), form), Ok(true)),
             "{form:?}"

@@ -40,7 +40,7 @@ fn grows_by_rows(alloc: Global, form: TestForm) -> Result<bool, MakingError> {
 
 #[test]
 fn a_refused_growth_changes_nothing(rt: HostRuntime) {
-    for form in FORMS {
+    for &form in &FORMS {
         assert!(rt;
             matches!(grows_by_rows(rt.alloc(), form), Ok(true)),
             "{form:?}"
@@ -80,7 +80,7 @@ fn is_independent(alloc: Global, form: TestForm) -> Result<bool, MakingError> {
 
 #[test]
 fn copies_are_independent_of_their_column(rt: HostRuntime) {
-    for form in FORMS {
+    for &form in &FORMS {
         assert!(rt;
             matches!(is_independent(rt.alloc(), form), Ok(true)),
             "{form:?}"

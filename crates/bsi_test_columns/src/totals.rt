@@ -121,7 +121,7 @@ const TABLE: [(Wide, &[Option<u64>], Selected); 7] = [
 ];
 
 fn all_work(alloc: Global, form: TestForm) -> Result<bool, MakingError> {
-    for (wide, entries, expected) in TABLE {
+    for &(wide, entries, expected) in &TABLE {
         if !works(alloc, form, wide, entries, expected)? {
             return Ok(false);
         }
@@ -131,7 +131,7 @@ fn all_work(alloc: Global, form: TestForm) -> Result<bool, MakingError> {
 
 #[test]
 fn totals_table(rt: HostRuntime) {
-    for form in FORMS {
+    for &form in &FORMS {
         assert!(rt; matches!(all_work(rt.alloc(), form), Ok(true)), "{form:?}");
     }
 }
@@ -147,7 +147,7 @@ fn selects_the_numbers(alloc: Global, form: TestForm) -> Result<bool, MakingErro
 
 #[test]
 fn bits_and_columns_select_numbers_and_no_null(rt: HostRuntime) {
-    for form in FORMS {
+    for &form in &FORMS {
         assert!(rt;
             matches!(selects_the_numbers(rt.alloc(), form), Ok(true)),
             "{form:?}"

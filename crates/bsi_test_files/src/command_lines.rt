@@ -219,7 +219,7 @@ fn unflushed_show<
     S: Read + Write + OpenFile + LockFile + Drop + Send,
 >(rt: &R) -> io::Result<LineEnd> {
     let (reader, mut writer) = io::pipe(rt)?;
-    for word in SAVED {
+    for &word in &SAVED {
         writer.write_all(&word.to_le_bytes())?;
     }
     drop(writer);

@@ -113,7 +113,7 @@ fn appends_batches(alloc: Global, form: TestForm) -> Result<bool, IndexError> {
 
 #[test]
 fn batches_one_after_another(rt: HostRuntime) {
-    for form in FORMS {
+    for &form in &FORMS {
         assert!(rt;
             matches!(appends_batches(rt.alloc(), form), Ok(true)),
             "{form:?}"
@@ -196,7 +196,7 @@ fn appends_blocks(alloc: Global, form: TestForm) -> Result<bool, IndexError> {
 
 #[test]
 fn blocks_that_are_filled_column_by_column(rt: HostRuntime) {
-    for form in FORMS {
+    for &form in &FORMS {
         assert!(rt;
             matches!(appends_blocks(rt.alloc(), form), Ok(true)),
             "{form:?}"

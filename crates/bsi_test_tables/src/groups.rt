@@ -18,7 +18,7 @@ const ROWS: [[Option<i128>; 2]; 5] = [
 
 // Appends them, each where it fits.
 fn append_rows(alloc: Global, index: &mut Index) -> Result<(), NoMemory> {
-    for row in ROWS {
+    for &row in &ROWS {
         let row = row_of(alloc, &row)?;
         let _ = append_row(index, 0, &row);
     }
@@ -113,7 +113,7 @@ fn is_grouped(alloc: Global, form: TestForm) -> Result<bool, IndexError> {
 
 #[test]
 fn groups_of_a_column(rt: HostRuntime) {
-    for form in FORMS {
+    for &form in &FORMS {
         assert!(rt;
             matches!(is_grouped(rt.alloc(), form), Ok(true)),
             "{form:?}"
@@ -171,7 +171,7 @@ fn is_grouped_by_more(alloc: Global, form: TestForm) -> Result<bool, IndexError>
 
 #[test]
 fn groups_of_two_columns_and_three(rt: HostRuntime) {
-    for form in FORMS {
+    for &form in &FORMS {
         assert!(rt;
             matches!(is_grouped_by_more(rt.alloc(), form), Ok(true)),
             "{form:?}"

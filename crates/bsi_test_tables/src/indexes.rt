@@ -17,7 +17,7 @@ const ROWS: [(u32, i128); 3] = [(1, 2), (0, 1), (0, 3)];
 
 // Appends them, each where it fits.
 fn append_rows(alloc: Global, index: &mut Index) -> Result<(), NoMemory> {
-    for (feeder, number) in ROWS {
+    for &(feeder, number) in &ROWS {
         let row = row_of(alloc, &[Some(number)])?;
         let _ = append_row(index, feeder, &row);
     }
@@ -65,7 +65,7 @@ fn is_answered(alloc: Global, form: TestForm) -> Result<bool, IndexError> {
 
 #[test]
 fn index_calls(rt: HostRuntime) {
-    for form in FORMS {
+    for &form in &FORMS {
         assert!(rt;
             matches!(is_answered(rt.alloc(), form), Ok(true)),
             "{form:?}"
@@ -155,7 +155,7 @@ fn read_as_they_should(alloc: Global, form: TestForm) -> Result<bool, IndexError
 
 #[test]
 fn nulls_ties_and_repeats(rt: HostRuntime) {
-    for form in FORMS {
+    for &form in &FORMS {
         assert!(rt;
             matches!(read_as_they_should(rt.alloc(), form), Ok(true)),
             "{form:?}"
@@ -185,7 +185,7 @@ const RELATED: [(Op, &[(u32, u64)]); 6] = [
 
 // Appends these rows, each where it fits.
 fn append_pairs(alloc: Global, index: &mut Index) -> Result<(), NoMemory> {
-    for pair in PAIRS {
+    for &pair in &PAIRS {
         let row = row_of(alloc, &pair)?;
         let _ = append_row(index, 0, &row);
     }
@@ -217,7 +217,7 @@ fn paired_rows(alloc: Global, first: TestForm, second: TestForm) -> Result<Index
 fn is_related(alloc: Global, first: TestForm, second: TestForm) -> Result<bool, IndexError> {
     let index = paired_rows(alloc, first, second)?;
     let mut right = true;
-    for (op, expected) in RELATED {
+    for &(op, expected) in &RELATED {
         right &= lists(&index, Pred::Columns(0, op, 1), expected);
     }
     Ok(right)
@@ -226,7 +226,7 @@ fn is_related(alloc: Global, first: TestForm, second: TestForm) -> Result<bool, 
 // Whether they do with a second column of each form.
 fn relates_to_each(alloc: Global, first: TestForm) -> Result<bool, IndexError> {
     let mut right = true;
-    for second in FORMS {
+    for &second in &FORMS {
         right &= is_related(alloc, first, second)?;
     }
     Ok(right)
@@ -234,7 +234,7 @@ fn relates_to_each(alloc: Global, first: TestForm) -> Result<bool, IndexError> {
 
 #[test]
 fn columns_of_every_form_are_compared(rt: HostRuntime) {
-    for form in FORMS {
+    for &form in &FORMS {
         assert!(rt;
             matches!(relates_to_each(rt.alloc(), form), Ok(true)),
             "{form:?}"
@@ -268,7 +268,7 @@ fn is_ranked(alloc: Global, form: TestForm) -> Result<bool, IndexError> {
 
 #[test]
 fn ranks_of_a_column_with_an_offset(rt: HostRuntime) {
-    for form in FORMS {
+    for &form in &FORMS {
         assert!(rt; matches!(is_ranked(rt.alloc(), form), Ok(true)), "{form:?}");
     }
 }
@@ -330,7 +330,7 @@ fn is_independent(alloc: Global, form: TestForm) -> Result<bool, IndexError> {
 
 #[test]
 fn a_copy_of_an_index_is_independent(rt: HostRuntime) {
-    for form in FORMS {
+    for &form in &FORMS {
         assert!(rt;
             matches!(is_independent(rt.alloc(), form), Ok(true)),
             "{form:?}"
@@ -393,7 +393,7 @@ const REFUSED: [(DeclaredColumn, SchemaError); 4] = [
 // Whether the schema takes the column qty, and none of those that it is to refuse.
 fn accepts_quantities(alloc: Global, schema: &mut Schema) -> Result<bool, SchemaError> {
     add(alloc, schema, QTY)?;
-    for (column, why) in REFUSED {
+    for &(column, why) in &REFUSED {
         if add(alloc, schema, column) != Err(why) {
             return Ok(false);
         }
@@ -412,7 +412,7 @@ const NAMES: [&str; 64] = [
 
 // Whether it takes so many columns, and not one more.
 fn accepts_no_more(alloc: Global, schema: &mut Schema) -> Result<bool, SchemaError> {
-    for name in NAMES {
+    for &name in &NAMES {
         add(alloc, schema, DeclaredColumn { name, ..QTY })?;
     }
     let more = add(alloc, schema, QTY);

@@ -280,7 +280,7 @@ fn works(alloc: Global, worked: Worked) -> Result<bool, MakeError> {
 }
 
 fn all_work(alloc: Global) -> Result<bool, MakeError> {
-    for worked in WORKED {
+    for &worked in &WORKED {
         if !works(alloc, worked)? {
             return Ok(false);
         }

@@ -23,7 +23,7 @@ const SOME: Pred = Pred::Compare(1, Op::Gt, 3);
 
 // Appends them, each where it fits.
 fn append_rows(alloc: Global, index: &mut Index) -> Result<(), NoMemory> {
-    for row in ROWS {
+    for &row in &ROWS {
         let row = row_of(alloc, &row)?;
         let _ = append_row(index, 0, &row);
     }
@@ -72,7 +72,7 @@ fn is_ranked(alloc: Global, form: TestForm) -> Result<bool, IndexError> {
 
 #[test]
 fn ranks_of_a_column(rt: HostRuntime) {
-    for form in FORMS {
+    for &form in &FORMS {
         assert!(rt; matches!(is_ranked(rt.alloc(), form), Ok(true)), "{form:?}");
     }
 }
@@ -101,7 +101,7 @@ fn has_quantiles(alloc: Global, form: TestForm) -> Result<bool, IndexError> {
 
 #[test]
 fn quantiles_of_a_column(rt: HostRuntime) {
-    for form in FORMS {
+    for &form in &FORMS {
         assert!(rt;
             matches!(has_quantiles(rt.alloc(), form), Ok(true)),
             "{form:?}"
@@ -133,7 +133,7 @@ fn is_counted(alloc: Global, form: TestForm) -> Result<bool, IndexError> {
 
 #[test]
 fn different_numbers_of_a_column(rt: HostRuntime) {
-    for form in FORMS {
+    for &form in &FORMS {
         assert!(rt;
             matches!(is_counted(rt.alloc(), form), Ok(true)),
             "{form:?}"
@@ -193,7 +193,7 @@ fn is_listed(alloc: Global, form: TestForm) -> Result<bool, IndexError> {
 
 #[test]
 fn first_rows_by_a_column(rt: HostRuntime) {
-    for form in FORMS {
+    for &form in &FORMS {
         assert!(rt; matches!(is_listed(rt.alloc(), form), Ok(true)), "{form:?}");
     }
 }

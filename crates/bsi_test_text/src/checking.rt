@@ -168,7 +168,7 @@ fn writes(alloc: Global, schema: &str, file: &str, want: &str) -> bool {
 
 #[test]
 fn each_bad_record_is_told_by_its_kind(rt: HostRuntime) {
-    for (schema, file, want) in CHECKED {
+    for &(schema, file, want) in &CHECKED {
         assert!(rt; writes(rt.alloc(), schema, file, want), "{want}");
     }
 }

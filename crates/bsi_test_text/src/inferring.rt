@@ -72,7 +72,7 @@ fn describe_column(alloc: Global, worked: Worked) -> Result<String, NoMemory> {
 
 #[test]
 fn columns_have_a_kind(rt: HostRuntime) -> Result<(), NoMemory> {
-    for worked in COLUMNS {
+    for &worked in &COLUMNS {
         let described = describe_column(rt.alloc(), worked)?;
         assert!(rt; described.as_str() == worked.2, "{described}");
     }
@@ -115,7 +115,7 @@ fn describe_chunks(alloc: Global, chunks: WorkedChunks) -> Result<String, NoMemo
 
 #[test]
 fn chunks_of_columns_are_joined(rt: HostRuntime) -> Result<(), NoMemory> {
-    for chunks in CHUNKS {
+    for &chunks in &CHUNKS {
         let described = describe_chunks(rt.alloc(), chunks)?;
         assert!(rt; described.as_str() == chunks.2, "{described}");
     }

@@ -118,7 +118,7 @@ fn is_refused(alloc: Global, more: &str, why: Refusal) -> bool {
 
 #[test]
 fn records_that_say_nothing_are_refused(rt: HostRuntime) {
-    for (more, why) in REFUSED {
+    for &(more, why) in &REFUSED {
         assert!(rt; is_refused(rt.alloc(), more, why), "{more}");
     }
 }
@@ -150,7 +150,7 @@ const DESCRIBED: [&str; 3] = [
 
 #[test]
 fn each_schema_is_described_as_its_text(rt: HostRuntime) {
-    for text in DESCRIBED {
+    for &text in &DESCRIBED {
         assert!(rt; is_described(rt.alloc(), text), "{text}");
     }
 }
@@ -279,10 +279,10 @@ fn compares(
 fn columns_read_fields_and_constants_by_their_kinds(rt: HostRuntime) -> Result<(), Fail> {
     let sales = read(rt.alloc(), whole(SALES.as_bytes()))?;
     assert!(rt; finds_columns(&sales));
-    for (name, field, want) in ENTRIES {
+    for &(name, field, want) in &ENTRIES {
         assert!(rt; reads_entry(&sales, name, field, want), "{name} {field}");
     }
-    for (name, op, constant, want) in COMPARED {
+    for &(name, op, constant, want) in &COMPARED {
         assert!(rt;
             compares(&sales, name, op, constant, want),
             "{name} {constant}"
@@ -373,7 +373,7 @@ fn writes(alloc: Global, schema: &LogicalSchema, name: &str, number: i128, want:
 #[test]
 fn answers_write_values(rt: HostRuntime) -> Result<(), Fail> {
     let sales = read(rt.alloc(), whole(SALES.as_bytes()))?;
-    for (name, number, want) in WRITTEN {
+    for &(name, number, want) in &WRITTEN {
         assert!(rt;
             writes(rt.alloc(), &sales, name, number, want),
             "{name} {number}"

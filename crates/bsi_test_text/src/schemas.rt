@@ -73,7 +73,7 @@ fn is_described(alloc: Global, text: &str) -> bool {
 
 #[test]
 fn each_schema_is_described_as_it_was_declared(rt: HostRuntime) {
-    for text in DESCRIBED {
+    for &text in &DESCRIBED {
         assert!(rt; is_described(rt.alloc(), text), "{text}");
     }
 }

@@ -151,7 +151,7 @@ fn describe_text(alloc: Global, text: &str, options: &SurveyOptions) -> Result<S
 
 #[test]
 fn schemas_are_made_of_texts(rt: HostRuntime) -> Result<(), NoMemory> {
-    for worked in TEXTS {
+    for &worked in &TEXTS {
         let options = options_of(rt.alloc(), worked, None);
         let described = describe_text(rt.alloc(), worked.2, &options)?;
         assert!(rt; described.as_str() == worked.3, "{described}");
