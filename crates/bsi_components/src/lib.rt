@@ -18,7 +18,7 @@ pub use component::Component;
 pub use encoding::Encoding;
 pub use equality::{Equality, EqualityComponent};
 pub use marking::Marking;
-pub use places::place_count;
+pub use places::{place_count, stored_places};
 pub use range::{Range, RangeComponent};
 pub use reads::Reads;
 pub use std::alloc::AllocError as NoMemory;

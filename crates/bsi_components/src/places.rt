@@ -26,7 +26,7 @@ pub fn place_count(base: u32) -> usize
 }
 
 /// Returns how many binary places of its digits a component of a base stores: all, or none.
-pub(crate) fn stored_places(base: u32) -> usize
+pub fn stored_places(base: u32) -> usize
     requires { IsBase base }
     ensures count { result ≡ stored_places base }
     ensures few { result ≤ max_digit_places }

@@ -26,6 +26,9 @@ const MAX_SUM: u64 = 4096;
 /// The greatest product of a list's bases.
 const MAX_SIZE: u64 = 1 << 63;
 
+/// The most bit slices of a column, whose numbers are below the same size.
+pub const MAX_SLICES: u32 = 63;
+
 /// A list of 1 to 63 bases. A contract sees the bases least significant first, as the components are numbered:
 /// component 0 is the least significant, and has the last base of the list as written.
 #[derive(Debug, Drop)]

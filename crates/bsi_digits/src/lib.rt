@@ -9,7 +9,7 @@ mod extreme;
 pub mod laws;
 mod op;
 
-pub use bases::{Bases, DigitStep, MAX_BASE};
+pub use bases::{Bases, DigitStep, MAX_BASE, MAX_SLICES};
 pub use bases_error::BasesError;
 pub use extreme::Extreme;
 pub use op::Op;

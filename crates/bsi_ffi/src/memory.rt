@@ -7,12 +7,9 @@ ghost use Rattle.bsi_schema.specs.Columns.{IsForm};
 ghost use Rattle.bsi_table.specs.Index.{table_of};
 ghost use Rattle.bsi_ffi.specs.Memory.{index_bytes, stored_bitmaps, stored_digit_bitmaps};
 
-use bsi_components::place_count;
+use bsi_components::stored_places;
 use bsi_digits::Bases;
 use bsi_table::{Form, Index, Schema};
-
-/// The least base of which a component stores the binary places of its digits.
-const MIN_BASE_WITH_PLACES: u32 = 4;
 
 /// The number of rows from one count by feeder to the next.
 const CHUNK_ROWS: u64 = 512;
@@ -88,10 +85,5 @@ fn stored_digit_bitmaps(base: u32, is_range: bool) -> u64
     } else {
         base
     };
-    let places = if base < MIN_BASE_WITH_PLACES {
-        0
-    } else {
-        place_count(base)
-    };
-    u64::from(own) + places as u64
+    u64::from(own) + stored_places(base) as u64
 }

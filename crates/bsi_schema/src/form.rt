@@ -5,10 +5,7 @@ ghost use Rattle.std.specs.Result.{result_err};
 ghost use Rattle.bsi_digits.specs.Digits.{max_size};
 
 use crate::NoMemory;
-use bsi_digits::{Bases, BasesError};
-
-/// The most slices of a column.
-pub const MAX_SLICES: u32 = 63;
+use bsi_digits::{Bases, BasesError, MAX_SLICES};
 
 /// The form that is asked for. Its bases are written most significant first.
 #[derive(Debug, Drop)]

@@ -8,7 +8,8 @@ mod row;
 mod schema;
 mod schema_error;
 
-pub use form::{ColumnSpec, Form, MAX_SLICES};
+pub use bsi_digits::MAX_SLICES;
+pub use form::{ColumnSpec, Form};
 pub use limits::{Limits, accepts_row, have_same_limits, to_i64};
 pub use name::is_word;
 pub use row::Row;

@@ -34,9 +34,6 @@ mod totals;
 
 pub use related::ColumnComparison;
 
-/// The most slices of a column.
-const MAX_SLICES: u32 = 63;
-
 /// A column of optional numbers below two to the power of its width. Slice `i` holds binary place `i` of the numbers,
 /// and is clear where a row is null.
 #[derive(Drop)]

@@ -6,9 +6,10 @@ ghost use Rattle.bsi_bits.specs.BitList.{sum_end};
 ghost use Rattle.bsi_digits.specs.Orders.{values_at};
 ghost use Rattle.bsi_digits.specs.Totals.{IsRanked};
 
-use crate::slices::{MAX_SLICES, Slices};
+use crate::slices::Slices;
 use crate::{Column, NoMemory};
 use bsi_bits::{Bits, MAX_LEN};
+use bsi_digits::MAX_SLICES;
 use bsi_kernels::{rows_of_rank, sum_by_places};
 
 impl Slices {
