@@ -11,10 +11,6 @@ then one two = (λ a. two.0 (one.0 a), λ c. one.1 (two.1 c))
 pub alike : {A : Type 0} → A ↔ A
 alike = (λ a. a, λ a. a)
 
--- facts that hold both follow from each other
-pub both_hold : {A B : Type 0} → A → B → (A ↔ B)
-both_hold a b = (λ _. b, λ _. a)
-
 -- and so do facts of which neither holds
 pub neither_holds : {A B : Type 0} → (A → ⊥) → (B → ⊥) → (A ↔ B)
 neither_holds a b = (λ is. absurd (a is), λ is. absurd (b is))
