@@ -94,7 +94,6 @@ wrote_none Is bytes state source read_so_far now start none left = record {
 
 module _ (Is : List Field → List ℕ → Type 0) {R : Type 0} (rem : R → KnownBytes) (bytes : List ℕ) (a b : Reader R) (read_so_far : ℕ) (few : read_so_far ≤ max_records)
     (before now : KnownBytes) (wrote : HasWritten Is bytes (reader_state a) (source_of rem a) read_so_far before now) where
-
   pub wrote_all : IsOver rem a → WritesAll (AllZip Is) bytes before now
   wrote_all over = record {
     records = wrote.records;

@@ -4,22 +4,22 @@
 
 mod alone;
 mod answering;
-mod batches;
 mod faults;
 mod fed;
 mod feds;
 pub mod laws;
 mod lines;
 mod parallel;
+mod read_ahead;
 mod reply_lines;
 
 pub use alone::write_answer_line;
 pub use answering::{answer_all, answer_asks, answer_plain_asks};
-pub use batches::read_batch;
 pub use bsi_syntax::Grammar;
 pub use faults::{FaultText, FilesFault, MAX_FAULT_TEXT, Which};
 pub use fed::{Fed, file_number};
 pub use feds::write_fed_lines;
 pub use lines::write_answer_lines;
 pub use parallel::answer_each;
+pub use read_ahead::read_ahead;
 pub use std::alloc::AllocError as NoMemory;

@@ -290,7 +290,7 @@ fn commands<'a>(alloc: Global) -> Result<Command<'a>, AllocError> {
     let mut command = Command::new(alloc, "bsi")
         .no_binary_name(true)
         .subcommand_required(true);
-    'commands: for (name, arguments) in COMMANDS {
+    'commands: for &(name, arguments) in &COMMANDS {
         command = command.subcommand(command_of(alloc, name, arguments)?)?;
     }
     Ok(command)
