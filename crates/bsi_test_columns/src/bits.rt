@@ -68,24 +68,37 @@ fn count_and_not(a: &Bits, b: &Bits) -> Option<u64> {
     }
 }
 
-// Whether of flipped bits none is set, and none in the bits before too.
+// Whether of flipped ones none is set, and none in the bits before too, and all once they are flipped again.
 fn flip_to_none(bits: &Bits) -> Result<bool, NoMemory> {
     let mut flipped = copied(bits)?;
     flipped.flip();
-    Ok(flipped.count() == 0 && count_and(bits, &flipped) == Some(0))
+    let none = flipped.count() == 0 && count_and(bits, &flipped) == Some(0);
+    flipped.flip();
+    Ok(none && flipped.count() == bits.len())
 }
 
-// Whether 65 ones flip to none, and grow to 66.
-fn flip_and_grow(alloc: Global) -> Result<bool, NoMemory> {
-    let mut bits = filled(alloc, 65, true)?;
+/// So many bits, on either side of the ends of words and lanes.
+const EDGES: [u64; 4] = [64, 65, 256, 257];
+
+// Whether ones flip to none and back, and grow by one.
+fn flip_and_grow(alloc: Global, n: u64) -> Result<bool, NoMemory> {
+    let mut bits = filled(alloc, n.min(MAX_LEN - 1), true)?;
     let flipped = flip_to_none(&bits)?;
     let stayed = push(&mut bits, true)?;
-    Ok(flipped && stayed && bits.len() == 66 && bits.count() == 66)
+    Ok(flipped && stayed && bits.len().saturating_sub(1) == n && bits.count() == bits.len())
+}
+
+fn all_flip_and_grow(alloc: Global) -> Result<bool, NoMemory> {
+    let mut right = true;
+    for &n in &EDGES {
+        right &= flip_and_grow(alloc, n)?;
+    }
+    Ok(right)
 }
 
 #[test]
-fn a_filled_vector_flips_and_grows(rt: HostRuntime) {
-    assert!(rt; matches!(flip_and_grow(rt.alloc()), Ok(true)));
+fn filled_vectors_flip_and_grow(rt: HostRuntime) {
+    assert!(rt; matches!(all_flip_and_grow(rt.alloc()), Ok(true)));
 }
 
 // Whether so many of the places below `n` divide by 3, by 3 and 2, and by 3 and not 2.
