@@ -25,7 +25,6 @@ pub record HasAdded {A B : Type 0} (Adds : A → B → List ℕ → List ℕ →
   pub added : AreAdded Adds done ys before now
 
 module _ {A B : Type 0} {Adds : A → B → List ℕ → List ℕ → Type 0} {all left : List A} {ys : List B} where
-
   pub added_more : (x : A) (rest : List A) (y : B) (more : List B) (a b c : List ℕ) → HasAdded Adds all left ys a b → left ≡ x ∷ rest → more ≡ ys ++ y ∷ [] → Adds x y b c
       → HasAdded Adds all rest more a c
   added_more x rest y more a b c has is pushed one = record {

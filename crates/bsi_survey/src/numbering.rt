@@ -1,4 +1,4 @@
-//! Texts with a number behind them: `rain_2`.
+//! Puts a number behind a text: `rain_2` (`number_title`).
 
 ghost use Rattle.std.specs.Prelude.{◌≡◌, IfOk};
 ghost use Rattle.bsi_logical.specs.HeaderTitles.{numbered};
@@ -8,7 +8,7 @@ use itoa::Buffer;
 use std::alloc::Global;
 
 /// Makes a text with `_` and a number behind it. With the number 1 it is the text alone.
-pub(crate) fn numbered(alloc: Global, text: &[u8], number: usize) -> Result<Vec<u8>, NoMemory>
+pub(crate) fn number_title(alloc: Global, text: &[u8], number: usize) -> Result<Vec<u8>, NoMemory>
     ensures { IfOk result (λ made. made.items ≡ numbered text.now number) }
 {
     let mut made = Vec::from_slice(alloc, text)?;

@@ -3,7 +3,7 @@ use Rattle.bsi_bits.specs.Packed.{bit_of}
 use Rattle.bsi_kernels.specs.Places.{at_most_step}
 use Rattle.bsi_kernels.proofs.ByPlaces.{ordered_all, ordered_none, ordered_with, place_read}
 use Rattle.bsi_kernels.proofs.WordSpans.{ordered_bit, ordered_long}
-use Rattle.bsi_kernels.proofs.comparisons.ordered.Goals as goal
+use Rattle.bsi_kernels.proofs.comparisons.order_span.Goals as goal
 
 pub places-init : goal.places-init
 places-init g c = record {

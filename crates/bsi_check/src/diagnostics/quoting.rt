@@ -1,4 +1,4 @@
-//! Quotes a field or a record in a reason, cut short and on one line, and adds how many line ends a field takes in.
+//! Quotes a field or a record in a reason, cut short and on one line, and counts the line ends inside a quoted field.
 
 ghost use Rattle.std.specs.Prelude.{string_bytes, OnOk};
 ghost use Rattle.bsi_check.specs.Judges.{Begins};
@@ -16,9 +16,9 @@ const MAX_SHOWN_FIELDS: usize = 8;
 
 /// Returns what is shown of a field: its first 40 bytes, with a dot sequence if there are more. Bytes that are no
 /// printed text stand as escapes.
-pub(crate) fn shown(alloc: Global, field: &[u8]) -> Result<String, NoMemory> {
+pub(crate) fn quote_field(alloc: Global, field: &[u8]) -> Result<String, NoMemory> {
     let mut text = String::new(alloc);
-    let end = shown_bytes(field).min(field.len());
+    let end = count_quoted_bytes(field).min(field.len());
     let first = &field[..end];
     match str::from_utf8(first) {
         Ok(plain) if !plain.chars().any(|c| c.is_control()) => text.push_str(plain)?,
@@ -35,7 +35,7 @@ pub(crate) fn shown(alloc: Global, field: &[u8]) -> Result<String, NoMemory> {
 }
 
 /// Returns how many bytes of a field are shown: at most 40, of a longer text only whole characters.
-fn shown_bytes(field: &[u8]) -> usize {
+fn count_quoted_bytes(field: &[u8]) -> usize {
     let Some(first) = field.get(..MAX_SHOWN) else {
         return field.len();
     };
@@ -46,11 +46,11 @@ fn shown_bytes(field: &[u8]) -> usize {
 }
 
 /// Returns what is shown of a record: its first fields, with commas between them.
-pub(crate) fn shown_record(alloc: Global, fields: &ByteRecord) -> Result<String, NoMemory> {
+pub(crate) fn quote_record(alloc: Global, fields: &ByteRecord) -> Result<String, NoMemory> {
     let mut text = String::new(alloc);
     let shown_fields = fields.len().min(MAX_SHOWN_FIELDS);
     'fields: for index in 0..shown_fields {
-        let word = shown(alloc, field(fields, index))?;
+        let word = quote_field(alloc, field(fields, index))?;
         let before = if index == 0 { "" } else { "," };
         write!(text, "{before}{word}")?;
     }

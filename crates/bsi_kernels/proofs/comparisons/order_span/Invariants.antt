@@ -1,7 +1,7 @@
 use Rattle.std.proofs.Common.{◌≡◌, ℕ, ◌+◌, ◌*◌, ◌%◌, ◌^◌, ◌<◌, List, length, get_or}
 use Rattle.bsi_bits.specs.Packed.{bit_of}
 use Rattle.bsi_kernels.specs.Places.{at_most_step, has_place, IsEncoded}
-use Rattle.bsi_kernels.proofs.comparisons.ordered.Given as goal
+use Rattle.bsi_kernels.proofs.comparisons.order_span.Given as goal
 
 -- the rows are ordered by the places so far
 abbrev pub invariant-places : goal.invariant-places

@@ -8,7 +8,7 @@ use Rattle.bsi_columns.specs.Decomposed.{entries_of}
 use Rattle.bsi_columns.proofs.EntriesFrom.{rows_of}
 use Rattle.bsi_columns.proofs.Answering.{IfOk-same_bits}
 use Rattle.bsi_columns.proofs.Deciding.{rows_none, rows_all, rows_tested}
-use Rattle.bsi_columns.proofs.decomposed.Decomposed.selected.Goals as goal
+use Rattle.bsi_columns.proofs.decomposed.Decomposed.select_compared.Goals as goal
 
 -- no number
 pub returns-in-Nothing : goal.returns-in-Nothing
