@@ -85,5 +85,5 @@ pub record HasLawfulPast (records : List (List Field)) (lines : List Bytes) (sho
   pub conserved : IsConserved (machine_of setup) past
 
 -- No line is `no memory`.
-abbrev pub AreNotOutOfMemory : List (List ℕ) → Type 0
-AreNotOutOfMemory lines = All (λ line. line ≢ no_memory_line) lines
+abbrev pub NoneIsNoMemory : List (List ℕ) → Type 0
+NoneIsNoMemory lines = All (λ line. line ≢ no_memory_line) lines
