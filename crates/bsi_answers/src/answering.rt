@@ -14,8 +14,8 @@ ghost use Rattle.bsi_answers.specs.RowFiles.{fed_counts};
 ghost use Rattle.bsi_answers.specs.Runs.{AreLines};
 ghost use Rattle.bsi_answers.specs.Writing.{WritesAll, WritesFirst};
 
+use crate::ahead::read_ahead;
 use crate::lines::write_answer_lines;
-use crate::read_ahead::read_ahead;
 use crate::{Fed, FilesFault, Which, write_fed_lines};
 use bsi_input::{RecordAwareReader, RecordSource};
 use bsi_syntax::{Grammar, Notation, Vocabulary};

@@ -2,6 +2,7 @@
 //! a run ends early.
 #![tactic(auto)]
 
+mod ahead;
 mod alone;
 mod answering;
 mod faults;
@@ -10,9 +11,9 @@ mod feds;
 pub mod laws;
 mod lines;
 mod parallel;
-mod read_ahead;
 mod reply_lines;
 
+pub use ahead::read_ahead;
 pub use alone::write_answer_line;
 pub use answering::{answer_all, answer_asks, answer_plain_asks};
 pub use bsi_syntax::Grammar;
@@ -21,5 +22,4 @@ pub use fed::{Fed, file_number};
 pub use feds::write_fed_lines;
 pub use lines::write_answer_lines;
 pub use parallel::answer_each;
-pub use read_ahead::read_ahead;
 pub use std::alloc::AllocError as NoMemory;

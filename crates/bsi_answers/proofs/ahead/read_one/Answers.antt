@@ -6,8 +6,8 @@ use Rattle.bsi_input.specs.RecordSources.{ReadsNextRecord, StopsAt}
 use Rattle.bsi_answers.proofs.Asking.{only_long}
 use Rattle.bsi_answers.specs.ReadAhead.{ReadsOne}
 use Rattle.bsi_answers.specs.declared.faults.FilesFault.{FilesFault}
-use Rattle.bsi_answers.proofs.read_ahead.read_one.Goals.{in-Ok, in-Err-push}
-use Rattle.bsi_answers.proofs.read_ahead.read_one.Goals as goal
+use Rattle.bsi_answers.proofs.ahead.read_one.Goals.{in-Ok, in-Err-push}
+use Rattle.bsi_answers.proofs.ahead.read_one.Goals as goal
 
 pub returns-clause-reads : goal.returns-clause-reads
 returns-clause-reads g c =

@@ -1,7 +1,7 @@
 use Rattle.std.proofs.Common.{◌≡◌, None, length, map}
 use Rattle.csv.specs.Records.{fields_of}
 use Rattle.bsi_answers.specs.ReadAhead.{GaveRecords}
-use Rattle.bsi_answers.proofs.read_ahead.read_ahead.Given as goal
+use Rattle.bsi_answers.proofs.ahead.read_ahead.Given as goal
 
 -- the source gave the records so far
 abbrev pub invariant-records : goal.invariant-records

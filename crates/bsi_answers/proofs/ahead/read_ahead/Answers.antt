@@ -12,7 +12,7 @@ use Rattle.bsi_answers.specs.declared.faults.FilesFault.TheVariants.{TooLong}
 use Rattle.bsi_answers.specs.declared.faults.Which.TheVariants.{AsksFile}
 use Rattle.bsi_answers.specs.ReadAhead.{GaveRecords, ReadsOne}
 use Rattle.bsi_answers.proofs.ReadingAhead.{ahead_of, gave_none, gave_push}
-use Rattle.bsi_answers.proofs.read_ahead.read_ahead.Goals as goal
+use Rattle.bsi_answers.proofs.ahead.read_ahead.Goals as goal
 
 pub records-init : goal.records-init
 records-init g c =
