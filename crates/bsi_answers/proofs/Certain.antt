@@ -163,6 +163,16 @@ module _ (schema : Declared) (rows : List SourcedRow) where
         ap₂ (λ line lines. line ∷ lines) (one_line fields x y one.0 two.0 (All-head IsFound x a found_a) (All-head IsFound y b found_b))
         (each_line records a b one.1 two.1 (All-tail IsFound x a found_a) (All-tail IsFound y b found_b))
 
+    all_lines : (counts : List FedCounts) (records : List (List Field)) (a b : List (List ℕ)) → AreLines schema rows counts records a → AreLines schema rows counts records b
+        → NoneIsNoMemory a → NoneIsNoMemory b → a ≡ b
+    all_lines counts records a b one two found_a found_b =
+        let feds = fed_lines 0 counts in
+        let answers : one.answers ≡ two.answers =
+        each_line records one.answers two.answers one.each two.each
+        (last_all feds one.answers (subst (λ lines. All IsFound lines) one.lines_are found_a))
+        (last_all feds two.answers (subst (λ lines. All IsFound lines) two.lines_are found_b)) in
+        one.lines_are ∙ (ap (λ xs. feds ++ xs) answers ∙ sym two.lines_are)
+
 -- ---- the whole run
 
 pub one_run : OneReading → (declared : List ℕ) (texts : List (List ℕ)) (records : List (List Field)) (a b : List (List ℕ)) → IsRun declared texts records a

@@ -32,6 +32,8 @@ module _ (bs : List ℕ) (not_null : List Bool) (ds : List (List ℕ)) (entries 
       ∙ ap (λ d. get_or d r 0) (decomposes.digits_are i below)
       ∙ get_or-map (λ (e : Option ℕ). digit_of bs (number_or_zero e) i) entries r None 0 within)
     where
+      same_digits_by : (xs bs : List ℕ) (v : ℕ) → length xs ≡ length bs → ((i : ℕ) → i < length bs → get_or xs i 0 ≡ digit_of bs v i) → xs ≡ digits_of bs v
+      same_digits_by xs bs v long each = fill_by_all (digit_of bs v) xs (length bs) 0 long each
 
   -- so the entries are those
   pub entries_from : entries_of bs not_null ds ≡ entries

@@ -159,6 +159,26 @@ pub record AreBehind {X : Type 0} (Done : ℕ → X → X → Type 0) (old new :
 
 module _ {X : Type 0} (Done : ℕ → X → X → Type 0) (old now : List X) (i : ℕ) (here next : X) where
   module _ (behind : AreBehind Done old now (i + 1)) (within : i < length now) (is : here ≡ get_or now i here) (step : Done i here next) where
+    here_was : (d : X) → get_or old i d ≡ here
+    here_was d = sym (behind.rest i d (omega arith)) ∙ get_or_default now i d here within ∙ sym is
+
+    set_here : (d : X) → Done i (get_or old i d) (get_or (set now i next) i d)
+    set_here d =
+        subst (λ (c : X). Done i c (get_or (set now i next) i d)) (sym (here_was d))
+        (subst (λ (c : X). Done i here c) (sym (get_or-set_same now i next d within)) step)
+
+    behind_done : (k : ℕ) (d : X) → i ≤ k → k < length old → Done k (get_or old k d) (get_or (set now i next) k d)
+    behind_done k d high low = elim (cases_eq k i) [
+      | inl same ↦ subst (λ (j : ℕ). Done j (get_or old j d) (get_or (set now i next) j d)) (sym same) (set_here d)
+      | inr other ↦ subst (λ (c : X). Done k (get_or old k d) c) (sym (get_or-set_other now i k next d other)) (behind.done k d (omega arith) low)
+    ]
+
+    pub behind_more : AreBehind Done old (set now i next) i
+    behind_more = record {
+      len = length-set now i next ∙ behind.len;
+      done = behind_done;
+      rest = λ k d low. get_or-set_other now i k next d (λ same. omega arith) ∙ behind.rest k d (omega arith);
+    }
 
 -- the same, of what was read at i
 pub behind_at : {X : Type 0} (Done : ℕ → X → X → Type 0) (old now : List X) (i : ℕ) (x next : X) → AreBehind Done old now (i + 1) → i < length now
