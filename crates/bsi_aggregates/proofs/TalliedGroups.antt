@@ -128,14 +128,6 @@ pub record AreTallied (total : Total) (selection : List Bool) (by : ℕ) (rows :
   pub answers : All (λ group. IsTotalAt total (rows_with_entry selection by rows group.entry) rows group.answer) groups
 
 module _ (total : Total) (selection : List Bool) (by : ℕ) (rows : List SourcedRow) (offset : ℤ) (size : ℕ) (tallies : List Tally) where
-  pub none_tallied : AreTallied total selection by rows offset size tallies 0 []
-  none_tallied = record {
-    places = All-nil (IsAt offset size 0);
-    rise = λ i j d before within. absurd (omega arith);
-    had = All-nil (Contains (selected_entries selection by rows));
-    all = λ j d before some. absurd (omega arith);
-    answers = All-nil (λ group. IsTotalAt total (rows_with_entry selection by rows group.entry) rows group.answer);
-  }
 
   module _ (same : length selection ≡ length rows) (keys : OffsetColumn) (offset_is : keys.offset ≡ offset) (size_is : shifted_size keys ≡ size) (keys_are : shifted_entries keys ≡ column_of rows by) (entries : List (Option ℤ)) (entries_are : entries ≡ total_entries total rows selection)
       (are : AreEntryTallies keys entries selection (length selection) tallies) where

@@ -94,17 +94,6 @@ wrote_none Is bytes state source read_so_far now start none left = record {
 
 module _ (Is : List Field → List ℕ → Type 0) {R : Type 0} (rem : R → KnownBytes) (bytes : List ℕ) (a b : Reader R) (read_so_far : ℕ) (few : read_so_far ≤ max_records)
     (before now : KnownBytes) (wrote : HasWritten Is bytes (reader_state a) (source_of rem a) read_so_far before now) where
-  pub wrote_more : (fields : List Field) (line : List ℕ) (next : ℕ) (after : KnownBytes) → HasReadRecords rem a b (fields ∷ []) → next ≡ read_so_far + 1
-      → Is fields line → Appends now after line → HasWritten Is bytes (reader_state b) (source_of rem b) next before after
-  wrote_more fields line next after read one is written = record {
-    records = wrote.records ++ fields ∷ [];
-    lines = wrote.lines ++ line ∷ [];
-    begun = first_more rem bytes a b wrote.records fields wrote.begun read;
-    many = omega (arith, length-append wrote.records (fields ∷ []), wrote.many, one);
-    each = matched_push Is wrote.records wrote.lines fields line wrote.each is;
-    written = subst (Appends before after) (sym (concat_more wrote.lines line)) (appends-more before now after (concat wrote.lines) line wrote.written written);
-  }
-
   pub wrote_all : IsOver rem a → WritesAll (AllZip Is) bytes before now
   wrote_all over = record {
     records = wrote.records;
@@ -131,24 +120,6 @@ module _ (Is : List Field → List ℕ → Type 0) {R : Type 0} (rem : R → Kno
     are = wrote.each;
     out = out_all fault wrote.lines before now wrote.written;
   }
-
-  -- where the writer fails, a first part of one more line went out
-  pub wrote_cut : (fields : List Field) (line : List ℕ) (next : ℕ) (after : KnownBytes) (fault : FilesFault) → HasReadRecords rem a b (fields ∷ [])
-      → next ≡ read_so_far + 1 → next ≤ max_records → Is fields line → AppendsPrefix now after line → fault ≡ Write → WritesFirst (AllZip Is) bytes fault before after
-  wrote_cut fields line next after fault read one most is cut failed =
-      let begun = first_more rem bytes a b wrote.records fields wrote.begun read in
-      let whole = cut_whole before now after (concat wrote.lines) line wrote.written cut in
-      subst (λ f. WritesFirst (AllZip Is) bytes f before after) (sym failed) (record {
-        records = wrote.records ++ fields ∷ [];
-        lines = wrote.lines ++ line ∷ [];
-        state = reader_state b;
-        rest = begun.rest;
-        first = begun.first;
-        few = omega (arith, length-append wrote.records (fields ∷ []), wrote.many, one, most);
-        too_long = λ is. absurd (cc (is));
-        are = matched_push Is wrote.records wrote.lines fields line wrote.each is;
-        out = subst (AppendsPrefix before after) (sym (concat_more wrote.lines line)) whole;
-      })
 
 -- ---- the lines of the feeders stand before them
 
@@ -228,15 +199,6 @@ part_follows follows asked fault before after part = record {
   are = follows part.records part.lines part.are;
   out = part.out;
 }
-
-pub leaves_follows : {Is Too : List (List Field) → List (List ℕ) → Type 0} → ((records : List (List Field)) → (lines : List (List ℕ)) → Is records lines → Too records lines)
-    → (asked : List ℕ) (fault : FilesFault) (before after : KnownBytes) → Leaves Is asked fault before after → Leaves Too asked fault before after
-leaves_follows follows asked (Read AsksFile) before after part = part_follows follows asked (Read AsksFile) before after part
-leaves_follows follows asked (TooLong AsksFile) before after part = part_follows follows asked (TooLong AsksFile) before after part
-leaves_follows follows asked Write before after part = part_follows follows asked Write before after part
-leaves_follows follows asked NoMemory before after (inl same) = inl same
-leaves_follows follows asked NoMemory before after (inr part) = inr (part_follows follows asked NoMemory before after part)
-leaves_follows follows asked fault before after same = same
 
 -- while lines are written
 pub leaves_late : (Is : List (List Field) → List (List ℕ) → Type 0) (asked : List ℕ) (fault : FilesFault) (before after : KnownBytes) → may_follow_output fault ≡ true

@@ -18,7 +18,7 @@ use Rattle.bsi_rows.specs.declared.errors.AskError.TheVariants as ask
 use Rattle.bsi_rows.specs.declared.query.Answer.{Answer}
 use Rattle.bsi_rows.specs.declared.query.Answer.TheVariants.{Count as count_answer, Sum as sum_answer, Value as value_answer, Rows as rows_answer}
 use Rattle.bsi_rows.specs.declared.query.Query.{Query}
-use Rattle.bsi_input.specs.Pasts.{FindMemory}
+use Rattle.bsi_input.specs.Pasts.{NoneIsNoMemory}
 use Rattle.bsi_input.specs.Formats.{bad_count, good_rows}
 use Rattle.bsi_input.specs.RowFiles.{plain_format}
 use Rattle.bsi_input.specs.SchemaTexts.{table_declared, Declares, IsSchemaText}
@@ -164,7 +164,7 @@ module _ (schema : Declared) (rows : List SourcedRow) where
         (each_line records a b one.1 two.1 (All-tail IsFound x a found_a) (All-tail IsFound y b found_b))
 
     all_lines : (counts : List FedCounts) (records : List (List Field)) (a b : List (List ℕ)) → AreLines schema rows counts records a → AreLines schema rows counts records b
-        → FindMemory a → FindMemory b → a ≡ b
+        → NoneIsNoMemory a → NoneIsNoMemory b → a ≡ b
     all_lines counts records a b one two found_a found_b =
         let feds = fed_lines 0 counts in
         let answers : one.answers ≡ two.answers =
@@ -176,7 +176,7 @@ module _ (schema : Declared) (rows : List SourcedRow) where
 -- ---- the whole run
 
 pub one_run : OneReading → (declared : List ℕ) (texts : List (List ℕ)) (records : List (List Field)) (a b : List (List ℕ)) → IsRun declared texts records a
-    → IsRun declared texts records b → FindMemory a → FindMemory b → a ≡ b
+    → IsRun declared texts records b → NoneIsNoMemory a → NoneIsNoMemory b → a ≡ b
 one_run reading declared texts records a b one two found_a found_b =
     let table = one_table reading declared (record { schema = one.schema; limit = one.limit }) (record { schema = two.schema; limit = two.limit }) one.schema_is.declares two.schema_is.declares in
     let schema : one.schema ≡ two.schema = ap (λ (d : DeclaredTable). d.schema) table in

@@ -1,5 +1,5 @@
 pub mod Asking
-pub mod Batching
+pub mod ReadingAhead
 mod Certain
 mod Entries
 mod Listed

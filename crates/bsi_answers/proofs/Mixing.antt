@@ -32,9 +32,6 @@ eq_self f = grind (arith, nat_tests)
 eq_is : (f g : ℕ) → nat_eq f g ≡ true → f ≡ g
 eq_is f g e = grind (arith, nat_tests)
 
-ne_is : (f g : ℕ) → nat_eq f g ≡ false → f ≢ g
-ne_is f g e = λ same. absurd (cc (e, eq_self f, same))
-
 ne_flip : (f g : ℕ) → nat_eq f g ≡ false → nat_eq g f ≡ false
 ne_flip f g e = grind (arith, nat_tests)
 

@@ -94,9 +94,6 @@ pub record HasTold (feds : List Fed) (k : ℕ) (before now : KnownBytes) : Type 
   pub within : k ≤ length feds
   pub written : Appends before now (told_text (take k feds))
 
-pub told_none : (feds : List Fed) (now : KnownBytes) → HasTold feds 0 now now
-told_none feds now = record { within = omega arith; written = appends-none now }
-
 module _ (feds : List Fed) (k : ℕ) (before now after : KnownBytes) (told : HasTold feds k before now) where
   module _ (fed : Fed) (line : List ℕ) (lt : k < length feds) (at : fed ≡ slice_index_or feds k fed) (is : line ≡ fed_line k fed.accepted fed.bad) where
     next_text : told_text (take (suc k) feds) ≡ told_text (take k feds) ++ line
@@ -131,6 +128,3 @@ module _ (feds : List Fed) (k : ℕ) (before now after : KnownBytes) (told : Has
   pub told_part : (fault : FilesFault) → fault ≡ NoMemory → AreWrittenBefore fault (fed_lines 0 (map fed_counts feds)) before now
   told_part fault is =
       subst (λ f. AreWrittenBefore f (fed_lines 0 (map fed_counts feds)) before now) (sym is) (k, subst (Appends before now) (sym first_lines) told.written)
-
-  pub told_all : length feds ≤ k → Appends before now (told_text feds)
-  told_all le = subst (λ xs. Appends before now (told_text xs)) (take_all k feds le) told.written

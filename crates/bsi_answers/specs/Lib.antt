@@ -1,5 +1,5 @@
 pub mod AskLines
-pub mod Batches
+pub mod ReadAhead
 pub mod FaultTexts
 pub mod Faults
 pub mod Mixes

@@ -1,5 +1,5 @@
 //! Answers each record of a text by a line (`answer_asks`), behind the lines of the row files (`answer_all`). Threads
-//! answer the questions of a batch if these pass over many rows.
+//! answer the questions that were read ahead if these pass over many rows.
 
 ghost use Rattle.std.specs.Prelude.{◌≡◌, ◌≤◌, None, IfErr, IfSome, OnOk, length, map, true};
 ghost use Rattle.std.specs.List.{AllZip};
@@ -14,7 +14,7 @@ ghost use Rattle.bsi_answers.specs.RowFiles.{fed_counts};
 ghost use Rattle.bsi_answers.specs.Runs.{AreLines};
 ghost use Rattle.bsi_answers.specs.Writing.{WritesAll, WritesFirst};
 
-use crate::batches::read_batch;
+use crate::ahead::read_ahead;
 use crate::lines::write_answer_lines;
 use crate::{Fed, FilesFault, Which, write_fed_lines};
 use bsi_input::{RecordAwareReader, RecordSource};
@@ -90,11 +90,11 @@ pub fn answer_asks<
         table.now.schema table.now.rows)) bytes fault (W.contents writer.old) (W.contents writer.new))) }
 {
     let mut records = RecordSource::new(rt.alloc(), RecordAwareReader::new(asks));
-    answer_batches(rt, table, vocabulary, grammar, &mut records, writer)
+    answer_ahead(rt, table, vocabulary, grammar, &mut records, writer)
 }
 
 /// Writes a line for each record of a text of which no record was read.
-fn answer_batches<
+fn answer_ahead<
     R: Threads + AllocGlobal + Sync,
     V: Vocabulary + Notation + Sync,
     A: Read + Drop,
@@ -118,12 +118,12 @@ fn answer_batches<
         (V.number_texts vocabulary.now) table.now.schema table.now.rows)) bytes fault
         (W.contents writer.old) (W.contents writer.new))) }
 {
-    let mut batch = Vec::new(rt.alloc());
+    let mut ahead = Vec::new(rt.alloc());
     let mut line = Vec::new(rt.alloc());
     // No text has so many records. The bound lets the proof see that the loop ends.
-    'batches: for _ in 0..u64::MAX {
-        let more = read_batch(rt.alloc(), records, &mut batch);
-        write_answer_lines(rt, table, vocabulary, grammar, &batch, &mut line, writer)?;
+    'rounds: for _ in 0..u64::MAX {
+        let more = read_ahead(rt.alloc(), records, &mut ahead);
+        write_answer_lines(rt, table, vocabulary, grammar, &ahead, &mut line, writer)?;
         if !more? {
             return Ok(());
         }

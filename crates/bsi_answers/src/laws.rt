@@ -9,7 +9,7 @@ ghost use Rattle.bsi_schema.specs.Columns.{Declared};
 ghost use Rattle.bsi_rows.specs.Rows.{SourcedRow};
 ghost use Rattle.bsi_rows.specs.declared.question.Question.{Question};
 ghost use Rattle.bsi_aggregates.specs.declared.answering.QuestionReply.{QuestionReply};
-ghost use Rattle.bsi_input.specs.Pasts.{FindMemory};
+ghost use Rattle.bsi_input.specs.Pasts.{NoneIsNoMemory};
 ghost use Rattle.bsi_answers.specs.Mixes.{file_by_file, HaveSameFeederRows, IsInterleavingOf};
 ghost use Rattle.bsi_answers.specs.ReplyLines.{question_reply_line, IsReplyLine};
 ghost use Rattle.bsi_answers.specs.RowFiles.{FedCounts, RowFile};
@@ -30,7 +30,7 @@ pub fn any_interleaving()
 pub fn determined()
     ensures { (declared : List ℕ) → (texts : List (List ℕ)) → (records : List (List Field)) →
         (a b : List (List ℕ)) → IsRun declared texts records a → IsRun declared texts records b →
-        FindMemory a → FindMemory b → a ≡ b }
+        NoneIsNoMemory a → NoneIsNoMemory b → a ≡ b }
 {}
 
 /// States that a reply has just one line where numbers are written as whole numbers, and which.

@@ -2,9 +2,9 @@
 //! a run ends early.
 #![tactic(auto)]
 
+mod ahead;
 mod alone;
 mod answering;
-mod batches;
 mod faults;
 mod fed;
 mod feds;
@@ -13,9 +13,9 @@ mod lines;
 mod parallel;
 mod reply_lines;
 
+pub use ahead::read_ahead;
 pub use alone::write_answer_line;
 pub use answering::{answer_all, answer_asks, answer_plain_asks};
-pub use batches::read_batch;
 pub use bsi_syntax::Grammar;
 pub use faults::{FaultText, FilesFault, MAX_FAULT_TEXT, Which};
 pub use fed::{Fed, file_number};

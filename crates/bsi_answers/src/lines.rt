@@ -1,10 +1,10 @@
-//! Writes the lines of a batch of records (`write_answer_lines`). Threads make them if they pass over many rows.
+//! Writes the lines of records that were read ahead (`write_answer_lines`). Threads make them if they pass over many rows.
 
 ghost use Rattle.std.specs.Prelude.{◌≡◌, ◌⊎◌, ◌∷◌, [], IfErr, IfOk, IfSome, OnOk, map};
 ghost use Rattle.std.specs.List.{AllZip};
 ghost use Rattle.csv.specs.Records.{fields_of};
 ghost use Rattle.bsi_answers.specs.AskLines.{IsAskLineBy};
-ghost use Rattle.bsi_answers.specs.Batches.{WritesFirstLines, WritesLines};
+ghost use Rattle.bsi_answers.specs.ReadAhead.{WritesFirstLines, WritesLines};
 
 use crate::alone::{write_answer_line, write_any_line};
 use crate::{FilesFault, NoMemory};
@@ -31,25 +31,25 @@ pub fn write_answer_lines<
     table: &Index,
     vocabulary: &V,
     grammar: Grammar,
-    batch: &[ByteRecord],
+    ahead: &[ByteRecord],
     line: &mut Vec<u8>,
     writer: &mut W,
 ) -> Result<(), FilesFault>
     ensures ok { OnOk result (WritesLines (IsAskLineBy grammar (V.words vocabulary.now)
-        (V.number_texts vocabulary.now) table.now.schema table.now.rows) (map fields_of batch.now)
+        (V.number_texts vocabulary.now) table.now.schema table.now.rows) (map fields_of ahead.now)
         (W.contents writer.old) (W.contents writer.new)) }
     ensures prefix { IfErr result (WritesFirstLines (IsAskLineBy grammar (V.words vocabulary.now)
-        (V.number_texts vocabulary.now) table.now.schema table.now.rows) (map fields_of batch.now)
+        (V.number_texts vocabulary.now) table.now.schema table.now.rows) (map fields_of ahead.now)
         (W.contents writer.old) (W.contents writer.new)) }
 {
-    let made = make_together(rt, table, vocabulary, grammar, batch);
-    'records: for k in 0..batch.len() {
+    let made = make_together(rt, table, vocabulary, grammar, ahead);
+    'records: for k in 0..ahead.len() {
         write_line(
             rt.alloc(),
             table,
             vocabulary,
             grammar,
-            &batch[k],
+            &ahead[k],
             made.get(k),
             line,
             writer,
@@ -97,17 +97,17 @@ fn make_together<R: Threads + AllocGlobal + Sync, V: Vocabulary + Notation + Syn
     table: &Index,
     vocabulary: &V,
     grammar: Grammar,
-    batch: &[ByteRecord],
+    ahead: &[ByteRecord],
 ) -> Vec<Result<Vec<u8>, NoMemory>>
     ensures { (result.items ≡ []) ⊎ AllZip (λ asked made. IfOk made (λ line.
         IsAskLineBy grammar (V.words vocabulary.now) (V.number_texts vocabulary.now) table.now.schema
-        table.now.rows (fields_of asked) line.items)) batch.now result.items }
+        table.now.rows (fields_of asked) line.items)) ahead.now result.items }
 {
-    let rows = table.len().saturating_mul(batch.len() as u64);
-    if batch.len() < 2 || rows < MANY_ROWS {
+    let rows = table.len().saturating_mul(ahead.len() as u64);
+    if ahead.len() < 2 || rows < MANY_ROWS {
         return Vec::new(rt.alloc());
     }
-    match make_each(rt, rt.alloc(), table, vocabulary, grammar, batch) {
+    match make_each(rt, rt.alloc(), table, vocabulary, grammar, ahead) {
         Ok(lines) => lines,
         Err(_) => Vec::new(rt.alloc()),
     }
@@ -120,14 +120,14 @@ fn make_each<R: Threads + Sync, V: Vocabulary + Notation + Sync>(
     table: &Index,
     vocabulary: &V,
     grammar: Grammar,
-    batch: &[ByteRecord],
+    ahead: &[ByteRecord],
 ) -> Result<Vec<Result<Vec<u8>, NoMemory>>, NoMemory>
     ensures { IfOk result (λ lines. AllZip (λ asked made. IfOk made (λ line.
         IsAskLineBy grammar (V.words vocabulary.now) (V.number_texts vocabulary.now) table.now.schema
-        table.now.rows (fields_of asked) line.items)) batch.now lines.items) }
+        table.now.rows (fields_of asked) line.items)) ahead.now lines.items) }
 {
     // A record passes over all rows, so each may be a piece of its own.
-    batch
+    ahead
         .par_iter()
         .with_min_len(1)
         .map(
@@ -140,7 +140,7 @@ fn make_each<R: Threads + Sync, V: Vocabulary + Notation + Sync>(
         .collect(rt, alloc)
 }
 
-/// Makes the line of a record, as the others of its batch are made.
+/// Makes the line of a record.
 fn make_line<V: Vocabulary + Notation>(
     alloc: Global,
     table: &Index,

@@ -25,9 +25,6 @@ pub record HasAdded {A B : Type 0} (Adds : A → B → List ℕ → List ℕ →
   pub added : AreAdded Adds done ys before now
 
 module _ {A B : Type 0} {Adds : A → B → List ℕ → List ℕ → Type 0} {all left : List A} {ys : List B} where
-  pub added_none : (bytes : List ℕ) → left ≡ all → ys ≡ [] → HasAdded Adds all left ys bytes bytes
-  added_none bytes same none = record { done = []; parts = sym same; added = subst (λ zs. AreAdded Adds [] zs bytes bytes) (sym none) refl }
-
   pub added_more : (x : A) (rest : List A) (y : B) (more : List B) (a b c : List ℕ) → HasAdded Adds all left ys a b → left ≡ x ∷ rest → more ≡ ys ++ y ∷ [] → Adds x y b c
       → HasAdded Adds all rest more a c
   added_more x rest y more a b c has is pushed one = record {
@@ -35,9 +32,6 @@ module _ {A B : Type 0} {Adds : A → B → List ℕ → List ℕ → Type 0} {a
     parts = has.parts ∙ (ap (λ xs. has.done ++ xs) is ∙ sym (append_assoc has.done (x ∷ []) rest));
     added = subst (λ zs. AreAdded Adds (has.done ++ x ∷ []) zs a c) (sym pushed) (added_push Adds has.done ys x y a b c has.added one);
   }
-
-  pub added_all : (a b : List ℕ) → HasAdded Adds all left ys a b → left ≡ [] → AreAdded Adds all ys a b
-  added_all a b has none = subst (λ xs. AreAdded Adds xs ys a b) (sym (has.parts ∙ (ap (λ xs. has.done ++ xs) none ∙ append-nil has.done))) has.added
 
 pub added_long : {A B : Type 0} (Adds : A → B → List ℕ → List ℕ → Type 0) (xs : List A) (ys : List B) (a b : List ℕ) → AreAdded Adds xs ys a b → length ys ≡ length xs
 added_long Adds [] [] a b are = refl

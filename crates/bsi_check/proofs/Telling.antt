@@ -105,14 +105,6 @@ pub first_past : (path : List ℕ) (bad : ℕ) (a b : List ℕ) → max_reasons 
 first_past path bad a b many reported =
     (reported.0, reported.1 ∙ (first_full bad many ∙ sym (first_full (bad + 1) (omega (arith, many)))), reported.2)
 
-pub first_some : (path : List ℕ) (bad : ℕ) (a b : List ℕ) → AddsFirstReasons path bad a b → AddsSomeReasons path a b
-first_some path bad a b reported = (reported.0, reported.2)
-
-pub bad_few : (path : List ℕ) (bad : ℕ) (a b : List ℕ) → bad ≤ max_reasons → AddsFirstReasons path bad a b → AddsBadRecordReasons path bad a b
-bad_few path bad a b few reported =
-    let none : more_whys bad ≡ [] = ap (λ b. if b then [] else more_why (bad - max_reasons) ∷ []) (le-leb bad max_reasons few) in
-    (reported.0, reported.1, subst (λ whys. AddsReasons path whys a b) (sym (ap (λ more. reported.0 ++ more) none ∙ append-nil reported.0)) reported.2)
-
 pub bad_many : (path : List ℕ) (bad : ℕ) (a b c : List ℕ) → max_reasons < bad → AddsFirstReasons path bad a b
     → AddsReasons path (more_why (bad - max_reasons) ∷ []) b c → AddsBadRecordReasons path bad a c
 bad_many path bad a b c many reported more =
@@ -121,9 +113,6 @@ bad_many path bad a b c many reported more =
       reported.1,
       subst (λ whys. AddsReasons path (reported.0 ++ whys) a c) (sym one) (reported_more path reported.0 (more_why (bad - max_reasons) ∷ []) a b c reported.2 more),
     )
-
-pub bad_some : (path : List ℕ) (bad : ℕ) (a b : List ℕ) → AddsBadRecordReasons path bad a b → AddsSomeReasons path a b
-bad_some path bad a b reported = (reported.0 ++ more_whys bad, reported.2)
 
 -- a file that was not read to its end, after some of its reasons
 pub reported_unread : (path : List ℕ) (fault : SourceFault) (a b c : List ℕ) → (fault ≡ source.NoMemory → ⊥) → AddsSomeReasons path a b → AddsReasons path (fault_why fault ∷ []) b c

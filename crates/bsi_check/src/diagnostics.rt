@@ -7,14 +7,14 @@ mod headers;
 mod kinds;
 mod labels;
 mod misspelled;
+mod quoting;
 mod records;
 mod setups;
-mod shown;
 mod tables;
 mod whole_numbers;
 
 pub(crate) use asks::why_no_ask;
 pub(crate) use headers::why_no_header;
+pub(crate) use quoting::{count_line_feeds, count_lone_returns};
 pub(crate) use records::why_bad_record;
 pub(crate) use setups::{why_bad_setup, why_refused_setup};
-pub(crate) use shown::{count_line_feeds, count_lone_returns};

@@ -96,17 +96,6 @@ zip2-map_left f g [] ys = refl
 zip2-map_left f g (v ∷ vs) [] = refl
 zip2-map_left f g (v ∷ vs) (y ∷ ys) = ap (λ zs. f (g v) y ∷ zs) (zip2-map_left f g vs ys)
 
-same_answer : (test other : ℕ → Bool) (expected too : Bool) (n : ℕ) → ((x : ℕ) → x < n → as_expected expected (test x) ≡ as_expected too (other x))
-    → (e : Option ℕ) → number_or_zero e < n → answers test expected e ≡ answers other too e
-same_answer test other expected too n same None below = refl
-same_answer test other expected too n same (Some x) below = same x below
-
--- tests that agree below the size, each as wanted, select the same rows
-pub same_answers : (test other : ℕ → Bool) (expected too : Bool) (n : ℕ) → ((x : ℕ) → x < n → as_expected expected (test x) ≡ as_expected too (other x))
-    → (es : List (Option ℕ)) → All (λ e. number_or_zero e < n) es → map (answers test expected) es ≡ map (answers other too) es
-same_answers test other expected too n same es all =
-    map_alike (answers test expected) (answers other too) (λ e. number_or_zero e < n) (same_answer test other expected too n same) es all
-
 pub and_assoc : (a b c : Bool) → ((a && b) && c) ≡ (a && (b && c))
 and_assoc true b c = refl
 and_assoc false b c = refl
@@ -134,21 +123,6 @@ pub cut_answers : (test : ℕ → Bool) (expected : Bool) (es : List (Option ℕ
 cut_answers test expected es selection not_null selection_is not_null_is =
     zip2_of_maps (λ (answer : Bool) (there : Bool). as_expected expected answer && there) (λ (e : Option ℕ). test (number_or_zero e)) is_some es selection_is not_null_is
     ∙ map_alike (λ (e : Option ℕ). as_expected expected (test (number_or_zero e)) && is_some e) (answers test expected) (λ e. Unit {0}) (λ e u. cut_answer test expected e) es (λ k d h. tt)
-
-pub past_equal : (expected : Bool) (x n size : ℕ) → size ≤ n → x < size → as_expected (not expected) true ≡ as_expected expected (nat_eq x n)
-past_equal expected x n size past below = grind (arith, nat_tests)
-
-pub past_at_most : (expected : Bool) (x n size : ℕ) → size ≤ n → x < size → as_expected expected true ≡ as_expected expected (nat_le x n)
-past_at_most expected x n size past below = grind (arith, nat_tests)
-
-pub past_below : (expected : Bool) (x n size : ℕ) → size ≤ n → x < size → as_expected expected true ≡ as_expected expected (nat_lt x n)
-past_below expected x n size past below = grind (arith, nat_tests)
-
-pub never_below : (expected : Bool) (x n : ℕ) → n ≡ 0 → as_expected (not expected) true ≡ as_expected expected (nat_lt x n)
-never_below expected x n none = grind (arith, nat_tests)
-
-pub at_most_less : (expected : Bool) (x n : ℕ) → n ≢ 0 → as_expected expected (nat_le x (n - 1)) ≡ as_expected expected (nat_lt x n)
-at_most_less expected x n some = grind (arith, nat_tests)
 
 pub IfOk-same_bits : {X E : Type 0} (r : Result X E) (bits : X → List Bool) (xs ys : List Bool) → xs ≡ ys → IfOk r (λ b. bits b ≡ xs) → IfOk r (λ b. bits b ≡ ys)
 IfOk-same_bits r bits xs ys same ok = IfOk-weaker r (λ b. bits b ≡ xs) (λ b. bits b ≡ ys) (λ b h. h ∙ same) ok

@@ -27,9 +27,6 @@ weighed_below (b ∷ bs) (d ∷ ds) same below =
     omega (arith, weighted_sum-cons b bs d ds, most)
 
 module _ (bs : List ℕ) (not_null : List Bool) (ds : List (List ℕ)) (are : AreDigitLists bs not_null ds) where
-  weighed : ℕ → ℕ
-  weighed r = weighted_sum bs (digits_at ds r) (components bs)
-
   row_digit : (i r : ℕ) → i < length bs → get_or (digits_at ds r) i 0 ≡ get_or (get_or ds i []) r 0
   row_digit i r within = get_or-map (λ (d : List ℕ). get_or d r 0) ds i [] 0 (omega (arith, are.digits.count))
 

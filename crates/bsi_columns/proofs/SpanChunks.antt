@@ -13,13 +13,6 @@ pub record IsSteppedTo (to : ℕ) (step : Bool → ℕ → Bool) (digits : List 
   pub done : (p : ℕ) → p < 64 * to → p < 64 * length old → 64 * at + p < length digits → bit_of now p ≡ step (bit_of old p) (get_or digits (64 * at + p) 0)
   pub rest : (p : ℕ) → 64 * to ≤ p → bit_of now p ≡ bit_of old p
 
--- none is stepped yet
-pub stepped_none : (step : Bool → ℕ → Bool) (digits : List ℕ) (at : ℕ) (old : List ℕ) → IsSteppedTo 0 step digits at old old
-stepped_none step digits at old = record {
-  done = λ p below within row. absurd (omega arith);
-  rest = λ p past. refl;
-}
-
 -- the words of a part that is written over
 module _ (from n : ℕ) (words new_chunk : List ℕ) (within : from + n ≤ length words) (long : length new_chunk ≡ n) where
   word_before : (i : ℕ) → i < from → get_or (put_mid from n words new_chunk) i 0 ≡ get_or words i 0

@@ -1,4 +1,4 @@
--- The binary places of the digits of all components as bitmaps (`component_bitmaps`).
+-- One bitmap for each binary place of the digits of each component (`component_bitmaps`).
 use Rattle.std.specs.Prelude.{ℕ, Bool, List, [], map, slice_index, slice_index_or}
 use Rattle.std.specs.List.{flat_map, range_with_len}
 use Rattle.bsi_components.specs.PlaceNumbers.{place_count}

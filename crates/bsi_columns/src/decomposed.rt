@@ -169,7 +169,7 @@ impl<E: Encoding> Column for Decomposed<E> {
     }
 
     fn compare(&self, op: Op, constant: u64) -> Result<Bits, NoMemory> {
-        self.selected(op, constant)
+        self.select_compared(op, constant)
     }
 
     fn sum(&self, selection: &Bits) -> u128 {

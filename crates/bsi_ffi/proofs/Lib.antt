@@ -1,6 +1,5 @@
 pub mod AsBox
 pub mod AskedOn
-pub mod Flat
 pub mod ColumnInputs
 pub mod CopiedLines
 pub mod InputRows

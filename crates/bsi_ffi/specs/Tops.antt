@@ -20,7 +20,7 @@ abbrev pub extreme_of : Bool → Extreme
 extreme_of true = Least
 extreme_of false = Greatest
 
--- The row as it is written for C: its index and its number.
+-- The row as it is written for C: its position and its number.
 abbrev pub IsWrittenRow : TopRow → FlatRow → Type 0
 IsWrittenRow row flat = (flat.row ≡ row.row) × (flat.number ≡ row.number)
 

@@ -1,5 +1,5 @@
-//! Numbers of a column at the rows that a predicate selects: those of some ranks, that of a quantile, and how many
-//! different ones there are.
+//! Writes for C numbers of a column at the rows that a predicate selects: those of some ranks, that of a quantile, and how
+//! many different ones there are.
 
 ghost use Rattle.std.specs.Prelude.{◌≡◌, ◌≤◌, ◌<◌, drop, length, map, take, IfErr, IfOk, OnErr, OnOk};
 ghost use Rattle.std.specs.List.{AllZip};

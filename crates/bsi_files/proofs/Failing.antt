@@ -64,15 +64,6 @@ module _ {R F : Type 0} (form : F → Format) (rem : R → KnownBytes) (stops : 
   load_loading run.NoMemory met = refl
   load_loading fault met = absurd met
 
--- a fault before any line leaves none
-pub leaves_none : (Is : List (List Field) → List (List ℕ) → Type 0) (asked : List ℕ) (fault : FilesFault) (before after : KnownBytes)
-    → (may_follow_output fault ≡ true → fault ≡ run.NoMemory) → after ≡ before → Leaves Is asked fault before after
-leaves_none Is asked (run.Read which.AsksFile) before after early same = absurd (cc (early refl))
-leaves_none Is asked (run.TooLong which.AsksFile) before after early same = absurd (cc (early refl))
-leaves_none Is asked run.Write before after early same = absurd (cc (early refl))
-leaves_none Is asked run.NoMemory before after early same = inl same
-leaves_none Is asked fault before after early same = same
-
 pub headers_late : (fault : FilesFault) → raised_at_headers fault ≡ true → may_follow_output fault ≡ true → fault ≡ run.NoMemory
 headers_late run.NoMemory of late = refl
 headers_late (run.Source n e) of late = absurd (cc (late))

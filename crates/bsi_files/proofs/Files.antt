@@ -126,10 +126,6 @@ module _ {R F : Type 0} (form : F → Format) (rem : R → KnownBytes) where
         counts_are = sym (counts_from false rows 0 sources feds fed.each);
       }
 
-  pub few_fed : (stops : Bool) (limit : ℕ) (rows : List SourcedRow) (sources : List (SourceOf R F)) (feds : List Fed) → IsAllFed form rem stops limit rows sources feds
-      → length sources ≤ max_feeders → length feds ≤ max_feeders
-  few_fed stops limit rows sources feds fed few = (let many = as_many stops rows 0 sources feds fed.each in omega arith)
-
 -- the lines over the rows of files are those of a run over them
 pub run_of_loaded : (schema : Declared) (limit : ℕ) (declared : List ℕ) (texts : List (List ℕ)) (rows : List SourcedRow) (counts : List FedCounts)
     → IsSchemaText declared schema limit → HasLoaded (plain_format schema) limit texts rows counts
@@ -149,14 +145,6 @@ run_of_loaded schema limit declared texts rows counts schema_is loaded records l
     }
 
 -- ---- faults and lengths
-
-pub late_counted : {T : Type 0} (r : Result T FilesFault) → IfErr r (λ fault. may_follow_output fault ≡ true) → IfErr r (λ fault. fault ≢ TooManyFiles)
-late_counted (Ok x) late = tt
-late_counted (Err e) late = λ same. (let wrong : false ≡ true = sym (ap may_follow_output same) ∙ late in absurd (cc (wrong)))
-
-pub late_quiet : {T : Type 0} (P : FilesFault → Type 0) (r : Result T FilesFault) → IfErr r (λ fault. may_follow_output fault ≡ true) → IfErr r (λ fault. may_follow_output fault ≡ false → P fault)
-late_quiet P (Ok x) late = tt
-late_quiet P (Err e) late = λ early. (let wrong : false ≡ true = sym early ∙ late in absurd (cc (wrong)))
 
 pub matched_long : {A B : Type 0} (Is : A → B → Type 0) (xs : List A) (ys : List B) → AllZip Is xs ys → length xs ≡ length ys
 matched_long Is [] [] are = refl

@@ -52,27 +52,3 @@ ends_of form rem (thread ∷ threads) [] f are = absurd are
 ends_of form rem (thread ∷ threads) (end ∷ ends) f are = (are.0, ends_of form rem threads ends f are.1)
 
 module _ {R F X : Type 0} (f : X → Task R F) where
-  pub started_none : (threads : List X) (feeders left : List FeederState) (sources given : List (SourceOf R F)) → threads ≡ [] → left ≡ feeders → given ≡ sources
-      → map f threads ++ tasks left given ≡ tasks feeders sources
-  started_none threads feeders left sources given none one two =
-      ap (λ (ts : List X). map f ts ++ tasks left given) none ∙ (ap (λ fs. tasks fs given) one ∙ ap (λ ss. tasks feeders ss) two)
-
-  pub started_more : (threads more : List X) (thread : X) (left rest : List FeederState) (given others : List (SourceOf R F)) (feeder : FeederState) (source : SourceOf R F)
-      (whole : List (Task R F)) → map f threads ++ tasks left given ≡ whole → left ≡ feeder ∷ rest → given ≡ source ∷ others → more ≡ threads ++ thread ∷ []
-      → (f thread).0 ≡ feeder → (f thread).1 ≡ source → map f more ++ tasks rest others ≡ whole
-  started_more threads more thread left rest given others feeder source whole was l g pushed one two =
-      let whole_task : Task R F = (feeder, source) in
-      let task : f thread ≡ whole_task = by (f thread).0 (f thread).1 one two in
-      ap (λ (ts : List X). map f ts ++ tasks rest others) pushed
-      ∙ (ap (λ ts. ts ++ tasks rest others) (map_push f threads thread)
-      ∙ (push_assoc (map f threads) (f thread) (tasks rest others)
-      ∙ (ap (λ t. map f threads ++ t ∷ tasks rest others) task
-      ∙ (ap (λ fs. map f threads ++ fs) (sym (ap (λ fs. tasks fs given) l ∙ ap (λ ss. tasks (feeder ∷ rest) ss) g)) ∙ was))))
-    where
-      by : (a : FeederState) (b : SourceOf R F) → a ≡ feeder → b ≡ source → (let t : Task R F = (a, b) in let u : Task R F = (feeder, source) in t ≡ u)
-      by a b p q = cc
-
-  pub started_all : (threads : List X) (left : List FeederState) (given : List (SourceOf R F)) (whole : List (Task R F)) → map f threads ++ tasks left given ≡ whole
-      → left ≡ [] → map f threads ≡ whole
-  started_all threads left given whole was none =
-      sym (append-nil (map f threads)) ∙ (ap (λ fs. map f threads ++ tasks fs given) (sym none) ∙ was)

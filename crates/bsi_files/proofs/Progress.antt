@@ -45,67 +45,10 @@ get_lt (y ∷ xs) (suc f) x is = (let rest = get_lt xs f x is in omega arith)
 
 -- ---- at most one more row
 
-pub pops_none : (f : ℕ) (old new : List FeederProgress) → new ≡ old → PopsOnlyOf f old new
-pops_none f old new same = record {
-  others = λ k other. ap (λ ts. progress_at ts k) same;
-  settled = ap (λ ts. (progress_at ts f).carried) same;
-}
-
-pub pops_one : (f : ℕ) (old new : LoaderState) → LoadsOne old f new → PopsOnlyOf f old.progress new.progress
-pops_one f old new loads =
-    let is : new.progress ≡ slice_set old.progress f (with_popped (progress_at old.progress f) loads.0) = ap (λ (s : LoaderState). s.progress) loads.2 in
-    record {
-      others = λ k other. ap (λ ts. progress_at ts k) is ∙ set_other old.progress f k (with_popped (progress_at old.progress f) loads.0) other;
-      settled = ap (λ ts. (progress_at ts f).carried) is ∙ set_settled old.progress f loads.0;
-    }
-
-pub pops_more : (f : ℕ) (a b c : List FeederProgress) → PopsOnlyOf f a b → PopsOnlyOf f b c → PopsOnlyOf f a c
-pops_more f a b c first next = record {
-  others = λ k other. next.others k other ∙ first.others k other;
-  settled = next.settled ∙ first.settled;
-}
-
 -- ---- a closing is settled, and all that it carried is popped
-
-pub must_be_ok : {T E P : Type 0} (r : Result T E) (Q : E → Type 0) → OnOk r P → IfErr r Q → ((e : E) → Q e → ⊥) → P
-must_be_ok (Ok x) Q ok err never = ok
-must_be_ok (Err e) Q ok err never = absurd (never e err)
 
 module _ (old settled new : LoaderState) (closing : Sent) (is : settled ≡ settled_as old closing.number closing.rows) (always : AlwaysHolds settled)
     (same : settled.system ≡ old.system) (of : IsClosingOf closing old.system) (pops : PopsOnlyOf closing.number settled.progress new.progress) where
-  settled_others : OthersUnchanged closing.number old.progress settled.progress
-  settled_others k other =
-      ap (λ (s : LoaderState). progress_at s.progress k) is
-      ∙ set_other old.progress closing.number k (record { popped = (progress_at old.progress closing.number).popped; carried = Some closing.rows }) other
-
-  settled_carried : (progress_at settled.progress closing.number).carried ≡ Some closing.rows
-  settled_carried =
-      let t : FeederProgress = record { popped = (progress_at old.progress closing.number).popped; carried = Some closing.rows } in
-      let within : closing.number < length old.system.channels = get_lt old.system.channels closing.number closing.channel of in
-      let many : length settled.progress ≡ length old.system.channels = always.many ∙ ap (λ (s : SystemName). length s.channels) same in
-      let ts : settled.progress ≡ slice_set old.progress closing.number t = ap (λ (s : LoaderState). s.progress) is in
-      let long : length (slice_set old.progress closing.number t) ≡ length old.progress = set_length old.progress closing.number t in
-      let l : length settled.progress ≡ length old.progress = ap length ts ∙ long in
-      ap (λ xs. (progress_at xs closing.number).carried) ts ∙ ap (λ (x : FeederProgress). x.carried) (set_same old.progress closing.number t (omega arith))
-    where
-      set_length : (ts : List FeederProgress) (f : ℕ) (t : FeederProgress) → length (slice_set ts f t) ≡ length ts
-      set_length [] f t = refl
-      set_length (x ∷ ts) zero t = refl
-      set_length (x ∷ ts) (suc f) t = ap suc (set_length ts f t)
-
-  pub others_unchanged : OthersUnchanged closing.number old.progress new.progress
-  others_unchanged k other = pops.others k other ∙ settled_others k other
-
-  pub all_is_popped : IsDrained closing.number new.progress → progress_at new.progress closing.number ≡ all_popped closing.rows
-  all_is_popped drained =
-      let now : FeederProgress = progress_at new.progress closing.number in
-      let settled_is : now.carried ≡ Some closing.rows = pops.settled ∙ settled_carried in
-      let popped_is : now.popped ≡ closing.rows = subst (λ o. IfSome o (λ sent. now.popped ≡ sent)) settled_is drained in
-      by now.popped now.carried popped_is settled_is
-    where
-      by : (rows : List Entries) (settled : Option (List Entries)) → rows ≡ closing.rows → settled ≡ Some closing.rows
-          → record { popped = rows; carried = settled } ≡ all_popped closing.rows
-      by rows settled r t = cc
 
 -- ---- all closings
 
@@ -142,24 +85,6 @@ pub record HasSettled (system : SystemName) (all left : List FeedEnd) (progress 
   pub settled : AreClosingsSettled progress 0 done feds
   pub closings : AreClosings system (length done) left
 
-pub settled_none : (system : SystemName) (all left : List FeedEnd) (progress : List FeederProgress) (feds : List Fed) → left ≡ all → feds ≡ [] → AreClosings system 0 all
-    → HasSettled system all left progress feds
-settled_none system all left progress feds same none closings = record {
-  done = [];
-  parts = sym same;
-  settled = subst (λ xs. AreClosingsSettled progress 0 [] xs) (sym none) tt;
-  closings = subst (λ xs. AreClosings system 0 xs) (sym same) closings;
-}
-
--- what is so of the first closing that is left
-pub closing_of : (system : SystemName) (n : ℕ) (left : List FeedEnd) (end : FeedEnd) (rest : List FeedEnd) → left ≡ end ∷ rest → AreClosings system n left
-    → IfSome end.closing (λ closing. IsClosingOf closing system)
-closing_of system n left end rest is closings = by end.closing (subst (λ xs. AreClosings system n xs) is closings).0
-  where
-    by : (o : Option Sent) → IfSome o (λ closing. (closing.number ≡ n) × IsClosingOf closing system) → IfSome o (λ closing. IsClosingOf closing system)
-    by None of = tt
-    by (Some closing) of = of.1
-
 pub settled_more : (system : SystemName) (all left rest : List FeedEnd) (old new : List FeederProgress) (feds more : List Fed) (end : FeedEnd) (fed : Fed)
     → HasSettled system all left old feds → left ≡ end ∷ rest → more ≡ feds ++ fed ∷ [] → IsFedOf end fed
     → IfSome end.closing (λ closing. (progress_at new closing.number).carried ≡ Some closing.rows)
@@ -193,39 +118,7 @@ settled_more system all left rest old new feds more end fed has is pushed fed_is
     at None of is = tt
     at (Some closing) of is = subst (λ k. (progress_at new k).carried ≡ Some closing.rows) of.0 is
 
-pub settled_each : (system : SystemName) (all left : List FeedEnd) (progress : List FeederProgress) (feds : List Fed) → HasSettled system all left progress feds → left ≡ []
-    → AreClosingsSettled progress 0 all feds
-settled_each system all left progress feds has none =
-    subst (λ xs. AreClosingsSettled progress 0 xs feds) (sym (has.parts ∙ (ap (λ xs. has.done ++ xs) none ∙ append-nil has.done))) has.settled
-
 -- ---- what is left of each feeder is popped
-
-pub unchanged_none : (ts : List FeederProgress) → SettledUnchanged ts ts
-unchanged_none ts k = refl
-
-pub unchanged_more : (f : ℕ) (a b c : List FeederProgress) → SettledUnchanged a b → PopsOnlyOf f b c → SettledUnchanged a c
-unchanged_more f a b c unchanged pops k = by (nat_eq k f) refl
-  where
-    by : (t : Bool) → nat_eq k f ≡ t → (progress_at c k).carried ≡ (progress_at a k).carried
-    by true e = (let same : k ≡ f = grind (arith, nat_tests) in ap (λ m. (progress_at c m).carried) same ∙ (pops.settled ∙ (ap (λ m. (progress_at b m).carried) (sym same) ∙ unchanged k)))
-    by false e = (let other : k ≢ f = λ same. absurd (grind (arith, nat_tests)) in ap (λ (t : FeederProgress). t.carried) (pops.others k other) ∙ unchanged k)
-
-pub drained_more : (n : ℕ) (a b : List FeederProgress) → ((f : ℕ) → f < n → IsDrained f a) → PopsOnlyOf n a b → IsDrained n b → (f : ℕ) → f < n + 1 → IsDrained f b
-drained_more n a b before pops here f lt = by (nat_eq f n) refl
-  where
-    by : (t : Bool) → nat_eq f n ≡ t → IsDrained f b
-    by true e = (let same : n ≡ f = grind (arith, nat_tests) in subst (λ m. IsDrained m b) same here)
-    by false e =
-        let other : f ≢ n = λ same. absurd (grind (arith, nat_tests)) in
-        subst (λ (t : FeederProgress). IfSome t.carried (λ sent. t.popped ≡ sent)) (sym (pops.others f other)) (before f (omega (arith, lt, other)))
-
--- a row of this feeder was refused, since the table is full
-pub full_at : (f : ℕ) (old new : LoaderState) → IsLoaderReply old f (Err load.IndexFull) → ChangesOnlySeen old f new → AlwaysHolds new → IsFullAt f new
-full_at f old new reply looks always = record {
-  may = subst (λ ts. MayLoad ts f) (sym (ap (λ (s : LoaderState). s.progress) looks)) reply.0;
-  many = ap (λ (s : LoaderState). length s.published + length s.staged) looks ∙ (reply.1 ∙ sym (ap (λ (s : LoaderState). s.system.limit) looks));
-  always = always;
-}
 
 -- each closing was settled, and all that it carried was popped
 pub loaded_all : (ts us : List FeederProgress) (n : ℕ) (ends : List FeedEnd) (feds : List Fed) → AreClosingsSettled ts n ends feds → SettledUnchanged ts us

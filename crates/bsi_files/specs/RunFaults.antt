@@ -1,4 +1,5 @@
--- What a fault says of the bytes of the files (`IsFaultOf`) and, while rows are loaded, of sources and feeders.
+-- What is true of the bytes of the files if a run ends with a fault (`IsFaultOf`) and, while rows are loaded, of sources
+-- and feeders.
 use Rattle.std.specs.Prelude.{◌≡◌, ⊤, ℕ, ◌<◌, ◌≤◌, ◌⊎◌, Bool, true, false, List, [], ◌∷◌, All, None, Some, IsSome, MatchOption, length, map, slice_get, take}
 use Rattle.std.specs.List.{sum_by, AllWithin, AllZip}
 use Rattle.csv.specs.Machine.{next_record}

@@ -146,10 +146,6 @@ module _ {X : Type 0} (f : X → List ℕ) where
       let at : suc k + 1 ≡ suc (k + 1) = omega arith in
       ap (λ j. slice_cmp nat_cmp (text_at (map f (y ∷ xs)) k) (text_at (map f (x ∷ y ∷ xs)) j)) at ∙ next
 
--- a text that is there already
-pub has_still : (old : List (List ℕ)) (text : List ℕ) → Contains old text → HasAddedText old text old
-has_still old text there = record { added = there; preserved = λ f has. has; only = λ f has. inl has; same = λ there. refl; len = omega arith }
-
 pub on_ok : {T E : Type 0} (r : Result T E) (P : Type 0) → P → OnOk r P
 on_ok (Ok x) P holds = holds
 on_ok (Err e) P holds = tt

@@ -23,11 +23,6 @@ nothing_left point field old none = record {
   seen = λ is. absurd (cc);
 }
 
--- a code is no decimal of a column
-pub code_left : (point : ℕ) (field : List ℕ) (spelled : Bool) → is_code field ≡ true → (spelled && is_plain_decimal point field) ≡ false
-code_left point field false code = refl
-code_left point field true code = ap (λ b. not b && is_some (decimal_of point field)) code
-
 -- decimals at the most places
 module _ (point : ℕ) (field : List ℕ) (old : Decimals) (places : ℕ) (seen : Seen) (spelled : Bool)
     (was : old.spelled ≡ true) (no_code : is_code field ≡ false) (most : places ≡ max old.places (places_written point field))

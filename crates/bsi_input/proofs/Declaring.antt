@@ -73,14 +73,6 @@ module _ {R : Type 0} (rem : R → KnownBytes) (bytes : List ℕ) (a b : Reader 
     declared = declared_push undeclared_table has.records fields now next has.declared (change_is (table_after now fields) now next done change did);
   }
 
-  pub declared_all : IsOver rem a → read_so_far ≤ max_records → Declares bytes now
-  declared_all over few = record {
-    records = has.records;
-    all = first_all rem bytes a a has.records has.begun over;
-    few = omega (arith, few, has.many);
-    declared_is = has.declared;
-  }
-
   -- the next record can't be done
   pub declared_bad : (fields : List Field) (number : ℕ) (next : DeclaredTable) (done : Bool) → HasReadRecords rem a b (fields ∷ []) → number ≡ read_so_far + 1 → number ≤ max_records
       → IsChange (table_after now fields) now next done → done ≡ false → IsBadDeclaration bytes number

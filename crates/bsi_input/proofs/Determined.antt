@@ -32,7 +32,7 @@ use Rattle.bsi_syntax.specs.Events.{IsEvent, IsQuery, feeder_event, plain_event,
 use Rattle.bsi_syntax.specs.Lines.{answer_line, ask_line, bad_line, done_line, no_memory_line, reply_line, rows_text}
 use Rattle.bsi_rows.specs.Fields.{Field}
 use Rattle.bsi_syntax.specs.Numbers.{feeder_of, values_in}
-use Rattle.bsi_input.specs.Pasts.{FindMemory}
+use Rattle.bsi_input.specs.Pasts.{NoneIsNoMemory}
 use Rattle.bsi_syntax.specs.Predicates.{IsPlainPredicate}
 use Rattle.bsi_input.specs.Scripts.{AreTurns, Declaring, IsTurn, Running, Phase, set_up}
 use Rattle.bsi_syntax.specs.Setups.{nothing_declared}
@@ -282,7 +282,7 @@ abbrev IsFound : List ℕ → Type 0
 IsFound line = line ≢ no_memory_line
 
 one_run : (phase : Phase) (records : List (List Field)) (a b : List (List ℕ)) (last_a last_b : Phase) → HasNames phase
-    → AreTurns phase records a last_a → AreTurns phase records b last_b → FindMemory a → FindMemory b → a ≡ b
+    → AreTurns phase records a last_a → AreTurns phase records b last_b → NoneIsNoMemory a → NoneIsNoMemory b → a ≡ b
 unfolding AreTurns
 one_run phase [] [] [] last_a last_b named x y found_a found_b = refl
 one_run phase [] (line ∷ a) b last_a last_b named x y found_a found_b = absurd x
@@ -296,5 +296,5 @@ one_run phase (fields ∷ records) (one ∷ a) (two ∷ b) last_a last_b named x
     ap₂ (λ line lines. line ∷ lines) first.0 rest
 
 pub determined : (records : List (List Field)) (a b : List (List ℕ)) (last_a last_b : Phase)
-    → AreTurns (Declaring nothing_declared) records a last_a → AreTurns (Declaring nothing_declared) records b last_b → FindMemory a → FindMemory b → a ≡ b
+    → AreTurns (Declaring nothing_declared) records a last_a → AreTurns (Declaring nothing_declared) records b last_b → NoneIsNoMemory a → NoneIsNoMemory b → a ≡ b
 determined records a b last_a last_b = one_run (Declaring nothing_declared) records a b last_a last_b (All-nil _)

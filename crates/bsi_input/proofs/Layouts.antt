@@ -20,11 +20,6 @@ use Rattle.bsi_syntax.proofs.Values.{behind, values_done, values_next, values_st
 -- ---- a test of each element, one after another
 
 module _ {X : Type 0} (p : X → Bool) (xs : List X) (i : ℕ) (d : X) (so_far : list_all p (take i xs) ≡ true) where
-  pub all_next : i < length xs → p (get_or xs i d) ≡ true → list_all p (take (i + 1) xs) ≡ true
-  all_next within passes = list_all_more p xs i d within ∙ ap₂ (λ a b. a && b) so_far passes
-
-  pub all_done : length xs ≤ i → true ≡ list_all p xs
-  all_done all = sym (ap (list_all p) (sym (take_all i xs all)) ∙ so_far)
 
 pub all_stop : {X : Type 0} (p : X → Bool) (xs : List X) (i : ℕ) (d : X) → i < length xs → p (get_or xs i d) ≡ false → false ≡ list_all p xs
 all_stop p xs i d within fails = sym (list_all_at p xs i d within fails)

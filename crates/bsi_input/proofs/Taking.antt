@@ -200,16 +200,6 @@ module _ {R : Type 0} (rem : R → KnownBytes) (a b : Reader R) (fields : List F
           ap (layout_by form) same ∙ ap (λ (l : Format). record { format = l; header = fields }) of
       by false e = absurd (cc (ok, e))
 
-  -- it is no header
-  pub no_header : format.is_header fields ≡ false → ReadRecord rem a b true fields → IfSome (source_of rem a) (HasNoHeader format)
-  no_header is next = by (source_of rem a) refl
-    where
-      by : (o : KnownBytes) → source_of rem a ≡ o → IfSome o (HasNoHeader format)
-      by None e = tt
-      by (Some text) e =
-          let read = first_read text e next in
-          subst (λ o. IfSome o (λ r. format.is_header r.0 ≡ false)) (sym read.1) (ap format.is_header (sym read.2) ∙ is)
-
   -- there is none
   pub no_record : ReadRecord rem a b false fields → IfSome (source_of rem a) (HasNoHeader format)
   no_record next = by (source_of rem a) refl

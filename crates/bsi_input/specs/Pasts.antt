@@ -1,4 +1,4 @@
--- The past of a script run that has begun: the events of its machine and their replies.
+-- The past of a script run that has begun: the events of its machine and their replies, as records and lines say them.
 use Rattle.std.specs.Prelude.{◌≡◌, ◌≢◌, ℕ, true, List, [], ◌∷◌, ◌++◌, All, ◌⊎◌}
 use Rattle.bsi_rows.specs.Runs.{AreLawful, Done, IsConserved, shown_after}
 use Rattle.bsi_rows.specs.Shown.{Shown}
@@ -85,5 +85,5 @@ pub record HasLawfulPast (records : List (List Field)) (lines : List Bytes) (sho
   pub conserved : IsConserved (machine_of setup) past
 
 -- No line is `no memory`.
-abbrev pub FindMemory : List (List ℕ) → Type 0
-FindMemory lines = All (λ line. line ≢ no_memory_line) lines
+abbrev pub NoneIsNoMemory : List (List ℕ) → Type 0
+NoneIsNoMemory lines = All (λ line. line ≢ no_memory_line) lines

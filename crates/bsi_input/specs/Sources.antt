@@ -31,10 +31,6 @@ pub record LayoutOf (F : Type 0) : Type 0 where
 abbrev pub layout_by : {F : Type 0} → (F → Format) → LayoutOf F → Layout
 layout_by form layout = record { format = form layout.format; header = layout.header }
 
--- The layout of a file of whole numbers.
-abbrev pub plain_layout : LayoutOf Declared → Layout
-plain_layout = layout_by plain_format
-
 -- The number of records after the header that were read so far, and of the bad ones among them.
 pub record Counts : Type 0 where
   pub read_so_far : ℕ
@@ -78,10 +74,6 @@ pub record SourceOf (R F : Type 0) : Type 0 where
 abbrev pub source_by : {R F : Type 0} → (F → Format) → SourceOf R F → Source R
 source_by form source = record
     { layout = layout_by form source.layout; input = source.input; counts = source.counts; end = source.end }
-
--- The source of a file of whole numbers.
-abbrev pub plain_source : {R : Type 0} → SourceOf R Declared → Source R
-plain_source = source_by plain_format
 
 -- A reader of records that are written so: it trims nothing, and records may have any number of fields.
 pub record IsReaderBy {R : Type 0} (by : Config) (input : Reader R) : Type 0 where

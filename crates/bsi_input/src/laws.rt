@@ -9,7 +9,7 @@ ghost use Rattle.csv.specs.declared.reader.Reader.{Reader};
 ghost use Rattle.bsi_rows.specs.Shown.{Shown};
 ghost use Rattle.bsi_rows.specs.Rows.{Entries};
 ghost use Rattle.bsi_rows.specs.Fields.{Field};
-ghost use Rattle.bsi_input.specs.Pasts.{FindMemory, HasLawfulPast};
+ghost use Rattle.bsi_input.specs.Pasts.{NoneIsNoMemory, HasLawfulPast};
 ghost use Rattle.bsi_input.specs.Scripts.{AreTurns, Declaring, IsScriptRun, Running};
 ghost use Rattle.bsi_syntax.specs.Setups.{nothing_declared};
 ghost use Rattle.bsi_input.specs.Sources.{counts_of, Counts, HasLeft, HasReadRecords, HasReadRows, IsAfterHeader, IsOver, IsOverBy, IsWholeFile, Layout};
@@ -29,7 +29,7 @@ pub fn nothing_is_lost()
 /// States that two script runs of the same records have the same lines, if neither has a line `no memory`.
 pub fn determined()
     ensures { (records : List (List Field)) → (a b : List (List ℕ)) → IsScriptRun records a →
-        IsScriptRun records b → FindMemory a → FindMemory b → a ≡ b }
+        IsScriptRun records b → NoneIsNoMemory a → NoneIsNoMemory b → a ≡ b }
 {}
 
 /// States that a text has exactly one list of all its records.

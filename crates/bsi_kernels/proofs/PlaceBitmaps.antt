@@ -27,15 +27,6 @@ module _ (own : ℕ) (holds : ℕ → ℕ → Bool) where
     pub own_bits : (j : ℕ) → j < own → j < length rs → bits_at rs j ≡ map (holds j) ds
     own_bits j below within = encoded.each j within ∙ map_same (then_places own holds j) (holds j) (λ v. own_test j v below) ds
 
-    pub place_bits : IsEncoded has_place (drop own rs) ds
-    place_bits = record {
-      each = λ k below.
-          let back : own + k - own ≡ k = omega arith in
-          ap (λ r. r.bits) (get_or-drop own rs k no_bits)
-          ∙ encoded.each (own + k) (omega (arith, below, length-drop own rs))
-          ∙ map_same (then_places own holds (own + k)) (has_place k) (λ v. place_test (own + k) v (omega arith) ∙ ap (λ i. has_place i v) back) ds;
-    }
-
 -- the tests of the digits from the first one on
 pub moved : (marks : ℕ → ℕ → Bool) (base first j v : ℕ) → first ≤ base → then_places base marks (first + j) v ≡ then_places (base - first) (λ i v. marks (first + i) v) j v
 moved marks base first j v low = elim (cases_lt j (base - first)) [

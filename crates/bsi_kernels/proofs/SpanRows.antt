@@ -18,9 +18,6 @@ pub record IsSeen (word_of : ℕ → ℕ → ℕ) (span others : List ℕ) (i se
   pub none : seen ≡ 0 → (k : ℕ) → k < i → word_of (get_or span k 0) (get_or others k 0) ≡ 0
   pub empty : ((k : ℕ) → k < length span → word_of (get_or span k 0) (get_or others k 0) ≡ 0) → seen ≡ 0
 
-pub seen_none : (word_of : ℕ → ℕ → ℕ) (span others : List ℕ) → IsSeen word_of span others 0 0
-seen_none word_of span others = record { none = λ zero_is k below. absurd (omega arith); empty = λ each. refl }
-
 pub seen_more : (word_of : ℕ → ℕ → ℕ) (span others : List ℕ) (i seen word : ℕ) → i < length span → word ≡ word_of (get_or span i 0) (get_or others i 0)
     → IsSeen word_of span others i seen → IsSeen word_of span others (i + 1) (bit_or seen word)
 seen_more word_of span others i seen word within is state = record {

@@ -103,38 +103,12 @@ written_none bit from to old same = record {
   after = λ r past. refl;
 }
 
--- two parts that follow one another
-pub written_both : (bit : ℕ → Bool) (from mid to : ℕ) (old now last : List ℕ) → from ≤ mid → mid ≤ to → IsWrittenWithin bit from mid old now → IsWrittenWithin bit mid to now last → IsWrittenWithin bit from to old last
-written_both bit from mid to old now last low high first second = record {
-  inside = λ r above below. elim (cases_lt r (64 * mid)) [
-    | inl before ↦ second.before r before ∙ first.inside r above before
-    | inr past ↦ second.inside r past below
-  ];
-  before = λ r below. second.before r (omega arith) ∙ first.before r below;
-  after = λ r past. second.after r past ∙ first.after r (omega arith);
-}
-
 -- so many spans are kept, and one more is
 pub narrowed_more : (passes : ℕ → Bool) (from to n m : ℕ) (old now ys : List ℕ) → m ≡ to + n → from ≤ to → length ys ≡ n → m ≤ length now → IsIntersected passes from to old now
     → ((p : ℕ) → p < 64 * n → bit_of ys p ≡ (bit_of now (64 * to + p) && passes (64 * to + p))) → IsIntersected passes from m old (put_chunk to now ys)
 narrowed_more passes from to n m old now ys next above long within narrowed each =
     written_more (λ r. bit_of old r && passes r) from to n m old now ys next above long within narrowed
     (λ p below. each p below ∙ ap (λ b. b && passes (64 * to + p)) (narrowed.after (64 * to + p) (omega arith)))
-
--- none is kept yet
-pub narrowed_none : (passes : ℕ → Bool) (from to : ℕ) (old : List ℕ) → to ≡ from → IsIntersected passes from to old old
-narrowed_none passes from to old same = written_none (λ r. bit_of old r && passes r) from to old same
-
--- two parts that follow one another
-pub narrowed_both : (passes : ℕ → Bool) (from mid to : ℕ) (old now last : List ℕ) → from ≤ mid → mid ≤ to → IsIntersected passes from mid old now → IsIntersected passes mid to now last → IsIntersected passes from to old last
-narrowed_both passes from mid to old now last low high first second = record {
-  inside = λ r above below. elim (cases_lt r (64 * mid)) [
-    | inl before ↦ second.before r before ∙ first.inside r above before
-    | inr past ↦ second.inside r past below ∙ ap (λ b. b && passes r) (first.after r past)
-  ];
-  before = λ r below. second.before r (omega arith) ∙ first.before r below;
-  after = λ r past. second.after r past ∙ first.after r (omega arith);
-}
 
 -- ---- a span cut by another
 

@@ -67,12 +67,12 @@ fn order_spans<const N: usize>(
     'spans: for k in 0..(words.len() - from) / N {
         let at = from + N * k;
         let rows = Simd::<u64, N>::from_slice(&words[at..]);
-        ordered(places, constant, start + at, rows).copy_to_slice(&mut words[at..]);
+        order_span(places, constant, start + at, rows).copy_to_slice(&mut words[at..]);
     }
 }
 
 /// Does so with the rows of a span.
-fn ordered<const N: usize>(
+fn order_span<const N: usize>(
     places: &[Bits],
     constant: u64,
     at: usize,

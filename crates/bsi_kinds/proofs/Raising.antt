@@ -73,11 +73,6 @@ pub map_lowered : (p b : ℕ) (e : ℤ) (found : Option Digits) → pos p +ℤ e
 map_lowered p b e None is some = refl
 map_lowered p b e (Some d) is some = ap (λ s. Some s) (raised_down p b e d is some)
 
--- digits without an exponent that is none
-pub no_exponent : (p : ℕ) (found : Option Digits) → None ≡ option_map (scanned p) (option_and_then (λ digits. option_map (raised digits) None) found)
-no_exponent p None = refl
-no_exponent p (Some d) = refl
-
 -- a number below ten to a power is below one unit of more places
 below_unit : (v k l : ℕ) → v < 10 ^ k → k ≤ l → scanned 0 (record { value = v; places = l }) ≡ record { units = 0; exact = v == 0 }
 below_unit v k l low more =

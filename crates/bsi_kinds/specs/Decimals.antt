@@ -132,11 +132,6 @@ is_exact places digits = (digits.value * 10 ^ places % 10 ^ digits.places) == 0
 abbrev pub scanned : ℕ → Digits → Scanned
 scanned places digits = record { units = min (units_of places digits) most_scanned; exact = is_exact places digits }
 
--- The same, at places moved by an exponent. Below 0 places, digits before the point are lost.
-abbrev pub scanned_raised : ℤ → Digits → Scanned
-scanned_raised (pos places) digits = scanned places digits
-scanned_raised (negsuc e) digits = scanned 0 (raised digits (negsuc e))
-
 -- The units of digits at some places, or none if digits are left over.
 abbrev pub whole_units : ℕ → Digits → Option ℕ
 whole_units places digits = if is_exact places digits then Some (units_of places digits) else None

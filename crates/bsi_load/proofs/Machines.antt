@@ -61,9 +61,6 @@ module _ (P : Entries → Type 0) (old new : Buffer Entries) (row : Entries) whe
 
 -- ---- a queue after its first row was popped
 
-pub taken_all : (P : Entries → Type 0) (rows : List Entries) → All P rows → All P (drop 1 rows)
-taken_all P rows all = All-drop P 1 rows all
-
 -- ---- the first row that waits
 
 pub no_first : (rows : List Entries) → slice_get rows 0 ≡ None → rows ≡ []

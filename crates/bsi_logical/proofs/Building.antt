@@ -138,14 +138,6 @@ pub unchanged : {T : Type 0} (after : Option T) (old new : T) (done : Bool) → 
 unchanged None old new done change not = change.1
 unchanged (Some x) old new done change not = absurd (cc (change.0, not))
 
-pub limit_logical : (l : Logical) (fields : List Field) (new : DeclaredTable) (done : Bool) → word_of (get_or fields 0 []) ≡ Some Limit → IsLogical l
-    → IsChange (table_after (logical_table l) fields) (logical_table l) new done → IsLogical (with_limit l new)
-limit_logical l fields new done word is change = same_columns l new is (by (table_after (logical_table l) fields) refl change)
-  where
-    by : (after : Option DeclaredTable) → table_after (logical_table l) fields ≡ after → IsChange after (logical_table l) new done → new.schema ≡ l.schema
-    by None is change = ap (λ (t : DeclaredTable). t.schema) change.1
-    by (Some t) is change = ap (λ (t : DeclaredTable). t.schema) change.1 ∙ limit_keeps (logical_table l) fields t word is
-
 -- ---- a column
 
 -- a column that stands last

@@ -17,12 +17,6 @@ use Rattle.bsi_logical.specs.declared.logical_text.LogicalFault.TheVariants.{Bad
 use Rattle.bsi_logical.specs.declared.refusal.Refusal.{Refusal}
 use Rattle.bsi_logical.proofs.Saying.{said_push}
 
--- records behind others
-then_next : (next : Logical → Said) (ys : List (List Field)) (o : Said)
-    → said_then (λ a. said_then (λ b. records_said b ys) (next a)) o ≡ said_then (λ b. records_said b ys) (said_then next o)
-then_next next ys (Ok a) = refl
-then_next next ys (Err why) = refl
-
 after_first : (xs ys : List (List Field)) (o : Said)
     → ((a : Logical) → records_said a (xs ++ ys) ≡ said_then (λ b. records_said b ys) (records_said a xs))
     → said_then (λ a. records_said a (xs ++ ys)) o ≡ said_then (λ b. records_said b ys) (said_then (λ a. records_said a xs) o)

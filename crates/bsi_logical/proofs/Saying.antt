@@ -70,14 +70,6 @@ module _ {R : Type 0} (rem : R → KnownBytes) (bytes : List ℕ) (a b : Reader 
     said = said_push nothing_said has.records fields now has.said ∙ is;
   }
 
-  pub said_all : IsOver rem a → read_so_far ≤ max_records → Says bytes now
-  said_all over few = record {
-    records = has.records;
-    all = first_all rem bytes a a has.records has.begun over;
-    few = omega (arith, few, has.many);
-    said = has.said;
-  }
-
   -- the next record says nothing
   said_bad : (fields : List Field) (number : ℕ) (why : Refusal) → HasReadRecords rem a b (fields ∷ []) → number ≡ read_so_far + 1 → number ≤ max_records
       → record_said now fields ≡ Err why → IsRefusedRecord bytes number why

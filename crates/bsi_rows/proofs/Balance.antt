@@ -24,10 +24,6 @@ pub feeders_after : (s : Shown) (past : List Done) → (shown_after s past).feed
 unfolding shown_after
 feeders_after s past = refl
 
-pub rows_after : (s : Shown) (past : List Done) → (shown_after s past).index.rows ≡ indexed s past
-unfolding shown_after
-rows_after s past = refl
-
 pub count_after : (s : Shown) (past : List Done) → length (shown_after s past).feeders ≡ length s.feeders
 count_after s past = ap length (feeders_after s past) ∙ length-map-range_with_len (feeder_after s past) 0 (length s.feeders)
 

@@ -26,10 +26,6 @@ same_feeder v w rows is_closed capacity =
 
 -- ---- before the first event
 
-accepted_start : (s : Shown) (f : ℕ) → accepted s f [] ≡ rows_from f s.index.rows ++ (feeder_at s f).rows
-unfolding accepted
-accepted_start s f = refl
-
 waiting_start : (s : Shown) (f : ℕ) → waiting s f [] ≡ (feeder_at s f).rows
 unfolding accepted loads
 waiting_start s f = drop-append_seam (rows_from f s.index.rows) (feeder_at s f).rows

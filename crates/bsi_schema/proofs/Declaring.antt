@@ -18,10 +18,6 @@ use Rattle.bsi_schema.specs.declared.form.ColumnSpec.TheVariants.{Slices, Equali
 use Rattle.bsi_schema.specs.declared.schema_error.SchemaError.{SchemaError}
 use Rattle.bsi_schema.specs.declared.schema_error.SchemaError.TheVariants.{BadBases, BadOffset}
 
--- a schema of no columns
-pub none_declared : IsDeclared no_columns
-none_declared = record { each = λ c within. absurd (omega arith); some = λ e. absurd cc }
-
 -- an offset more or less
 signed_before : (a b : Bool) → a || b ≡ false → (a ≡ false) × (b ≡ false)
 signed_before false false e = (refl, refl)

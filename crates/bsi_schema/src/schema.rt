@@ -178,7 +178,7 @@ impl Schema {
             (IsFirstOr SchemaError.NoMemory (column_refusal self.old name.now spec)) }
         ensures unchanged { OnErr result (self.new ≡ self.old) }
     {
-        let form = self.checked(name, spec)?;
+        let form = self.check_column(name, spec)?;
         self.push(name, Layout { form, offset: 0 }, false)?;
         Ok(())
     }
@@ -198,7 +198,7 @@ impl Schema {
             (IsFirstOr SchemaError.NoMemory (signed_refusal self.old name.now spec offset)) }
         ensures unchanged { OnErr result (self.new ≡ self.old) }
     {
-        let form = self.checked(name, spec)?;
+        let form = self.check_column(name, spec)?;
         if i128::from(offset) + i128::from(form.size()) > MAX_END {
             return Err(SchemaError::BadOffset);
         }
@@ -207,7 +207,7 @@ impl Schema {
     }
 
     /// Returns the form of a column that may be added under this name, or the refusal of the name or of the form.
-    fn checked(&self, name: &str, spec: ColumnSpec) -> Result<Form, SchemaError>
+    fn check_column(&self, name: &str, spec: ColumnSpec) -> Result<Form, SchemaError>
         ensures refused { result_err result ≡ column_refusal self.now name.now spec }
         ensures free { OnOk result (name_refusal self.now name.now ≡ None) }
         ensures form { IfOk result (λ form. form ≡ form_of spec) }

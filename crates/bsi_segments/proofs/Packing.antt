@@ -102,10 +102,6 @@ clear_past words n few none i from = elim (cases_eq (i / 64) (n / 64)) [
     zero_past : (words : List ℕ) (i : ℕ) → length words ≤ i / 64 → bit_of words i ≡ false
     zero_past words i past = ap (λ w. bit_at w (i % 64) == 1) (get_or_past words (i / 64) 0 past) ∙ ap (λ x. x == 1) (bit_at-zero (i % 64))
 
-pub clear_whole : (words : List ℕ) (n : ℕ) → length words ≡ word_count n → n % 64 ≡ 0 → (i : ℕ) → n ≤ i → bit_of words i ≡ false
-clear_whole words n few whole i from =
-    ap (λ w. bit_at w (i % 64) == 1) (get_or_past words (i / 64) 0 (omega (arith, few))) ∙ ap (λ x. x == 1) (bit_at-zero (i % 64))
-
 value_none : (n : ℕ) → value n (λ i. false) ≡ 0
 unfolding value
 value_none zero = refl

@@ -149,21 +149,6 @@ last_is q bytes is more =
     ap (λ ws. ws ++ word_at bytes q ∷ []) (words_same q (take (8 * q) bytes) bytes (λ i within. get_or-take (8 * q) bytes i 0 within))
     ∙ sym (words_more q bytes) ∙ ap (λ n. words_of n bytes) count
 
-pub no_last : (q : ℕ) (bytes : List ℕ) → q ≡ length bytes / 8 → length bytes ≤ 8 * q → words_of q (take (8 * q) bytes) ≡ packed_bytes bytes
-no_last q bytes is all =
-    let count : q ≡ div_ceil (length bytes) 8 = omega arith in
-    words_same q (take (8 * q) bytes) bytes (λ i within. get_or-take (8 * q) bytes i 0 within) ∙ ap (λ n. words_of n bytes) count
-
--- the bytes of a list that are one longer
-pub padded_word : (bytes padding : List ℕ) → length bytes ≤ 8 → ((i : ℕ) → get_or padding i 0 ≡ 0) → from_le_bytes w64 (bytes ++ padding) ≡ word_at bytes 0
-padded_word bytes padding few zeros = same_words (bytes ++ padding) (take 8 bytes) (λ i within. at i ∙ sym (get_or-take 8 bytes i 0 within))
-  where
-    at : (i : ℕ) → get_or (bytes ++ padding) i 0 ≡ get_or bytes i 0
-    at i = elim (cases_lt i (length bytes)) [
-      | inl within ↦ get_or_append_left bytes padding 0 i within
-      | inr past ↦ get_or-append_right bytes padding i 0 past ∙ zeros (i - length bytes) ∙ sym (get_or_past bytes i 0 past)
-    ]
-
 -- ---- bytes are below 256
 
 pub bytes_of_are : (words : List ℕ) → AreBytes (bytes_of words)

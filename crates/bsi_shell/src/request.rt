@@ -127,7 +127,7 @@ const COMMANDS: [(&str, &[Argument]); 8] = [
 
 impl Argument {
     /// Makes the argument.
-    fn made<'a>(self, alloc: Global) -> Arg<'a> {
+    fn make_arg<'a>(self, alloc: Global) -> Arg<'a> {
         match self {
             Argument::Schema => option(alloc, "schema").required(true),
             Argument::SchemaIfGiven => option(alloc, "schema"),
@@ -290,7 +290,7 @@ fn commands<'a>(alloc: Global) -> Result<Command<'a>, AllocError> {
     let mut command = Command::new(alloc, "bsi")
         .no_binary_name(true)
         .subcommand_required(true);
-    'commands: for (name, arguments) in COMMANDS {
+    'commands: for &(name, arguments) in &COMMANDS {
         command = command.subcommand(command_of(alloc, name, arguments)?)?;
     }
     Ok(command)
@@ -304,7 +304,7 @@ fn command_of<'a>(
 ) -> Result<Command<'a>, AllocError> {
     let mut command = Command::new(alloc, name);
     'arguments: for argument in arguments {
-        command = command.arg(argument.made(alloc))?;
+        command = command.arg(argument.make_arg(alloc))?;
     }
     Ok(command)
 }

@@ -36,26 +36,6 @@ pub record AreGathered (slices : List BitList) (at n : ℕ) (words : List ℕ) :
   pub done : (k r : ℕ) → k < n → r < 64 → (bit_at (get_or words k 0) r == 1) ≡ get_or (bits_at slices k) (64 * at + r) false
   pub rest : (k : ℕ) → n ≤ k → get_or words k 0 ≡ 0
 
-pub gathered_more : (slices : List BitList) (at n : ℕ) (words slice : List ℕ) → n < 64 → ((i : ℕ) → bit_of slice i ≡ get_or (bits_at slices n) i false)
-    → AreGathered slices at n words → AreGathered slices at (n + 1) (set words n (get_or slice at 0))
-gathered_more slices at n words slice near places gathered = record {
-  long = length-set words n (get_or slice at 0) ∙ gathered.long;
-  done = λ k r below low. elim (cases_eq k n) [
-    | inl same ↦
-        ap (λ i. bit_at (get_or (set words n (get_or slice at 0)) i 0) r == 1) same
-        ∙ ap (λ w. bit_at w r == 1) (get_or-set_same words n (get_or slice at 0) 0 (omega (arith, gathered.long)))
-        ∙ in_word r low ∙ places (64 * at + r) ∙ ap (λ i. get_or (bits_at slices i) (64 * at + r) false) (sym same)
-    | inr apart ↦ ap (λ w. bit_at w r == 1) (get_or-set_other words n k (get_or slice at 0) 0 apart) ∙ gathered.done k r (omega arith) low
-  ];
-  rest = λ k past. get_or-set_other words n k (get_or slice at 0) 0 (omega arith) ∙ gathered.rest k (omega arith);
-}
-  where
-    in_word : (r : ℕ) → r < 64 → (bit_at (get_or slice at 0) r == 1) ≡ bit_of slice (64 * at + r)
-    in_word r low =
-        let word : at ≡ (64 * at + r) / 64 = omega arith in
-        let place : r ≡ (64 * at + r) % 64 = omega arith in
-        ap₂ (λ i p. bit_at (get_or slice i 0) p == 1) word place
-
 -- once turned, they are the numbers
 pub gathered_numbers : (slices : List BitList) (at : ℕ) (words numbers : List ℕ) (r : ℕ) → length slices ≤ 63 → r < 64 → get_or numbers r 0 < 2 ^ 64
     → ((k : ℕ) → k < 64 → bit_at (get_or numbers r 0) k ≡ bit_at (get_or words k 0) r) → AreGathered slices at (length slices) words

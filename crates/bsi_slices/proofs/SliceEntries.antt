@@ -26,13 +26,6 @@ slice_read [] i slice within is = absurd (omega arith)
 slice_read (s ∷ slices) zero slice within is = ap (λ b. b.bits) is
 slice_read (s ∷ slices) (suc i) slice within is = slice_read slices i slice (omega arith) is
 
--- one more slice after the others
-pub slice_after : (slices : List BitList) (last : BitList) → bits_at (slices ++ last ∷ []) (length slices) ≡ last.bits
-slice_after slices last = ap (λ s. s.bits) (get_or-append_seam slices last [] no_bits)
-
-pub slice_before : (slices : List BitList) (last : BitList) (k : ℕ) → k < length slices → bits_at (slices ++ last ∷ []) k ≡ bits_at slices k
-slice_before slices last k below = ap (λ s. s.bits) (get_or_append_left slices (last ∷ []) no_bits k below)
-
 -- as many entries as there are marks
 pub length-entries_in : (not_null : List Bool) (slices : List BitList) → length (entries_in not_null slices) ≡ length not_null
 unfolding entries_in
@@ -137,14 +130,3 @@ module _ (not_null now : List Bool) (old new : List BitList) (marks : now ≡ no
     even = λ k within. ap length (same k (omega arith)) ∙ sliced.even k (omega arith) ∙ sym (ap length marks);
     clear = λ r within null. alike r ∙ sliced.clear r (omega (arith, ap length marks)) (ap (λ p. get_or p r false) (sym marks) ∙ null);
   }
-
--- empty slices are a column's
-pub sliced_empty : (not_null : List Bool) (slices : List BitList) → 1 ≤ length slices → length slices ≤ 63 → not_null ≡ []
-    → ((k : ℕ) → k < length slices → bits_at slices k ≡ []) → IsSliced not_null slices
-sliced_empty not_null slices some few none each = record {
-  some = some;
-  few = few;
-  small = omega (arith, ap length none);
-  even = λ k within. ap length (each k within) ∙ sym (ap length none);
-  clear = λ r within null. absurd (omega (arith, ap length none));
-}

@@ -53,19 +53,19 @@ pub fn decide(op: Op, constant: u64, size: u64) -> Decision
         };
     }
     match op {
-        Op::Eq => tested(Relation::Equal, constant, true),
-        Op::Ne => tested(Relation::Equal, constant, false),
-        Op::Le => tested(Relation::AtMost, constant, true),
-        Op::Gt => tested(Relation::AtMost, constant, false),
+        Op::Eq => decide_by(Relation::Equal, constant, true),
+        Op::Ne => decide_by(Relation::Equal, constant, false),
+        Op::Le => decide_by(Relation::AtMost, constant, true),
+        Op::Gt => decide_by(Relation::AtMost, constant, false),
         Op::Lt if constant == 0 => Decision::Nothing,
         Op::Ge if constant == 0 => Decision::Everything,
-        Op::Lt => tested(Relation::AtMost, constant - 1, true),
-        Op::Ge => tested(Relation::AtMost, constant - 1, false),
+        Op::Lt => decide_by(Relation::AtMost, constant - 1, true),
+        Op::Ge => decide_by(Relation::AtMost, constant - 1, false),
     }
 }
 
 /// Returns the decision for the numbers in a relation to a constant or, unless `expected`, for all other numbers.
-fn tested(relation: Relation, constant: u64, expected: bool) -> Decision
+fn decide_by(relation: Relation, constant: u64, expected: bool) -> Decision
     ensures { result ≡ Tested
         (record { relation = relation; constant = constant; expected = expected }) }
 {

@@ -3,8 +3,8 @@ use Rattle.std.proofs.Common.{◌≡◌, ℕ, ◌<◌, All, Bool, List, length, 
 use Rattle.std.specs.List.{flat_map}
 use Rattle.std.proofs.lemmas.List.{get_or-map, get_or_default, length-map}
 use Rattle.std.proofs.lemmas.List.Elements.{All-from_get_or}
-use Rattle.bsi_chosen.specs.Chosen.{chosen_rows, chosen_schema, chosen_table, place_in, Shows}
-use Rattle.bsi_chosen.proofs.Shown.{chosen-show, fitting-chosen, wide-fitting}
+use Rattle.bsi_projection.specs.Chosen.{chosen_rows, chosen_schema, chosen_table, place_in, Shows}
+use Rattle.bsi_projection.proofs.Shown.{chosen-show, fitting-chosen, wide-fitting}
 use Rattle.bsi_rows.specs.Rows.{column_of, feeders_of, SourcedRow}
 use Rattle.bsi_rows.specs.Table.{table, AreFitting, Table}
 use Rattle.bsi_schema.specs.Columns.{column_at, no_column, Declared, IsColumn, IsDeclared, NamedColumn}
@@ -12,7 +12,7 @@ use Rattle.bsi_shift.specs.Shifted.{shifted_entries, OffsetColumn}
 use Rattle.bsi_table.specs.Bitmaps.{bitmaps_of, entries_bitmaps}
 use Rattle.bsi_table.specs.Encoded.{encoded_at, sourced_rows, AreEncoded, Encodes}
 use Rattle.bsi_table.proofs.RowBitmaps.{fed-bitmaps, fed-feeders, fed-fitting, same_rows}
-use Rattle.bsi_storage.specs.ChosenColumns.{column_place, feeders_place, said_feeders, AreChosenColumns, BeginsAt, IsHeadOf, SaysChosen, SaysZones}
+use Rattle.bsi_storage.specs.ChosenColumns.{column_place, feeders_place, feeders_in_head, AreChosenColumns, BeginsAt, IsHeadOf, SaysChosen, HasZones}
 use Rattle.bsi_storage.specs.Heads.{feeder_checksum, numbers_of, zone_words}
 use Rattle.bsi_storage.specs.Saved.{feeder_words}
 use Rattle.bsi_storage.specs.declared.segment_head.SegmentHead.{SegmentHead}
@@ -21,7 +21,7 @@ use Rattle.bsi_storage.proofs.PlacedColumns.{column_there, feeders_there}
 use Rattle.bsi_storage.proofs.PlacedFaults.{zone_said}
 use Rattle.bsi_segments.specs.Bitmaps.{packed}
 use Rattle.bsi_segments.specs.Lanes.{lanes_of}
-use Rattle.bsi_places.specs.Places.{StandAt}
+use Rattle.bsi_pread.specs.Offsets.{StandAt}
 use Rattle.bsi_syntax.specs.Bytes.{KnownBytes}
 
 module _ (known : KnownBytes) (first : SegmentHead) (chosen : List ℕ) (narrow : Declared) (made : narrow ≡ chosen_schema chosen first.front.schema)
@@ -101,7 +101,7 @@ module _ (known : KnownBytes) (first : SegmentHead) (chosen : List ℕ) (narrow 
     table_is count same = λ i. table (narrow_is i) ((same ∙ is.feeders) i) (is.limit i) (rows_are i)
 
     -- the head says the zones of these rows
-    pub zones_are : (u : Table) → u ≡ chosen_table chosen t → SaysZones first chosen u.rows (length chosen)
+    pub zones_are : (u : Table) → u ≡ chosen_table chosen t → HasZones first chosen u.rows (length chosen)
     zones_are u same k below =
         let c = get_or chosen k 0 in
         let place : get_or chosen k (length t.schema.columns) ≡ c = get_or_default chosen k (length t.schema.columns) 0 below in
@@ -111,7 +111,7 @@ module _ (known : KnownBytes) (first : SegmentHead) (chosen : List ℕ) (narrow 
   -- what was read stands in the file, as the head says
   module _ (row_feeders : List ℕ) (long : length row_feeders ≡ first.front.sizes.rows)
       (stands : StandAt known (feeders_place first) (feeder_words first.front.sizes.feeders row_feeders))
-      (said : said_feeders first ≡ feeder_checksum first.front.sizes.feeders row_feeders)
+      (said : feeders_in_head first ≡ feeder_checksum first.front.sizes.feeders row_feeders)
       (u : Table) (schema : u.schema ≡ narrow) (rows : u.rows ≡ sourced_rows row_feeders columns) where
     fed_columns : AreEncoded narrow.columns columns (length row_feeders)
     fed_columns = subst (AreEncoded narrow.columns columns) (sym long) encoded
@@ -126,7 +126,7 @@ module _ (known : KnownBytes) (first : SegmentHead) (chosen : List ℕ) (narrow 
     feeders_are : row_feeders ≡ feeders_of u.rows
     feeders_are = sym (fed-feeders narrow.columns columns row_feeders fed_columns) ∙ ap feeders_of (sym rows)
 
-    pub says_chosen : SaysZones first chosen u.rows (length chosen) → SaysChosen known first chosen u.schema u.rows
+    pub says_chosen : HasZones first chosen u.rows (length chosen) → SaysChosen known first chosen u.schema u.rows
     says_chosen zones = record {
       narrow = schema ∙ made;
       many = sym (feeders_long u.rows) ∙ ap (λ (fs : List ℕ). length fs) (sym feeders_are) ∙ long;

@@ -7,8 +7,8 @@ use Rattle.std.proofs.Math.Seq.{get_or-append_seam, take-suc}
 use Rattle.std.proofs.lemmas.Grind.{flat_map-append}
 use Rattle.std.proofs.lemmas.List.{drop_at, drop-drop, length-map, map-append, take_all}
 use Rattle.std.proofs.lemmas.List.Elements.{All-append, All-head, All-nil, All-tail}
-use Rattle.bsi_chosen.specs.Chosen.{chosen_entries, chosen_table}
-use Rattle.bsi_places.specs.Places.{known_from}
+use Rattle.bsi_projection.specs.Chosen.{chosen_entries, chosen_table}
+use Rattle.bsi_pread.specs.Offsets.{known_from}
 use Rattle.bsi_rows.specs.Rows.{row_entries, SourcedRow}
 use Rattle.bsi_rows.specs.Table.{with_rows, AreFitting, Table}
 use Rattle.bsi_schema.specs.Columns.{fits, Declared}

@@ -125,15 +125,6 @@ more_read version a b c t more notes next kinds others size read consumed valid 
 
 -- ---- faults
 
--- a fault of counted words is met where a table was to be read
-pub segment_met : (Is : Table → List ℕ → Type 0) (a b : KnownBytes) (fault : SegmentFault) → MeetsFault a b fault → IsNextSegmentFault Is a b (open_fault fault)
-segment_met Is a b segment_fault.NotASegment met = met
-segment_met Is a b segment_fault.OtherVersion met = met
-segment_met Is a b segment_fault.CutShort met = inl met
-segment_met Is a b segment_fault.Damaged met = inl met
-segment_met Is a b segment_fault.Read met = tt
-segment_met Is a b segment_fault.NoMemory met = tt
-
 -- and where the rows are not all read
 pub rows_met : (head : List ℕ) (rows feeders : ℕ) (schema : Declared) → AreWords head → IsFront Two head rows feeders schema → (a b c : KnownBytes) (fault : SegmentFault)
     → StopsBefore b c (rows_word_count schema feeders rows) fault → Consumes a b (bytes_of (counted Two head)) → IsNextSegmentFault IsAny a c (open_fault fault)
@@ -153,22 +144,3 @@ rows_met head rows feeders schema fit front a b c segment_fault.CutShort stops c
 rows_met head rows feeders schema fit front a b c segment_fault.Damaged stops consumed = absurd stops
 rows_met head rows feeders schema fit front a b c segment_fault.Read stops consumed = tt
 rows_met head rows feeders schema fit front a b c segment_fault.NoMemory stops consumed = tt
-
--- of whichever tables
-pub any_met : (Is : Table → List ℕ → Type 0) (a b : KnownBytes) (fault : OpenFault) → IsNextSegmentFault IsAny a b fault → IsNextSegmentFault Is a b fault
-any_met Is a b NotAnIndex met = met
-any_met Is a b OtherVersion met = met
-any_met Is a b CutShort met = met
-any_met Is a b Damaged (inl met) = inl met
-any_met Is a b Damaged (inr (inl none)) = inr (inl none)
-any_met Is a b Damaged (inr (inr other)) = absurd (other.none tt)
-any_met Is a b Read met = tt
-any_met Is a b NoMemory met = tt
-
-pub first_met : (a b : KnownBytes) (fault : OpenFault) → IsNextSegmentFault IsAny a b fault → IsFirstSegmentFault a b fault
-first_met a b NotAnIndex met = inl met
-first_met a b OtherVersion met = met
-first_met a b CutShort met = met
-first_met a b Damaged met = met
-first_met a b Read met = met
-first_met a b NoMemory met = met

@@ -10,7 +10,7 @@ use Rattle.std.proofs.lemmas.Grind.{flat_map-append}
 use Rattle.std.proofs.lemmas.List.{drop-drop, drop_at, get_or_append_left, length-map, take_all, take_at}
 use Rattle.std.proofs.lemmas.List.Elements.{All-from_get_or}
 use Rattle.bsi_bits.specs.BitList.{word_count}
-use Rattle.bsi_places.specs.Places.{known_from, StandAt}
+use Rattle.bsi_pread.specs.Offsets.{known_from, StandAt}
 use Rattle.bsi_rows.specs.Rows.{column_of, feeders_of, SourcedRow}
 use Rattle.bsi_rows.specs.Table.{Table}
 use Rattle.bsi_schema.specs.Columns.{column_at, entry_at, Declared, Entries, IsForm, NamedColumn}

@@ -6,8 +6,8 @@ use Rattle.std.proofs.lemmas.Bool.{cases_eq}
 use Rattle.std.proofs.lemmas.Grind.{flat_map-append}
 use Rattle.std.proofs.lemmas.List.{drop_at, get_or-map, get_or-take, length-map, take_all, take_at}
 use Rattle.bsi_bits.specs.BitList.{word_count}
-use Rattle.bsi_places.proofs.Placing.{ends_before}
-use Rattle.bsi_places.specs.Places.{known_from, AreNoBitmaps, IsNoBitmap, StandAt}
+use Rattle.bsi_pread.proofs.Placing.{ends_before}
+use Rattle.bsi_pread.specs.Offsets.{known_from, AreNoBitmaps, IsNoBitmap, StandAt}
 use Rattle.bsi_rows.specs.Rows.{column_of, feeders_of, SourcedRow}
 use Rattle.bsi_rows.specs.Table.{Table}
 use Rattle.bsi_schema.specs.Columns.{column_at, Declared, NamedColumn}
@@ -23,7 +23,7 @@ use Rattle.bsi_segments.proofs.Chunks.{length-all, length-packed}
 use Rattle.bsi_segments.proofs.Eights.{length-bytes_of}
 use Rattle.bsi_segments.proofs.Unique.{no_fault}
 use Rattle.bsi_table.specs.Bitmaps.{bitmap_count, bitmaps_of}
-use Rattle.bsi_storage.specs.ChosenColumns.{column_place, feeders_place, said_feeders, said_zone, BeginsAt, BeginsBy, IsHeadOf}
+use Rattle.bsi_storage.specs.ChosenColumns.{column_place, feeders_place, feeders_in_head, zone_in_head, BeginsAt, BeginsBy, IsHeadOf}
 use Rattle.bsi_storage.specs.Decoding.{bitmaps_in, feeder_word_count}
 use Rattle.bsi_storage.specs.Faults.{open_fault}
 use Rattle.bsi_storage.specs.Heads.{column_head, column_heads, feeder_checksum, head, numbers_of, zone_words}
@@ -249,14 +249,14 @@ module _ (known : KnownBytes) (at : ℕ) (t : Table) (notes kinds : List ℕ) (b
         bits_fault sums sums_are fault (subst (Of t.schema) is.rows one)
 
   -- what the head says of the feeders
-  pub said_there : said_feeders first ≡ feeder_checksum first.front.sizes.feeders (feeders_of t.rows)
+  pub said_there : feeders_in_head first ≡ feeder_checksum first.front.sizes.feeders (feeders_of t.rows)
   said_there =
       ap (λ (s : Declared). drop (3 * length s.columns + bitmaps_in s.columns) first.behind.items) is.schema
       ∙ feeders_said t first.behind.items is.behind
       ∙ ap (λ n. feeder_checksum n (feeders_of t.rows)) (sym is.feeders)
 
   -- and of the zone of a column
-  pub zone_said : (c : ℕ) → c < length t.schema.columns → said_zone first c ≡ zone_words (numbers_of (column_of t.rows c))
+  pub zone_said : (c : ℕ) → c < length t.schema.columns → zone_in_head first c ≡ zone_words (numbers_of (column_of t.rows c))
   zone_said c within =
       ap (λ (s : Declared). take 3 (drop (3 * c + bitmaps_in (take c s.columns)) first.behind.items)) is.schema
       ∙ zone_there t first.behind.items c within is.behind

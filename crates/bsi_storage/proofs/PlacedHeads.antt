@@ -1,7 +1,7 @@
 -- The head that stands at a place is that of the table whose segment begins there.
 use Rattle.std.proofs.Common.{◌≡◌, ℕ, List, [], ◌++◌, Some, ap, subst, ◌∙◌}
 use Rattle.std.specs.Io.KnownBytes.{Consumes}
-use Rattle.bsi_places.specs.Places.{known_from}
+use Rattle.bsi_pread.specs.Offsets.{known_from}
 use Rattle.bsi_rows.specs.Table.{Table}
 use Rattle.bsi_segments.specs.Segments.{bytes_of, counted, AreWords, ReadsToEnd}
 use Rattle.bsi_segments.specs.declared.version.Version.{Version}

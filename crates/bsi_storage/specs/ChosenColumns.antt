@@ -2,8 +2,8 @@
 use Rattle.std.specs.Prelude.{◌≡◌, ℕ, ◌+◌, ◌*◌, ◌<◌, ◌++◌, List, Some, drop, length, map, slice_index, take}
 use Rattle.std.specs.List.{flat_map}
 use Rattle.bsi_bits.specs.BitList.{word_count}
-use Rattle.bsi_chosen.specs.Chosen.{chosen_schema}
-use Rattle.bsi_places.specs.Places.{known_from, StandAt}
+use Rattle.bsi_projection.specs.Chosen.{chosen_schema}
+use Rattle.bsi_pread.specs.Offsets.{known_from, StandAt}
 use Rattle.bsi_rows.specs.Rows.{column_of, feeders_of, SourcedRow}
 use Rattle.bsi_rows.specs.Table.{Table}
 use Rattle.bsi_schema.specs.Columns.{column_at, Declared}
@@ -54,8 +54,8 @@ abbrev pub feeders_place : SegmentHead → ℕ
 feeders_place first = first.rows_at + 8 * (bitmaps_in first.front.schema.columns * word_count first.front.sizes.rows)
 
 -- What the head says of the zone of column c.
-abbrev pub said_zone : SegmentHead → ℕ → List ℕ
-said_zone first c = take 3 (drop (3 * c + bitmaps_in (take c first.front.schema.columns)) first.behind.items)
+abbrev pub zone_in_head : SegmentHead → ℕ → List ℕ
+zone_in_head first c = take 3 (drop (3 * c + bitmaps_in (take c first.front.schema.columns)) first.behind.items)
 
 -- What it says of the checksums of its bitmaps.
 abbrev pub said_sums : SegmentHead → ℕ → List ℕ
@@ -64,14 +64,14 @@ said_sums first c =
     (drop (3 * (c + 1) + bitmaps_in (take c first.front.schema.columns)) first.behind.items)
 
 -- What it says of the checksum of the feeders.
-abbrev pub said_feeders : SegmentHead → List ℕ
-said_feeders first =
+abbrev pub feeders_in_head : SegmentHead → List ℕ
+feeders_in_head first =
     drop (3 * length first.front.schema.columns + bitmaps_in first.front.schema.columns) first.behind.items
 
 -- The head says the zones of the first `count` chosen columns of these rows.
-abbrev pub SaysZones : SegmentHead → List ℕ → List SourcedRow → ℕ → Type 0
-SaysZones first chosen rows count =
-    (k : ℕ) → k < count → said_zone first (slice_index chosen k) ≡ zone_words (numbers_of (column_of rows k))
+abbrev pub HasZones : SegmentHead → List ℕ → List SourcedRow → ℕ → Type 0
+HasZones first chosen rows count =
+    (k : ℕ) → k < count → zone_in_head first (slice_index chosen k) ≡ zone_words (numbers_of (column_of rows k))
 
 -- The first `count` of the chosen columns, with all their rows, as their bitmaps stand in the file.
 pub record AreChosenColumns (known : KnownBytes) (first : SegmentHead) (chosen : List ℕ) (encoded : List OffsetColumn) (count : ℕ) : Type 0 where
@@ -99,7 +99,7 @@ pub record SaysChosen (known : KnownBytes) (first : SegmentHead) (chosen : List 
   -- They have the checksums that the head says.
   pub sums : (k : ℕ) → k < length chosen
       → said_sums first (slice_index chosen k) ≡ map (λ bits. lanes_of (packed bits)) (bitmaps_of schema rows k)
-  pub zones : SaysZones first chosen rows (length chosen)
+  pub zones : HasZones first chosen rows (length chosen)
   -- The feeders of the rows stand in their place, with the checksum that the head says.
   pub feeders : StandAt known (feeders_place first) (feeder_words first.front.sizes.feeders (feeders_of rows))
-  pub feeder_sum : said_feeders first ≡ feeder_checksum first.front.sizes.feeders (feeders_of rows)
+  pub feeder_sum : feeders_in_head first ≡ feeder_checksum first.front.sizes.feeders (feeders_of rows)

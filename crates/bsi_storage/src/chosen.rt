@@ -3,15 +3,15 @@
 
 ghost use Rattle.std.specs.Prelude.{◌≡◌, ◌<◌, ℕ, All, IfErr, IfNone, IfOk, IfSome, length, map};
 ghost use Rattle.std.specs.List.{flat_map};
-ghost use Rattle.bsi_chosen.specs.Chosen.{chosen_table};
-ghost use Rattle.bsi_places.specs.Places.{StandAt};
+ghost use Rattle.bsi_projection.specs.Chosen.{chosen_table};
+ghost use Rattle.bsi_pread.specs.Offsets.{StandAt};
 ghost use Rattle.bsi_rows.specs.Table.{Table};
 ghost use Rattle.bsi_schema.specs.Columns.{column_at, IsDeclared};
 ghost use Rattle.bsi_segments.specs.Bitmaps.{packed};
 ghost use Rattle.bsi_segments.specs.Lanes.{lanes_of};
 ghost use Rattle.bsi_shift.specs.Shifted.{shifted_entries};
 ghost use Rattle.bsi_storage.specs.Choices.{IsChoice};
-ghost use Rattle.bsi_storage.specs.ChosenColumns.{column_place, feeders_place, said_feeders, said_sums, AreChosenColumns, BeginsAt, IsHeadOf, SaysChosen};
+ghost use Rattle.bsi_storage.specs.ChosenColumns.{column_place, feeders_place, feeders_in_head, said_sums, AreChosenColumns, BeginsAt, IsHeadOf, SaysChosen};
 ghost use Rattle.bsi_storage.specs.Decoding.{AreSizes};
 ghost use Rattle.bsi_storage.specs.Heads.{feeder_checksum};
 ghost use Rattle.bsi_storage.specs.Opens.{IsReadOrNoMemory};
@@ -25,10 +25,10 @@ use crate::OpenFault;
 use crate::chosen_schema::choose_columns;
 use crate::decoding::decode_origins;
 use crate::fronts::{count_all_bitmaps, count_feeder_words};
-use crate::said::{says_feeders, says_zones};
+use crate::head_checks::{matches_feeders, matches_zones};
 use crate::segment_head::{SegmentHead, count_bitmaps_before, find_place, find_sums};
 use bsi_origins::Origins;
-use bsi_places::{At, ReadAt, read_bitmaps};
+use bsi_pread::{At, ReadAt, read_bitmaps};
 use bsi_segments::read_words;
 use bsi_shift::Shifted;
 use bsi_table::{Index, column_from_bitmaps, count_bitmaps};
@@ -113,7 +113,7 @@ fn read_origins<R: ReadAt>(
         All (λ feeder. feeder < head.now.front.sizes.feeders) origins.rows) }
     ensures stands { IfOk result (λ origins. StandAt (R.all_bytes reader.now)
         (feeders_place head.now) (feeder_words head.now.front.sizes.feeders origins.rows)) }
-    ensures said { IfOk result (λ origins. said_feeders head.now
+    ensures said { IfOk result (λ origins. feeders_in_head head.now
         ≡ feeder_checksum head.now.front.sizes.feeders origins.rows) }
     ensures fault { IfErr result (λ fault. (at : ℕ) → (t : Table) → (notes kinds : Bytes) →
         BeginsAt (R.all_bytes reader.now) at t notes kinds → IsHeadOf head.now at t notes kinds →
@@ -128,7 +128,7 @@ fn read_origins<R: ReadAt>(
     let mut words = Vec::new(alloc);
     let mut place = At::new(reader, at);
     read_words(&mut place, count, &mut words)?;
-    if !says_feeders(head, &words) {
+    if !matches_feeders(head, &words) {
         return Err(OpenFault::Damaged);
     }
     match decode_origins(alloc, sizes.feeders, sizes.rows, &words)? {
@@ -172,7 +172,7 @@ pub(crate) fn open_segment<R: ReadAt>(
     let _ = head.front.schema.limits();
     let origins = read_origins(alloc, reader, head)?;
     let index = Index::from_parts(alloc, narrow, columns, origins, head.front.sizes.limit)?;
-    if !says_zones(head, chosen, &index)? {
+    if !matches_zones(head, chosen, &index)? {
         return Err(OpenFault::Damaged);
     }
     Ok(Some(index))

@@ -3,7 +3,7 @@
 ghost use Rattle.std.specs.Prelude.{◌≡◌, ◌≢◌, ◌<◌, reverse, false, true, All, IfNone, IfOk, IfSome, MatchResult, length};
 ghost use Rattle.bsi_schema.specs.Columns.{column_at, form_of, with_column, MayFollow};
 ghost use Rattle.bsi_schema.specs.declared.schema_error.SchemaError.{SchemaError};
-ghost use Rattle.bsi_chosen.specs.Chosen.{chosen_schema};
+ghost use Rattle.bsi_projection.specs.Chosen.{chosen_schema};
 ghost use Rattle.bsi_storage.specs.Choices.{IsChoice};
 
 use crate::NoMemory;

@@ -4,8 +4,8 @@
 ghost use Rattle.std.specs.Prelude.{◌≡◌, ◌+◌, ◌*◌, ◌<◌, ◌≤◌, ◌++◌, [], ℕ, List, Option, Some, All, false, true, IfErr, IfNone, IfOk, IfSome, length};
 ghost use Rattle.std.specs.Io.KnownBytes.{IsAtEnd};
 ghost use Rattle.std.specs.List.{AllZip};
-ghost use Rattle.bsi_chosen.specs.Chosen.{chosen_table};
-ghost use Rattle.bsi_places.specs.Places.{known_from};
+ghost use Rattle.bsi_projection.specs.Chosen.{chosen_table};
+ghost use Rattle.bsi_pread.specs.Offsets.{known_from};
 ghost use Rattle.bsi_rows.specs.Rows.{SourcedRow};
 ghost use Rattle.bsi_rows.specs.Table.{with_rows, Table};
 ghost use Rattle.bsi_storage.specs.Choices.{IsChoice};
@@ -22,7 +22,7 @@ use crate::chosen::open_segment;
 use crate::fronts::count_row_words;
 use crate::opening::accepts_rows_of;
 use crate::segment_head::{SegmentHead, read_head};
-use bsi_places::ReadAt;
+use bsi_pread::ReadAt;
 use bsi_table::{Index, Schema};
 use std::alloc::Global;
 

@@ -8,11 +8,11 @@ mod decoding;
 mod fault;
 mod file_heads;
 mod fronts;
+mod head_checks;
 mod heads;
 mod laws;
 mod opening;
 mod rows;
-mod said;
 mod segment_head;
 mod writing;
 

@@ -3,7 +3,7 @@
 
 ghost use Rattle.std.specs.Prelude.{◌≡◌, ◌+◌, ◌*◌, ◌^◌, ◌<◌, ◌≤◌, drop, take, IfErr, IfNone, IfOk, IfSome, length};
 ghost use Rattle.bsi_bits.specs.BitList.{word_count};
-ghost use Rattle.bsi_places.specs.Places.{known_from};
+ghost use Rattle.bsi_pread.specs.Offsets.{known_from};
 ghost use Rattle.bsi_rows.specs.Table.{Table};
 ghost use Rattle.bsi_schema.specs.Columns.{IsDeclared};
 ghost use Rattle.bsi_segments.specs.declared.version.Version.{Version};
@@ -14,7 +14,7 @@ ghost use Rattle.bsi_syntax.specs.Bytes.{Bytes};
 
 use crate::OpenFault;
 use crate::fronts::{Front, decode_front};
-use bsi_places::{At, ReadAt};
+use bsi_pread::{At, ReadAt};
 use bsi_segments::{Version, read_counted};
 use bsi_table::{Schema, count_bitmaps};
 use std::alloc::Global;

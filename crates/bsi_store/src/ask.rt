@@ -13,7 +13,7 @@ use crate::lock::{LockFile, PlacedFile};
 use crate::opening::{open_file, open_index};
 use crate::{FileFault, StoreFault};
 use bsi_answers::{FilesFault, Grammar, answer_asks};
-use bsi_named::{NamedFault, answer_named_asks};
+use bsi_pruning::{NamedFault, answer_named_asks};
 use bsi_storage::OpenFault;
 use std::io::{Read, Write};
 use std::rt::Files;

@@ -1,9 +1,9 @@
 //! The lock on a file: one command writes it, and then none reads it. A locked file may be read at places (`PlacedFile`).
 
 ghost use Rattle.std.specs.Io.{ReadsAtMost};
-ghost use Rattle.bsi_places.specs.Places.{ReadsFrom};
+ghost use Rattle.bsi_pread.specs.Offsets.{ReadsFrom};
 
-use bsi_places::ReadAt;
+use bsi_pread::ReadAt;
 use std::fs::{File, TryLockError};
 use std::io;
 use std::io::{Read, Seek};

@@ -83,9 +83,3 @@ module _ (header : List Field) (distinct : AreDistinct header) where
 
     pub titled_once : is_titled_once header (get_or header c []) ≡ true
     titled_once = eq-eqb (count_by is_same header) 1 count_is
-
-  -- each field is titled once
-  pub all_once : list_all (is_titled_once header) header ≡ true
-  all_once =
-      list_all-from_AllPass (is_titled_once header) header
-      (λ k d within. ap (is_titled_once header) (get_or_default header k d [] within) ∙ titled_once k within)

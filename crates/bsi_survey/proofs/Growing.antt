@@ -72,13 +72,6 @@ pub observed_push : (words fields : List Field) (field : Field) (old now new : C
 observed_push words [] field old now new same step = (new, subst (λ (c : Candidates). IsStep words field c new) same step, refl)
 observed_push words (first ∷ fields) field old now new seen step = (seen.0, seen.1, observed_push words fields field seen.0 now new seen.2 step)
 
--- texts alone, before any field
-pub texts_first : (point : ℕ) (c : Candidates) → IsNewTextColumn c → LooksForTexts c
-texts_first point c new = record {
-  forms = new.forms;
-  decimals = λ f. subst (λ (s : Decimals). AcceptsDecimal c.point s f) (sym new.decimals) (record { number = tt; plain = λ no. absurd (cc) });
-}
-
 -- another part was joined
 pub joined : (old other new : Candidates) → HaveSameForms old new → HasJoinedKinds old other new → ((f : Field) → Accepts old f → Accepts new f) → IsGrown old new
 joined old other new alike kinds preserved = record {
@@ -86,24 +79,10 @@ joined old other new alike kinds preserved = record {
   looked = looked_still old new alike (λ all f. subst (λ (p : ℕ). AcceptsDecimal p new.decimals f) (sym kinds.point) (kinds.decimals.preserved old.point f (all f)));
 }
 
--- two that look for the same
-pub same_forms : (point : ℕ) (first second : Candidates) → LooksFor point first → LooksFor point second → HaveSameForms first second
-same_forms point first second one two = record {
-  point = one.decimals ∙ sym two.decimals;
-  rounding = one.rounding ∙ sym two.rounding;
-  forms = one.forms ∙ sym two.forms;
-}
-
 -- ---- all columns
 
 pub all_same : (cs : List Candidates) → AreGrown cs cs
 all_same cs = record { len = refl; each = λ c d within. grown_same (get_or cs c d) }
-
-pub all_then : (a b c : List Candidates) → AreGrown a b → AreGrown b c → AreGrown a c
-all_then a b c one two = record {
-  len = two.len ∙ one.len;
-  each = λ k d within. grown_then (get_or a k d) (get_or b k d) (get_or c k d) (one.each k d within) (two.each k d (omega (arith, one.len, within)));
-}
 
 -- each column observed its field
 pub steps_grown : (words fields : List Field) (old new : List Candidates) → AreSteps words fields old new → AreGrown old new

@@ -10,7 +10,7 @@ mod join_error;
 mod joining;
 mod making;
 mod naming;
-mod numbered;
+mod numbering;
 mod observing;
 mod options;
 mod reading;

@@ -4,7 +4,7 @@ ghost use Rattle.std.specs.Prelude.{◌<◌, length, IfErr};
 ghost use Rattle.bsi_survey.specs.Made.{IsLateRefusal};
 
 use crate::NoMemory;
-use crate::numbered::numbered;
+use crate::numbering::number_title;
 use crate::schema_refusal::SchemaRefusal;
 use bsi_logical::Refusal;
 use bsi_schema::{Schema, is_word};
@@ -31,7 +31,7 @@ pub(crate) fn make_name(
 {
     let stem = make_stem(alloc, titles[c].as_slice())?;
     'numbers: for number in 1..MAX_TRIES {
-        let name = numbered(alloc, stem.as_slice(), number)?;
+        let name = number_title(alloc, stem.as_slice(), number)?;
         if schema.find(name.as_slice()).is_none()
             && !is_title_of_other(titles, c, name.as_slice())
         {

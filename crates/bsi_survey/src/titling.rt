@@ -4,7 +4,7 @@ ghost use Rattle.std.specs.Prelude.{◌≡◌, ◌<◌, length, map, IfOk};
 ghost use Rattle.bsi_logical.specs.HeaderTitles.{number_in, titles_of};
 
 use crate::NoMemory;
-use crate::numbered::numbered;
+use crate::numbering::number_title;
 use std::alloc::Global;
 
 /// Makes a list of the titles of the fields of a header.
@@ -15,7 +15,7 @@ pub(crate) fn list_titles(alloc: Global, header: &[Vec<u8>]) -> Result<Vec<Vec<u
     let mut titles = Vec::new(alloc);
     'fields: for index in 0..header.len() {
         let number = number_in(header, index);
-        let title = numbered(alloc, header[index].as_slice(), number)?;
+        let title = number_title(alloc, header[index].as_slice(), number)?;
         titles.push(title)?;
     }
     Ok(titles)

@@ -177,12 +177,6 @@ module _ (words : Words) (end : Extreme) (fields : List Field) where
           let behind : top.rest ≡ rest = rest_same top.number counted.0 top.rest rest (sym same ∙ counted.1) in
           (top.pred, subst (λ (fs : List Field). IsPredicate words fs top.pred) behind top.rows)
 
-      pub top_asked : (pred : Pred) → IsPredicate words rest pred → IsQuestion Index words (extreme_word end ∷ fields) (question.Top end c most pred)
-      top_asked pred is =
-          let found = first_is words.column fields c others column in
-          let counted = first_is spelled_number others most rest number in
-          (found.0, counted.0, rest, ap (λ fs. extreme_word end ∷ fs) (found.1 ∙ ap (λ fs. found.0 ∷ fs) counted.1), found.2, counted.2, is)
-
 -- ---- different numbers
 
 module _ (words : Words) (fields : List Field) where
@@ -206,11 +200,6 @@ module _ (words : Words) (fields : List Field) where
         let found = first_is words.column fields c rest column in
         let behind : it.1 ≡ rest = rest_same it.0 found.0 it.1 rest (sym it.4 ∙ found.1) in
         (it.3, subst (λ (fs : List Field). IsPredicate words fs it.3) behind it.6)
-
-    pub distinct_asked : (pred : Pred) → IsPredicate words rest pred → IsQuestion Index words (codes "distinct" ∷ fields) (question.Distinct c pred)
-    distinct_asked pred is =
-        let found = first_is words.column fields c rest column in
-        (found.0, rest, ap (λ fs. codes "distinct" ∷ fs) found.1, found.2, is)
 
 -- ---- quantiles
 
@@ -332,12 +321,6 @@ module _ (words : Words) (fields : List Field) where
 -- ---- groups
 
 module _ (words : Words) (before : List ℕ) where
-  -- no further column
-  pub none_further : (fields : List Field) (after : List ℕ) → length before ≤ max_group_columns → get_or fields 0 [] ≢ codes "by" → after ≡ before
-      → (more : List ℕ) × (after ≡ before ++ more) × AreFurther words before fields more fields
-  none_further fields after few end same =
-      let room : length before + 0 ≤ max_group_columns = omega (arith, few) in
-      ([], same ∙ sym (append-nil before), (refl, room, end))
 
   module _ (fields behind : List Field) (word : fields ≡ codes "by" ∷ behind) where
     begins : get_or fields 0 [] ≡ codes "by"

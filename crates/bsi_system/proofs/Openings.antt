@@ -18,9 +18,6 @@ new_feeders-push n (l ∷ ls) (c ∷ cs) channel capacity long =
     ap (λ fs. new_feeder_state n l c ∷ fs) (new_feeders-push (suc n) ls cs channel capacity (omega arith)
     ∙ ap (λ m. new_feeders (suc n) ls cs ++ new_feeder_state m channel capacity ∷ []) (omega arith))
 
-pub opened_none : (schema : Declared) → AreOpened schema [] [] []
-opened_none schema = record { many = refl; alike = All-nil (λ (i : RingReader). i.channel.schema ≡ schema); readers_are = refl; feeders_are = refl }
-
 pub opened_more : (schema : Declared) (capacities : List ℕ) (feeders : List FeederState) (readers : List RingReader) (capacity : ℕ) (f : FeederState) (i : RingReader)
     → AreOpened schema capacities feeders readers → i ≡ new_reader i.channel → i.channel.schema ≡ schema → f ≡ new_feeder_state (length capacities) i.channel capacity
     → AreOpened schema (capacities ++ capacity ∷ []) (feeders ++ f ∷ []) (readers ++ i ∷ [])

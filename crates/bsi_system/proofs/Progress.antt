@@ -67,9 +67,6 @@ looks_same old f first_row new looks = record {
   whole = λ all. subst (All IsWhole) (sym looks.now) (All-set IsWhole old f (with_seen looks.before looks.seen) looks.whole all);
 }
 
-pub same_self : (readers : List RingReader) (f : ℕ) → AreUnpopped readers f readers
-same_self readers f = record { progress = refl; channels = refl; seen = sym (set-get_or (seen_of readers) f []); whole = λ all. all }
-
 not_longer : (xs rest : List Entries) (row : Entries) → xs ++ (row ∷ rest) ≢ xs
 not_longer xs rest row e = omega (arith, ap length e, length-append xs (row ∷ rest))
 
@@ -89,9 +86,6 @@ module _ (old : List RingReader) (f : ℕ) (new : List RingReader) where
         there old f looks.before looks.at,
         λ settled. unsettled i looks.front_is.0 looks.front_is.1 looks.whole looks.front_is.2 i.carried refl (sym (ap (λ t. t.carried) is) ∙ (settled ∙ ap (λ (t : FeederProgress). Some t.popped) is)),
       )
-
-  pub looks_empty : (full : Bool) → LooksAtReader old f front.Empty new → IsFirstReply (progress_of old) f full (Err load.Empty)
-  looks_empty full looks = (there old f looks.before looks.at, ap (λ t. t.carried) (progress_at-of old f looks.before looks.at) ∙ looks.front_is)
 
   pub looks_ended : (full : Bool) → LooksAtReader old f front.Ended new → IsFirstReply (progress_of old) f full (Err load.Ended)
   looks_ended full looks =
@@ -207,10 +201,6 @@ module _ (readers : List RingReader) (f : ℕ) (first_row : HasFirst readers f) 
 
   first_same : i ≡ first_row.1.ring_reader
   first_same = cc (first_reader, first_row.1.at)
-
-  -- a row is seen
-  pub first_is_seen : 0 < length i.seen
-  first_is_seen = omega (arith, ap length (ap (λ (j : RingReader). j.seen) first_same ∙ first_row.1.first))
 
   -- it is read
   pub first_read : (row : Entries) → IsPrefix (row ∷ []) i.seen → IsFirstAt readers f row

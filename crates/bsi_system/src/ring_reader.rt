@@ -1,4 +1,4 @@
-//! A ring reader: the loader's end of one ring, and what the feeder's closing carried.
+//! A ring reader: the loader's end of one ring. Once its feeder has closed, it also knows all rows that were sent.
 
 ghost use Rattle.std.specs.Prelude.{◌≡◌, ◌+◌, ◌-◌, ◌<◌, ◌≤◌, ◌↔◌, [], ◌∷◌, ◌++◌, IfOk, IfSome, IsTrue, length};
 ghost use Rattle.std.specs.Option.{option_copied};

@@ -72,11 +72,6 @@ column_accepted columns rows c within fitting =
     All-map (Accepted (column_at columns c)) (λ (row : SourcedRow). entry_at row.1 c) rows
     (All-weaker (λ (row : SourcedRow). IsTrue (fits columns row.1)) (λ (row : SourcedRow). Accepted (column_at columns c) (entry_at row.1 c)) (λ row fit. fits-at columns row.1 c fit within) rows fitting)
 
--- of rows that fit none have bitmaps that no entries have
-pub no_rows_have : (schema : Declared) (rows : List SourcedRow) (c : ℕ) → c < length schema.columns → AreFitting schema.columns rows
-    → (bitmaps : List (List Bool)) → HaveNoEntries (column_at schema.columns c) bitmaps → bitmaps_of schema rows c ≢ bitmaps
-no_rows_have schema rows c within fitting bitmaps none = none (column_of rows c) (column_accepted schema.columns rows c within fitting)
-
 -- rows that fit are determined by their feeders and their bitmaps
 module _ (schema : Declared) (each : All IsColumn schema.columns) (xs ys : List SourcedRow) (fitting_xs : AreFitting schema.columns xs) (fitting_ys : AreFitting schema.columns ys)
     (feeders : feeders_of xs ≡ feeders_of ys) (bitmaps : (c : ℕ) → c < length schema.columns → bitmaps_of schema xs c ≡ bitmaps_of schema ys c) where

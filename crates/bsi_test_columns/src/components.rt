@@ -1,4 +1,4 @@
-//! Tests of components of both encodings on worked digits, called through the trait `Encoding`.
+//! Tests of components of both encodings on digits that were worked out by hand, called through the trait `Encoding`.
 
 ghost use Rattle.std.specs.Prelude.{◌≤◌};
 ghost use Rattle.bsi_digits.specs.Digits.{IsBase};

@@ -3,7 +3,7 @@
 use crate::NoMemory;
 use crate::diagnostics::closest::unknown_column;
 use crate::diagnostics::misspelled::why_no_constant;
-use crate::diagnostics::shown::{add_line_ends, shown};
+use crate::diagnostics::quoting::{add_line_ends, quote_field};
 use bsi_logical::TableSchema;
 use bsi_syntax::{
     Expected, Grammar, MAX_PREDICATE_FIELDS, QuestionError, Stop, Vocabulary, lend_fields,
@@ -66,7 +66,7 @@ fn why_no_field(
     text: &[u8],
     expected: Expected,
 ) -> Result<String, NoMemory> {
-    let word = shown(alloc, text)?;
+    let word = quote_field(alloc, text)?;
     match expected {
         Expected::Total if at == 0 => {
             format!(in alloc; "'{word}' is no total: count, list, sum, least, greatest or median")
@@ -103,7 +103,7 @@ fn why_not_compared(
     at: usize,
     text: &[u8],
 ) -> Result<String, NoMemory> {
-    let word = shown(alloc, text)?;
+    let word = quote_field(alloc, text)?;
     let TableSchema::Logical(format) = schema else {
         return format!(in alloc; "'{word}' is no whole number");
     };
@@ -135,7 +135,7 @@ fn number_at(fields: &[&[u8]], at: usize) -> u64 {
 
 /// Returns what is missing behind the last field.
 fn why_unfinished(alloc: Global, fields: &[&[u8]], expected: Expected) -> Result<String, NoMemory> {
-    let before = shown(alloc, fields.last().copied().unwrap_or(&[]))?;
+    let before = quote_field(alloc, fields.last().copied().unwrap_or(&[]))?;
     match expected {
         Expected::Total => String::from_str(alloc, "a total is missing after the column"),
         Expected::Column => format!(in alloc; "a column is missing after '{before}'"),
@@ -160,13 +160,13 @@ fn why_of_ask_alone(
 ) -> Result<String, NoMemory> {
     let word = fields.first().copied().unwrap_or(&[]);
     if is_one_of(word, &OF_ASK_ALONE) {
-        let text = shown(alloc, word)?;
+        let text = quote_field(alloc, word)?;
         return format!(in alloc; "only 'bsi ask' answers '{text}'");
     }
     'fields: for index in 1..fields.len() {
         let text = fields[index];
         if is_sign(fields[index - 1]) && schema.find_column(text).is_some() {
-            let (name, number) = (shown(alloc, text)?, index.saturating_add(1));
+            let (name, number) = (quote_field(alloc, text)?, index.saturating_add(1));
             return format!(in alloc;
                 "field {number}: only 'bsi ask' compares a column with another, '{name}'"
             );

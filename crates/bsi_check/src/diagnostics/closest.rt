@@ -4,7 +4,7 @@ ghost use Rattle.std.specs.Prelude.{◌<◌, length, IfOk, IfSome};
 
 use crate::NoMemory;
 use crate::diagnostics::labels::label;
-use crate::diagnostics::shown::shown;
+use crate::diagnostics::quoting::quote_field;
 use crate::explains::Explains;
 use bsi_kinds::Dictionary;
 use std::alloc::Global;
@@ -43,7 +43,7 @@ pub(crate) fn unknown_column<F: Explains>(
     format: &F,
     field: &[u8],
 ) -> Result<String, NoMemory> {
-    let word = shown(alloc, field)?;
+    let word = quote_field(alloc, field)?;
     match closest_column(alloc, format, word.as_str())? {
         Some(c) => {
             let name = label(format, c);
@@ -66,7 +66,7 @@ pub(crate) fn closest_text(
         return Ok(None);
     }
     'texts: for number in 0..texts.len() {
-        let text = shown(alloc, texts.text(number))?;
+        let text = quote_field(alloc, texts.text(number))?;
         let edits = osa_distance(alloc, text.as_str(), word)?;
         if edits < least && edits < word.len() {
             least = edits;

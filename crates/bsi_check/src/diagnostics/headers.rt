@@ -4,7 +4,7 @@ ghost use Rattle.std.specs.Prelude.{◌<◌, length};
 
 use crate::NoMemory;
 use crate::diagnostics::closest::{closest_column, unknown_column};
-use crate::diagnostics::shown::{add_line_ends, shown};
+use crate::diagnostics::quoting::{add_line_ends, quote_field};
 use crate::explains::Explains;
 use bsi_input::count_fields_named;
 use bsi_syntax::field;
@@ -36,14 +36,14 @@ fn header_text<F: Explains>(
 ) -> Result<String, NoMemory> {
     let mut text = String::from_str(alloc, "the header names ")?;
     'fields: for index in 0..header.len() {
-        let name = shown(alloc, field(header, index))?;
+        let name = quote_field(alloc, field(header, index))?;
         let before = if index == 0 { "" } else { ", " };
         write!(text, "{before}'{name}'")?;
     }
     text.push_str("; the columns are ")?;
     let schema = format.row_schema();
     'columns: for c in 0..schema.columns() {
-        let title = shown(alloc, format.column_title(c))?;
+        let title = quote_field(alloc, format.column_title(c))?;
         let before = if c == 0 { "" } else { ", " };
         write!(text, "{before}'{title}'")?;
     }
@@ -59,7 +59,7 @@ fn add_columns<F: Explains>(
 ) -> Result<(), NoMemory> {
     let schema = format.row_schema();
     'columns: for c in 0..schema.columns() {
-        let title = shown(alloc, format.column_title(c))?;
+        let title = quote_field(alloc, format.column_title(c))?;
         match count_fields_named(header, format.column_title(c)) {
             0 => write!(text, "; '{title}' is missing")?,
             1 => {}
@@ -97,7 +97,7 @@ fn is_told<F: Explains>(
     if !format.passes_over_others() {
         return Ok(true);
     }
-    let word = shown(alloc, name)?;
+    let word = quote_field(alloc, name)?;
     match closest_column(alloc, format, word.as_str())? {
         Some(c) => Ok(count_fields_named(header, format.column_title(c)) == 0),
         None => Ok(false),
@@ -122,6 +122,6 @@ fn add_hint(
     if delimiter == b',' {
         return text.push_str("; commas stand between fields");
     }
-    let sign = shown(alloc, &[delimiter])?;
+    let sign = quote_field(alloc, &[delimiter])?;
     write!(text, "; '{sign}' stands between fields")
 }

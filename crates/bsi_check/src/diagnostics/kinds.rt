@@ -9,7 +9,7 @@ ghost use Rattle.bsi_check.specs.Judges.{logical_judge};
 
 use crate::NoMemory;
 use crate::diagnostics::misspelled::why_misspelled;
-use crate::diagnostics::shown::shown;
+use crate::diagnostics::quoting::quote_field;
 use crate::diagnostics::whole_numbers::{accepts, ends};
 use crate::explains::Explains;
 use bsi_kinds::Kind;
@@ -108,7 +108,7 @@ fn why_outside(
 ) -> Result<String, NoMemory>
     requires { c < length logical.now.schema.columns }
 {
-    let word = shown(alloc, text)?;
+    let word = quote_field(alloc, text)?;
     let (least, most) = ends(logical.schema(), c);
     let kind = logical.kind(c);
     let first = value_text(alloc, kind, least)?;
@@ -133,7 +133,7 @@ fn value_text(alloc: Global, kind: &Kind, number: i128) -> Result<Option<String>
     }
     let mut line = Vec::new(alloc);
     kind.write(number, &mut line)?;
-    let value = shown(alloc, line.as_slice())?;
+    let value = quote_field(alloc, line.as_slice())?;
     match kind {
         Kind::Boolean(_) | Kind::Text(_) => Ok(Some(format!(in alloc; "'{value}'")?)),
         Kind::Decimal(_) | Kind::Rounded(_) | Kind::Date(_) | Kind::Time(_) => Ok(Some(value)),

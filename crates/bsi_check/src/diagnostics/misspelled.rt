@@ -5,7 +5,7 @@ ghost use Rattle.bsi_kinds.specs.Kinds.{IsKind};
 
 use crate::NoMemory;
 use crate::diagnostics::closest::closest_text;
-use crate::diagnostics::shown::shown;
+use crate::diagnostics::quoting::quote_field;
 use bsi_kinds::{
     BooleanForm, DateForm, DateOrder, Dictionary, ISO_DATE, Kind, Op, TimeForm, TimeUnit,
     compare_decimal, compare_time, read_date, spells_decimal,
@@ -36,7 +36,7 @@ pub(crate) fn why_misspelled(
 
 /// Returns why the constant of a question is no value of a kind: decimals have a point, dates are as 2026-12-31.
 pub(crate) fn why_no_constant(alloc: Global, kind: &Kind, text: &[u8]) -> Result<String, NoMemory> {
-    let word = shown(alloc, text)?;
+    let word = quote_field(alloc, text)?;
     match kind {
         Kind::Decimal(_) | Kind::Rounded(_) => why_other_point(alloc, word.as_str(), b'.', text),
         Kind::Date(_) => why_no_date(alloc, ISO_DATE, text),
@@ -62,7 +62,7 @@ fn why_no_decimal(
 ) -> Result<Option<String>, NoMemory>
     requires { places ≤ 18 }
 {
-    let word = shown(alloc, text)?;
+    let word = quote_field(alloc, text)?;
     let found = compare_decimal(Op::Eq, point, places, text);
     let why = match found {
         Some(found) if found.number != BETWEEN => return Ok(None),
@@ -81,7 +81,7 @@ fn why_not_rounded(alloc: Global, point: u8, text: &[u8]) -> Result<Option<Strin
     if spells_decimal(point, text) {
         return Ok(None);
     }
-    let word = shown(alloc, text)?;
+    let word = quote_field(alloc, text)?;
     Ok(Some(why_other_point(alloc, word.as_str(), point, text)?))
 }
 
@@ -100,7 +100,7 @@ fn why_other_point(alloc: Global, word: &str, point: u8, text: &[u8]) -> Result<
 
 /// Returns why a field is no date: the calendar has not the day, or the field is not written so.
 fn why_no_date(alloc: Global, form: DateForm, text: &[u8]) -> Result<String, NoMemory> {
-    let word = shown(alloc, text)?;
+    let word = quote_field(alloc, text)?;
     if is_written_as(form, text) {
         return format!(in alloc; "'{word}' is no day");
     }
@@ -133,7 +133,7 @@ fn is_short_number(least: usize, most: usize, text: &[u8]) -> bool {
 
 /// Returns the last day of 2026 as this form writes it.
 fn date_example(alloc: Global, form: DateForm) -> Result<String, NoMemory> {
-    let sign = shown(alloc, &[form.sign])?;
+    let sign = quote_field(alloc, &[form.sign])?;
     match form.order {
         DateOrder::YearFirst => format!(in alloc; "2026{sign}12{sign}31"),
         DateOrder::DayFirst => format!(in alloc; "31{sign}12{sign}2026"),
@@ -143,7 +143,7 @@ fn date_example(alloc: Global, form: DateForm) -> Result<String, NoMemory> {
 
 /// Returns why a field is no time of a form.
 fn why_no_time(alloc: Global, form: TimeForm, text: &[u8]) -> Result<String, NoMemory> {
-    let word = shown(alloc, text)?;
+    let word = quote_field(alloc, text)?;
     match compare_time(Op::Eq, form, text) {
         Some(found) if found.number == BETWEEN => {
             let unit = unit_word(form.unit);
@@ -180,15 +180,15 @@ fn unit_word(unit: TimeUnit) -> &'static str {
 
 /// Returns that a field is neither word of a boolean.
 fn why_no_boolean(alloc: Global, form: &BooleanForm, text: &[u8]) -> Result<String, NoMemory> {
-    let word = shown(alloc, text)?;
-    let yes = shown(alloc, form.yes.as_slice())?;
-    let no = shown(alloc, form.no.as_slice())?;
+    let word = quote_field(alloc, text)?;
+    let yes = quote_field(alloc, form.yes.as_slice())?;
+    let no = quote_field(alloc, form.no.as_slice())?;
     format!(in alloc; "'{word}' is neither '{yes}' nor '{no}'")
 }
 
 /// Returns that a field is none of so many texts, and the one that it may mean.
 fn why_no_text(alloc: Global, texts: &Dictionary, text: &[u8]) -> Result<String, NoMemory> {
-    let word = shown(alloc, text)?;
+    let word = quote_field(alloc, text)?;
     let count = texts.len();
     let plural = if count == 1 { "" } else { "s" };
     match closest_text(alloc, texts, word.as_str())? {

@@ -6,7 +6,7 @@ ghost use Rattle.bsi_check.specs.Judges.{first_refusing, refusing, Begins, IsRea
 
 use crate::NoMemory;
 use crate::diagnostics::labels::label;
-use crate::diagnostics::shown::add_line_ends;
+use crate::diagnostics::quoting::add_line_ends;
 use crate::explains::Explains;
 use bsi_syntax::field;
 use csv::ByteRecord;

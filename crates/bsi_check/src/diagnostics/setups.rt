@@ -1,7 +1,7 @@
 //! Says why a record of a schema file is bad: its word, the name or the form of a column, or the limit.
 
 use crate::NoMemory;
-use crate::diagnostics::shown::{add_line_ends, shown, shown_record};
+use crate::diagnostics::quoting::{add_line_ends, quote_field, quote_record};
 use bsi_logical::Refusal;
 use bsi_schema::{ColumnSpec, Schema, SchemaError};
 use bsi_syntax::{field, read_number, read_signed};
@@ -20,7 +20,7 @@ pub fn why_bad_setup(
     fields: &ByteRecord,
     line: u64,
 ) -> Result<String, NoMemory> {
-    let record = shown_record(alloc, fields)?;
+    let record = quote_record(alloc, fields)?;
     let why = why_no_setup(alloc, schema, fields)?;
     let mut text = format!(in alloc; "{record}: {why}")?;
     add_line_ends(fields, line, &mut text)?;
@@ -34,7 +34,7 @@ pub fn why_refused_setup(
     line: u64,
     why: Refusal,
 ) -> Result<String, NoMemory> {
-    let record = shown_record(alloc, fields)?;
+    let record = quote_record(alloc, fields)?;
     let mut text = format!(in alloc; "{record}: {}", why.text())?;
     add_line_ends(fields, line, &mut text)?;
     Ok(text)
@@ -53,7 +53,7 @@ fn why_no_setup(
     if word == b"limit".as_slice() {
         return String::from_str(alloc, "a limit is one number from 1 to 4294967296: limit,N");
     }
-    let text = shown(alloc, word)?;
+    let text = quote_field(alloc, word)?;
     format!(in alloc; "'{text}' is neither 'column' nor 'limit'")
 }
 
@@ -78,7 +78,7 @@ fn why_bad_column(
     }
     if let Some(offset) = fields.get(4) {
         if !is_offset(offset) {
-            let text = shown(alloc, offset)?;
+            let text = quote_field(alloc, offset)?;
             return format!(in alloc; "the offset '{text}' is no whole number of 64 bits");
         }
     }
@@ -102,7 +102,7 @@ fn why_bad_name(
     schema: &mut Schema,
     name: &[u8],
 ) -> Result<Option<String>, NoMemory> {
-    let shown_name = shown(alloc, name)?;
+    let shown_name = quote_field(alloc, name)?;
     let added = match str::from_utf8(name) {
         Ok(name) => schema.add(name, ColumnSpec::Slices(1)),
         Err(_) => Err(SchemaError::BadName),
@@ -125,7 +125,7 @@ fn why_bad_name(
 
 /// Returns why a form and its sizes make no column.
 fn why_bad_form(alloc: Global, form: &[u8], sizes: &[u8]) -> Result<String, NoMemory> {
-    let text = shown(alloc, sizes)?;
+    let text = quote_field(alloc, sizes)?;
     if form == b"slices".as_slice() {
         if !read_number(sizes).is_some_and(|width| width >= 1 && width <= 63) {
             return format!(in alloc; "'{text}' is no number of slices: 1 to 63");
@@ -137,7 +137,7 @@ fn why_bad_form(alloc: Global, form: &[u8], sizes: &[u8]) -> Result<String, NoMe
             );
         }
     } else {
-        let word = shown(alloc, form)?;
+        let word = quote_field(alloc, form)?;
         return format!(in alloc; "'{word}' is no form: slices, equality or range");
     }
     String::from_str(

@@ -7,7 +7,7 @@ ghost use Rattle.bsi_schema.specs.Limits.{limits_of};
 ghost use Rattle.bsi_check.specs.Judges.{plain_judge};
 
 use crate::NoMemory;
-use crate::diagnostics::shown::shown;
+use crate::diagnostics::quoting::quote_field;
 use crate::explains::Explains;
 use bsi_schema::{Limits, Schema};
 use bsi_syntax::read_value;
@@ -44,7 +44,7 @@ fn why_no_number(
     requires { c < length schema.now.columns }
     ensures { IfOk result (λ why. is_none why ≡ (plain_judge schema.now).accepts c text.now) }
 {
-    let word = shown(alloc, text)?;
+    let word = quote_field(alloc, text)?;
     let Some(value) = read_value(schema.signed(), text) else {
         return Ok(Some(format!(in alloc; "'{word}' is no whole number")?));
     };

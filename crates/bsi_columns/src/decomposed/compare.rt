@@ -27,7 +27,7 @@ use bsi_slices::{Decision, Test, decide};
 impl<E: Encoding> Decomposed<E> {
     /// Returns the rows whose number satisfies the comparison `op` with `constant`. It reads no component if the answer
     /// is known beforehand.
-    pub(crate) fn selected(&self, op: Op, constant: u64) -> Result<Bits, NoMemory>
+    pub(crate) fn select_compared(&self, op: Op, constant: u64) -> Result<Bits, NoMemory>
         ensures { IfOk result (λ b. b.bits ≡ map (selects op constant) self.now.entries) }
     {
         match decide(op, constant, self.bases.size()) {

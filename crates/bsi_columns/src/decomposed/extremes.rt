@@ -4,8 +4,8 @@
 //! The search leaves a span as soon as none of its rows can improve the best number so far. Most spans show
 //! this at their first component.
 //!
-//! A component is asked for a digit within a bound, which a division of the best number gives. What its steps leave
-//! past the last row of a span is open, so the rows are cut with the not-null bitmap again.
+//! A component is asked for a digit within a bound, which a division of the best number gives. Its steps may
+//! set bits past the last row of a span, so the rows are intersected with the not-null bitmap again.
 
 ghost use Rattle.std.specs.Prelude.{◌≡◌, ℕ, ◌+◌, ◌*◌, ◌/◌, ◌<◌, ◌≤◌, ◌&&◌, true, false, length, slice_index, slice_index_or, is_some, None, IfOk, IsOk, IsTrue};
 ghost use Rattle.bsi_bits.specs.BitList.{word_count};

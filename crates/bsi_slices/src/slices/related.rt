@@ -90,7 +90,7 @@ fn and_compare_block(
         and_compare_sums(
             others,
             right_addend - left_addend,
-            mirrored(op),
+            mirror_op(op),
             slices,
             at,
             words,
@@ -101,7 +101,7 @@ fn and_compare_block(
 }
 
 /// Returns the comparison that says the same of two numbers once they change places.
-fn mirrored(op: Op) -> Op
+fn mirror_op(op: Op) -> Op
     ensures { (x y : ℕ) → compares result y x ≡ compares op x y }
 {
     match op {

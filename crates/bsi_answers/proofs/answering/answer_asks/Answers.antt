@@ -9,23 +9,23 @@ use Rattle.bsi_answers.proofs.answering.answer_asks.Goals as goal
 pub returns-clause-ok : goal.returns-clause-ok
 returns-clause-ok g c =
     let before = g.W.Write.contents c.args.writer.now in
-    let after = g.W.Write.contents c.answer_batches.new.writer in
+    let after = g.W.Write.contents c.answer_ahead.new.writer in
     let source = source_of (λ w. g.A.Read.remaining w.inner) c.new-records.result.input in
     let is : source ≡ option_map strip_bom (g.A.Read.remaining c.args.asks) = search rules in
-    on_ok c.answer_batches.result
+    on_ok c.answer_ahead.result
     (from_known (g.A.Read.remaining c.args.asks) source
     (λ bytes. WritesAll (AllZip (IsAskLineBy c.args.grammar (g.V.Vocabulary.words c.args.vocabulary.now) (g.V.Notation.number_texts c.args.vocabulary.now) c.args.table.now.schema
     c.args.table.now.rows)) bytes before after) is)
-    c.answer_batches.ensures.ok
+    c.answer_ahead.ensures.ok
 
 pub returns-clause-prefix : goal.returns-clause-prefix
 returns-clause-prefix g c =
     let before = g.W.Write.contents c.args.writer.now in
-    let after = g.W.Write.contents c.answer_batches.new.writer in
+    let after = g.W.Write.contents c.answer_ahead.new.writer in
     let source = source_of (λ w. g.A.Read.remaining w.inner) c.new-records.result.input in
     let is : source ≡ option_map strip_bom (g.A.Read.remaining c.args.asks) = search rules in
-    if_err c.answer_batches.result
+    if_err c.answer_ahead.result
     (λ fault. from_known (g.A.Read.remaining c.args.asks) source
     (λ bytes. WritesFirst (AllZip (IsAskLineBy c.args.grammar (g.V.Vocabulary.words c.args.vocabulary.now) (g.V.Notation.number_texts c.args.vocabulary.now) c.args.table.now.schema
     c.args.table.now.rows)) bytes fault before after) is)
-    c.answer_batches.ensures.prefix
+    c.answer_ahead.ensures.prefix

@@ -8,7 +8,7 @@ use Rattle.bsi_syntax.specs.Bytes.{Bytes}
 use Rattle.bsi_syntax.specs.Reading.{texts}
 use Rattle.bsi_answers.specs.AskLines.{IsAskLineBy}
 use Rattle.bsi_answers.specs.declared.faults.FilesFault.TheVariants.{NoMemory, Write}
-use Rattle.bsi_answers.proofs.Batching.{line_alone, line_cut, line_written, no_line}
+use Rattle.bsi_answers.proofs.ReadingAhead.{line_alone, line_cut, line_written, no_line}
 use Rattle.bsi_answers.proofs.Passing.{if_err}
 use Rattle.bsi_answers.proofs.lines.write_line.Goals as goal
 

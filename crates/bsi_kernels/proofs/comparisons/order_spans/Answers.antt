@@ -18,8 +18,8 @@ spans-preserved g c =
     let place : (p : ℕ) → 64 * (c.args.start + at) + p ≡ 64 * c.args.start + (64 * at + p) = λ p. omega arith in
     λ numbers encoded small.
     let before = c.spans.invariant numbers encoded small in
-    written_more (λ r. at_most_step (bit_of c.args.words.now r) (get_or numbers (64 * c.args.start + r) 0) c.args.constant) c.args.from at g.row.N (c.args.from + g.row.N * (c.spans.k + 1)) c.args.words.now c.spans.words c.ordered.result
-    (omega arith) (omega arith) c.ordered.ensures.long (omega arith) before
-    (λ p below. c.ordered.ensures.bits numbers encoded small p below
+    written_more (λ r. at_most_step (bit_of c.args.words.now r) (get_or numbers (64 * c.args.start + r) 0) c.args.constant) c.args.from at g.row.N (c.args.from + g.row.N * (c.spans.k + 1)) c.args.words.now c.spans.words c.order_span.result
+    (omega arith) (omega arith) c.order_span.ensures.long (omega arith) before
+    (λ p below. c.order_span.ensures.bits numbers encoded small p below
     ∙ (λ j. at_most_step (bit_of-chunk at g.row.N c.spans.words p below j) (get_or numbers (place p j) 0) c.args.constant)
     ∙ (λ j. at_most_step (before.after (64 * at + p) (omega arith) j) (get_or numbers (64 * c.args.start + (64 * at + p)) 0) c.args.constant))

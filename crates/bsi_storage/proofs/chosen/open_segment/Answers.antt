@@ -1,5 +1,5 @@
 use Rattle.std.proofs.Common.{◌≡◌, ap, sym, subst, ◌∙◌}
-use Rattle.bsi_chosen.specs.Chosen.{chosen_table}
+use Rattle.bsi_projection.specs.Chosen.{chosen_table}
 use Rattle.bsi_rows.specs.Table.{Table}
 use Rattle.bsi_table.specs.Encoded.{AreEncoded}
 use Rattle.bsi_table.specs.Index.{table_of}
@@ -52,7 +52,7 @@ returns-then-not-branch-clause-fault g c = λ at t notes kinds begins is.
     c.in_ok-index.ensures
     ∙ table_is known c.args.head.now c.args.chosen.now narrow made there columns c.in_ok-columns.ensures.many c.in_ok-columns.ensures.each at t notes kinds begins is
     c.limits.ensures.declared rows origins.len origins.from origins.stands c.in_ok-origins.origins.feeders origins.feeders in
-    absurd (c.in_ok-says_zones.ensures.no c.if-not-branch.true
+    absurd (c.in_ok-matches_zones.ensures.no c.if-not-branch.true
     (zones_are known c.args.head.now c.args.chosen.now narrow made there columns c.in_ok-columns.ensures.many c.in_ok-columns.ensures.each at t notes kinds begins is
     c.limits.ensures.declared rows origins.len origins.from origins.stands (table_of c.in_ok-index.index) same)))
 
@@ -67,4 +67,4 @@ returns-clause-said g c =
     let origins = c.in_ok-origins.ensures in
     let is = c.in_ok-index.ensures in
     says_chosen known c.args.head.now c.args.chosen.now narrow made there columns c.in_ok-columns.ensures.many c.in_ok-columns.ensures.each rows origins.len origins.stands
-    origins.said (table_of c.in_ok-index.index) (ap (λ (u : Table). u.schema) is) (ap (λ (u : Table). u.rows) is) (c.in_ok-says_zones.ensures.yes c.if-not-branch.false)
+    origins.said (table_of c.in_ok-index.index) (ap (λ (u : Table). u.schema) is) (ap (λ (u : Table). u.rows) is) (c.in_ok-matches_zones.ensures.yes c.if-not-branch.false)

@@ -3,7 +3,7 @@ use Rattle.std.specs.Prelude.{IfErr}
 use Rattle.std.specs.List.{flat_map}
 use Rattle.bsi_bits.specs.BitList.{word_count}
 use Rattle.bsi_columns.specs.StoredBitmaps.{bits_each}
-use Rattle.bsi_places.specs.Places.{AreNoBitmaps, StandAt}
+use Rattle.bsi_pread.specs.Offsets.{AreNoBitmaps, StandAt}
 use Rattle.bsi_rows.specs.Rows.{column_of}
 use Rattle.bsi_rows.specs.Table.{Table}
 use Rattle.bsi_schema.specs.Columns.{column_at, Declared}

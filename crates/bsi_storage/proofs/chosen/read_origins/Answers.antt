@@ -1,8 +1,8 @@
 use Rattle.std.proofs.Common.{◌≡◌, ◌+◌, ◌*◌, ◌<◌, ℕ, All, rules, ap, subst, sym, ◌∙◌}
 use Rattle.std.specs.Prelude.{false, IfErr, IsTrue}
 use Rattle.bsi_bits.specs.BitList.{word_count}
-use Rattle.bsi_places.specs.Places.{StandAt}
-use Rattle.bsi_places.proofs.Placing.{many_read, stand_read}
+use Rattle.bsi_pread.specs.Offsets.{StandAt}
+use Rattle.bsi_pread.proofs.Placing.{many_read, stand_read}
 use Rattle.bsi_rows.specs.Rows.{feeders_of}
 use Rattle.bsi_rows.specs.Table.{Table}
 use Rattle.bsi_segments.specs.Segments.{AreWords}
@@ -67,8 +67,8 @@ returns-clause-fault g c = λ at t notes kinds begins is.
     (feeders_long t.rows ∙ sym is.rows) (c.deref-2.ensures.value ∙ feeders_words known at t notes kinds begins head is words stands many are)))
 
 -- or have not the checksum that the head says
-pub returns-then-not-says_feeders-clause-fault : goal.returns-then-not-says_feeders-clause-fault
-returns-then-not-says_feeders-clause-fault g c = λ at t notes kinds begins is.
+pub returns-then-not-matches_feeders-clause-fault : goal.returns-then-not-matches_feeders-clause-fault
+returns-then-not-matches_feeders-clause-fault g c = λ at t notes kinds begins is.
     (let head = c.args.head.now in
     let known = g.R.ReadAt.all_bytes c.args.reader.now in
     let seen = g.R.ReadAt.all_bytes c.new-place.result.reader.now in
@@ -81,8 +81,8 @@ returns-then-not-says_feeders-clause-fault g c = λ at t notes kinds begins is.
     stand_read known seen _ (feeders_place head) c.new-place.result.at c.count_feeder_words-count.result c.new-words.result.items words same (c.new-place.ensures.at ∙ place) read c.new-words.ensures.items in
     let many = many_read known seen _ (feeders_place head) c.new-place.result.at c.count_feeder_words-count.result c.new-words.result.items words same (c.new-place.ensures.at ∙ place) read
     c.new-words.ensures.items ∙ c.count_feeder_words-count.ensures.count in
-    let are : AreWords words = subst AreWords c.deref.ensures.value c.says_feeders.ensures.fit in
+    let are : AreWords words = subst AreWords c.deref.ensures.value c.matches_feeders.ensures.fit in
     let is_words = feeders_words known at t notes kinds begins head is words stands many are in
     let sum = sum_of_words head.front.sizes.feeders (feeders_of t.rows) c.deref.result.now (c.deref.ensures.value ∙ is_words) in
-    let no : IsTrue false = c.if-not-says_feeders.ensures.said.1 (said_there known at t notes kinds begins head is ∙ sym sum) in
+    let no : IsTrue false = c.if-not-matches_feeders.ensures.said.1 (said_there known at t notes kinds begins head is ∙ sym sum) in
     absurd (cc (no)))

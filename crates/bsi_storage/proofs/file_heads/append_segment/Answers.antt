@@ -1,6 +1,6 @@
 use Rattle.std.proofs.Common.{◌≡◌, ◌+◌, ◌≤◌, List, [], length, refl, rules, subst, sym}
 use Rattle.std.proofs.lemmas.Result.{err_from_is_err_and}
-use Rattle.bsi_chosen.specs.Chosen.{chosen_table}
+use Rattle.bsi_projection.specs.Chosen.{chosen_table}
 use Rattle.bsi_rows.specs.Rows.{SourcedRow}
 use Rattle.bsi_rows.specs.Table.{with_rows, Table}
 use Rattle.bsi_schema.specs.Columns.{Declared}

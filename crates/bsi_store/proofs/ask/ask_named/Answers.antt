@@ -2,9 +2,9 @@ use Rattle.std.proofs.Common.{◌≡◌, IfSome, inl, refl, subst}
 use Rattle.std.specs.List.{AllZip}
 use Rattle.bsi_answers.specs.Writing.{WritesFirst}
 use Rattle.bsi_answers.specs.declared.faults.FilesFault.TheVariants.{NoMemory}
-use Rattle.bsi_named.specs.Named.{output_fault}
-use Rattle.bsi_named.specs.declared.fault.NamedFault.{NamedFault}
-use Rattle.bsi_named.specs.declared.fault.NamedFault.TheVariants.{Columns, Run}
+use Rattle.bsi_pruning.specs.Named.{output_fault}
+use Rattle.bsi_pruning.specs.declared.fault.NamedFault.{NamedFault}
+use Rattle.bsi_pruning.specs.declared.fault.NamedFault.TheVariants.{Columns, Run}
 use Rattle.bsi_rows.specs.Table.{Table}
 use Rattle.bsi_storage.specs.ChosenFiles.{AreFileHeads}
 use Rattle.bsi_store.specs.Asked.{HasAskedFirst}

@@ -1,5 +1,5 @@
 use Rattle.std.proofs.Common.{◌≡◌, List, ℕ, take}
-use Rattle.bsi_chosen.specs.Chosen.{chosen_table}
+use Rattle.bsi_projection.specs.Chosen.{chosen_table}
 use Rattle.bsi_rows.specs.Table.{Table}
 use Rattle.bsi_storage.specs.ChosenFiles.{parts_in, AreFileHeads, SaysAllChosen}
 use Rattle.bsi_storage.specs.Saved.{with_only}

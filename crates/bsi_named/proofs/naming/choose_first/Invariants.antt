@@ -1,6 +1,0 @@
-use Rattle.bsi_named.specs.Named.{HasMore}
-use Rattle.bsi_named.proofs.naming.choose_first.Given as goal
-
--- those that were chosen are
-abbrev pub invariant-columns : goal.invariant-columns
-invariant-columns l = record { more : HasMore l.initial.chosen.items l.chosen.items }
