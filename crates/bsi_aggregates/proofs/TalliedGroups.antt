@@ -128,7 +128,6 @@ pub record AreTallied (total : Total) (selection : List Bool) (by : ℕ) (rows :
   pub answers : All (λ group. IsTotalAt total (rows_with_entry selection by rows group.entry) rows group.answer) groups
 
 module _ (total : Total) (selection : List Bool) (by : ℕ) (rows : List SourcedRow) (offset : ℤ) (size : ℕ) (tallies : List Tally) where
-
   module _ (same : length selection ≡ length rows) (keys : OffsetColumn) (offset_is : keys.offset ≡ offset) (size_is : shifted_size keys ≡ size) (keys_are : shifted_entries keys ≡ column_of rows by) (entries : List (Option ℤ)) (entries_are : entries ≡ total_entries total rows selection)
       (are : AreEntryTallies keys entries selection (length selection) tallies) where
     long : length (column_of rows by) ≡ length selection

@@ -321,7 +321,6 @@ module _ (words : Words) (fields : List Field) where
 -- ---- groups
 
 module _ (words : Words) (before : List ℕ) where
-
   module _ (fields behind : List Field) (word : fields ≡ codes "by" ∷ behind) where
     begins : get_or fields 0 [] ≡ codes "by"
     begins = ap (λ fs. get_or fs 0 []) word
