@@ -50,5 +50,3 @@ ends_of form rem [] [] f are = tt
 ends_of form rem [] (end ∷ ends) f are = absurd are
 ends_of form rem (thread ∷ threads) [] f are = absurd are
 ends_of form rem (thread ∷ threads) (end ∷ ends) f are = (are.0, ends_of form rem threads ends f are.1)
-
-module _ {R F X : Type 0} (f : X → Task R F) where

@@ -17,10 +17,7 @@ use Rattle.bsi_input.specs.Formats.{fields_at, fitting}
 use Rattle.bsi_input.specs.RowFiles.{field_index}
 use Rattle.bsi_syntax.proofs.Values.{behind, values_done, values_next, values_stop}
 
--- ---- a test of each element, one after another
-
-module _ {X : Type 0} (p : X → Bool) (xs : List X) (i : ℕ) (d : X) (so_far : list_all p (take i xs) ≡ true) where
-
+-- a test of each element, one after another, that fails at one
 pub all_stop : {X : Type 0} (p : X → Bool) (xs : List X) (i : ℕ) (d : X) → i < length xs → p (get_or xs i d) ≡ false → false ≡ list_all p xs
 all_stop p xs i d within fails = sym (list_all_at p xs i d within fails)
 
