@@ -1,9 +1,7 @@
 -- Threads that are started for feeders and sources, and lists that are made element by element.
 use Rattle.std.proofs.Common.{◌≡◌, List, [], ◌∷◌, ◌++◌, map, refl, ap, sym, ◌∙◌, subst}
 use Rattle.std.proofs.lemmas.List.{append-nil}
-use Rattle.bsi_system.specs.Rings.{FeederState}
-use Rattle.bsi_input.specs.Sources.{SourceOf}
-use Rattle.bsi_files.specs.Ends.{tasks, AreEndsOf, IsFeedEnd, Task}
+use Rattle.bsi_files.specs.Ends.{AreEndsOf, IsFeedEnd, Task}
 use Rattle.std.specs.List.{AllZip}
 use Rattle.bsi_files.specs.declared.feeding.FeedEnd.{FeedEnd}
 use Rattle.bsi_answers.proofs.Asking.{matched_push}

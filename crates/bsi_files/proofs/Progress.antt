@@ -1,54 +1,26 @@
 -- What was popped of each feeder, as closings are settled and rows are popped.
-use Rattle.std.proofs.Common.{◌≡◌, ◌≢◌, ℕ, suc, zero, ◌+◌, ◌<◌, ◌≤◌, Bool, true, false, List, [], ◌∷◌, ◌++◌, length, Option, Some, None, IfSome, Result, Ok, Err, All, refl, ap, sym, ◌∙◌, subst, arith, slice_set, add-zero, length-append}
-use Rattle.std.specs.Prelude.{IfErr, OnOk, is_some, nat_eq, slice_get}
-use Rattle.std.proofs.lemmas.Bool.Decides.{nat_tests}
+use Rattle.std.proofs.Common.{◌≡◌, ℕ, suc, zero, ◌+◌, ◌<◌, ◌≤◌, Bool, true, false, List, [], ◌∷◌, ◌++◌, length, Option, Some, None, IfSome, All, refl, ap, sym, ◌∙◌, subst, arith, add-zero, length-append}
+use Rattle.std.specs.Prelude.{is_some, slice_get}
 use Rattle.bsi_rows.specs.declared.event.LoadRefused.TheVariants as load
-use Rattle.std.proofs.lemmas.List.{append-nil}
 use Rattle.std.proofs.lemmas.List.Elements.{All-head, All-tail}
 use Rattle.bsi_rows.specs.Runs.{rows_from}
 use Rattle.bsi_system.specs.Rings.{new_feeder_state, new_feeders, ChannelName, FeederState, Sent}
-use Rattle.bsi_system.specs.LoaderSteps.{progress_at, settled_as, with_popped, AlwaysHolds, ChangesOnlySeen, FeederProgress, IsClosingOf, IsFeederOf, IsLoaderReply, LoaderState, LoadsOne, MayLoad, SystemName}
+use Rattle.bsi_system.specs.LoaderSteps.{progress_at, AlwaysHolds, FeederProgress, IsClosingOf, IsFeederOf, LoaderState, SystemName}
 use Rattle.bsi_rows.specs.Rows.{Entries, SourcedRow}
 use Rattle.bsi_input.specs.Sources.{SourceOf}
 use Rattle.bsi_files.specs.Ends.{tasks, AreClosings, AreEndsOf, AreFeeders, IsFeedEnd}
 use Rattle.bsi_files.specs.Feds.{AreFedFrom, IsAllFed, IsFedFrom}
-use Rattle.bsi_files.specs.Progress.{all_popped, AreClosingsSettled, AreLoaded, EndedWell, IsClosingSettled, IsDrained, IsFedOf, IsFullAt, IsLoaded, OthersUnchanged, PopsOnlyOf, SettledUnchanged}
+use Rattle.bsi_files.specs.Progress.{all_popped, AreClosingsSettled, AreLoaded, EndedWell, IsClosingSettled, IsDrained, IsFedOf, IsLoaded, OthersUnchanged, SettledUnchanged}
 use Rattle.bsi_files.specs.Feeding.{CountsBad, HasFed, IsReadOut}
 use Rattle.bsi_files.specs.declared.feeding.FeedEnd.{FeedEnd}
 use Rattle.bsi_answers.specs.declared.fed.Fed.{Fed}
 use Rattle.bsi_syntax.specs.Bytes.{KnownBytes}
 use Rattle.bsi_input.specs.Formats.{Format}
 
--- ---- one taking of a list
-
-set_other : (ts : List FeederProgress) (f k : ℕ) (t : FeederProgress) → k ≢ f → progress_at (slice_set ts f t) k ≡ progress_at ts k
-set_other [] f k t other = refl
-set_other (x ∷ ts) zero zero t other = absurd (other refl)
-set_other (x ∷ ts) zero (suc k) t other = refl
-set_other (x ∷ ts) (suc f) zero t other = refl
-set_other (x ∷ ts) (suc f) (suc k) t other = set_other ts f k t (λ same. other (ap suc same))
-
-set_same : (ts : List FeederProgress) (f : ℕ) (t : FeederProgress) → f < length ts → progress_at (slice_set ts f t) f ≡ t
-set_same [] f t lt = absurd (omega arith)
-set_same (x ∷ ts) zero t lt = refl
-set_same (x ∷ ts) (suc f) t lt = set_same ts f t (omega arith)
-
-set_settled : (ts : List FeederProgress) (f : ℕ) (row : Entries) → (progress_at (slice_set ts f (with_popped (progress_at ts f) row)) f).carried ≡ (progress_at ts f).carried
-set_settled [] f row = refl
-set_settled (x ∷ ts) zero row = refl
-set_settled (x ∷ ts) (suc f) row = set_settled ts f row
-
 pub get_lt : {A : Type 0} (xs : List A) (f : ℕ) (x : A) → slice_get xs f ≡ Some x → f < length xs
 get_lt [] f x is = absurd (cc (is))
 get_lt (y ∷ xs) zero x is = omega arith
 get_lt (y ∷ xs) (suc f) x is = (let rest = get_lt xs f x is in omega arith)
-
--- ---- at most one more row
-
--- ---- a closing is settled, and all that it carried is popped
-
-module _ (old settled new : LoaderState) (closing : Sent) (is : settled ≡ settled_as old closing.number closing.rows) (always : AlwaysHolds settled)
-    (same : settled.system ≡ old.system) (of : IsClosingOf closing old.system) (pops : PopsOnlyOf closing.number settled.progress new.progress) where
 
 -- ---- all closings
 
