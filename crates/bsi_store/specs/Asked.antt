@@ -1,10 +1,10 @@
--- What `bsi ask` and `bsi show` write of a saved index, in full or up to a fault (`HasAsked`, `HasShown`).
+-- What `bsi ask`, `bsi show` and `bsi check` write of a saved index, in full or up to a fault (`HasAsked`, `HasSaid`).
 use Rattle.std.specs.Prelude.{◌≡◌, ◌≢◌, ◌⊎◌, Bool, false, ℕ, Option, None, IfSome}
 use Rattle.std.specs.Io.KnownBytes.{Appends}
 use Rattle.bsi_input.specs.BufferedOutput.{AppendsPrefix}
 use Rattle.bsi_logical.specs.declared.table_schema.TableSchema.{TableSchema}
 use Rattle.bsi_store.specs.Kinds.{IsAnswer, SaysSchema}
-use Rattle.bsi_store.specs.Lines.{IsShownText}
+use Rattle.bsi_store.specs.Lines.{IsRowCount, IsShownText}
 use Rattle.bsi_rows.specs.Table.{Table}
 use Rattle.bsi_syntax.specs.Bytes.{Bytes, KnownBytes}
 use Rattle.std.specs.List.{AllZip}
@@ -103,36 +103,52 @@ abbrev pub LeavesAnswers : {S : Type 0} → (S → KnownBytes) → Bool → Know
 LeavesAnswers rem so_far asks before after fault =
     LeavesWhole rem so_far asks before after fault ⊎ LeavesNamed rem so_far asks before after fault
 
--- The description of a saved table was written to the output.
-pub record HasShown {S : Type 0} (rem : S → KnownBytes) (before after : KnownBytes) : Type 0 where
+-- A text that says what `Is` has of a saved table was written to the output.
+pub record HasSaid {S : Type 0} (Is : TableSchema → Table → Bytes → Type 0) (rem : S → KnownBytes) (before after : KnownBytes) : Type 0 where
   -- The saved table.
   pub table : Table
   -- The schema of its columns.
   pub schema : TableSchema
   -- They were opened from a file, which was read to its end.
   pub opened : IsOpenedAs rem false table schema
-  -- The description of the table.
+  -- The text.
   pub text : Bytes
-  -- The text describes the table: its schema, limit, feeders, rows, and the bytes of each column.
-  pub shown : IsShownText schema table text
+  -- It says this of the table.
+  pub is : Is schema table text
   -- The text was appended to the output.
   pub written : Appends before after text
 
--- A prefix of the description of a saved table was written to the output.
-pub record HasShownPrefix {S : Type 0} (rem : S → KnownBytes) (before after : KnownBytes) : Type 0 where
+-- A prefix of such a text was written to the output.
+pub record HasSaidPrefix {S : Type 0} (Is : TableSchema → Table → Bytes → Type 0) (rem : S → KnownBytes) (before after : KnownBytes) : Type 0 where
   -- The saved table.
   pub table : Table
   -- The schema of its columns.
   pub schema : TableSchema
   -- They were opened from a file, which was read to its end.
   pub opened : IsOpenedAs rem false table schema
-  -- The description of the table.
+  -- The text.
   pub text : Bytes
-  -- The text describes the table: its schema, limit, feeders, rows, and the bytes of each column.
-  pub shown : IsShownText schema table text
+  -- It says this of the table.
+  pub is : Is schema table text
   -- A prefix of the text was appended to the output.
   pub cut : AppendsPrefix before after text
 
--- What a fault leaves of a description: nothing or, if the output can't be written, a prefix.
+-- What a fault leaves of such a text: nothing or, if the output can't be written, a prefix.
+abbrev pub LeavesSaid : {S : Type 0} → (TableSchema → Table → Bytes → Type 0) → (S → KnownBytes) → StoreFault → KnownBytes → KnownBytes → Type 0
+LeavesSaid Is rem fault before after = (after ≡ before) ⊎ ((fault ≡ Run Write) × HasSaidPrefix Is rem before after)
+
+-- A saved table was described: its schema, limit, feeders, rows, and the bytes of each column.
+abbrev pub HasShown : {S : Type 0} → (S → KnownBytes) → KnownBytes → KnownBytes → Type 0
+HasShown rem before after = HasSaid IsShownText rem before after
+
+-- What a fault leaves of a description.
 abbrev pub LeavesShown : {S : Type 0} → (S → KnownBytes) → StoreFault → KnownBytes → KnownBytes → Type 0
-LeavesShown rem fault before after = (after ≡ before) ⊎ ((fault ≡ Run Write) × HasShownPrefix rem before after)
+LeavesShown rem fault before after = LeavesSaid IsShownText rem fault before after
+
+-- All of a saved table was read, and how many rows it has was written.
+abbrev pub HasReadWhole : {S : Type 0} → (S → KnownBytes) → KnownBytes → KnownBytes → Type 0
+HasReadWhole rem before after = HasSaid IsRowCount rem before after
+
+-- What a fault leaves of that line.
+abbrev pub LeavesRowCount : {S : Type 0} → (S → KnownBytes) → StoreFault → KnownBytes → KnownBytes → Type 0
+LeavesRowCount rem fault before after = LeavesSaid IsRowCount rem fault before after

@@ -1,4 +1,4 @@
--- The lines that describe a saved index: its schema, feeders, rows, and the bytes of each column (`IsShownText`).
+-- The lines that describe a saved index: its schema, feeders, rows, and the bytes of each column (`IsShownText`); and that of its rows alone.
 use Rattle.std.specs.Prelude.{◌≡◌, ℕ, List, [], ◌++◌, ◌*◌, codes, decimal, length}
 use Rattle.std.specs.List.{flat_map}
 use Rattle.bsi_bits.specs.BitList.{word_count}
@@ -39,3 +39,7 @@ pub record IsShownText (schema : TableSchema) (t : Table) (text : Bytes) : Type 
   pub say : AreRecordsOf schema t records
   pub text_is : text ≡ records ++ (number_line (codes "feeders") t.feeders
       ++ (number_line (codes "rows") (length t.rows) ++ size_lines (length t.rows) t.schema.columns))
+
+-- The line of how many rows a table has.
+abbrev pub IsRowCount : TableSchema → Table → Bytes → Type 0
+IsRowCount schema t text = text ≡ number_line (codes "rows") (length t.rows)

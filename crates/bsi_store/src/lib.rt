@@ -1,4 +1,4 @@
-//! Indexes that are saved in files, by their paths: made of row files, added to, opened, asked and shown.
+//! Indexes that are saved in files, by their paths: made of row files, added to, opened, asked, shown and checked.
 #![tactic(auto)]
 
 mod add;
@@ -24,5 +24,5 @@ pub use lines::push_count_line;
 pub use lock::LockFile;
 pub use opening::{open_file, read_saved};
 pub use save::{SavePaths, save_kinds, save_rows};
-pub use show::show_index;
+pub use show::{check_index, show_index};
 pub use surveying::{SurveyFault, describe_rows, find_file_delimiter, survey_rows};

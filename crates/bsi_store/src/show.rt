@@ -1,8 +1,8 @@
-//! Shows what a saved index has: its columns, rows and sizes.
+//! Shows what a saved index has: its columns, rows and sizes; or checks that all of it can be read.
 
 ghost use Rattle.std.specs.Prelude.{◌≡◌, ◌<◌, ◌++◌, IfErr, IfOk, length, OnOk};
 ghost use Rattle.bsi_schema.specs.Columns.{column_at};
-ghost use Rattle.bsi_store.specs.Asked.{HasShown, LeavesShown};
+ghost use Rattle.bsi_store.specs.Asked.{HasReadWhole, HasShown, LeavesRowCount, LeavesShown};
 ghost use Rattle.bsi_store.specs.Faults.{IsOfFile, NamesPath};
 ghost use Rattle.bsi_store.specs.Lines.{bitmap_bytes, size_lines, AreRecordsOf, IsShownText};
 ghost use Rattle.bsi_table.specs.Index.{table_of};
@@ -35,6 +35,26 @@ pub fn show_index<'a, R: AllocGlobal + Files<File = S>, S: Read + LockFile + Dro
     let opened = open_index(rt, path, false)?;
     let text = describe_index(rt.alloc(), &opened.saved.index, &opened.schema)?;
     write_bytes(output, text.as_slice())?;
+    Ok(())
+}
+
+/// Reads all of a saved index, and writes how many rows it has.
+pub fn check_index<'a, R: AllocGlobal + Files<File = S>, S: Read + LockFile + Drop, O: Write>(
+    rt: &R,
+    path: &'a str,
+    output: &mut O,
+) -> Result<(), StoreFault<'a>>
+    ensures whole { OnOk result
+        (HasReadWhole S.remaining (O.contents output.old) (O.contents output.new)) }
+    ensures named { IfErr result (NamesPath (λ named. named ≡ path.entry)) }
+    ensures fault { IfErr result (IsOfFile S.remaining) }
+    ensures prefix { IfErr result (λ fault. LeavesRowCount S.remaining fault
+        (O.contents output.old) (O.contents output.new)) }
+{
+    let opened = open_index(rt, path, false)?;
+    let mut line = Vec::new(rt.alloc());
+    push_count_line("rows", opened.saved.index.len(), &mut line)?;
+    write_bytes(output, line.as_slice())?;
     Ok(())
 }
 
