@@ -3,6 +3,7 @@
 import contextlib
 import itertools
 import os
+import struct
 import subprocess
 import sys
 import threading
@@ -14,6 +15,8 @@ CASES = os.path.join(TOP, "cases")
 PROGRAM = os.path.join(TOP, "crates", "bsi", "out", "bsi")
 # How a run ended: its status (minus the signal's number where one ended it, None where its time was over), and what it wrote.
 Ran = namedtuple("Ran", "status out err")
+# What refuse.c writes before what a run wrote: how it ended, its growths, and two lengths.
+REFUSED = struct.Struct("=4Q")
 
 
 def opened(files, path, how):
@@ -36,6 +39,18 @@ def run(words, given=b"", variables=None, folder=None, seconds=60, source=None, 
         except subprocess.TimeoutExpired as late:
             return Ran(None, late.stdout or b"", late.stderr or b"")
         return Ran(ran.returncode, ran.stdout or b"", ran.stderr)
+
+
+def refused_runs(said):
+    """Returns of each run that refuse.c wrote down how it ended and how many growths it asked for, or None where that is not what it writes."""
+    runs, at = [], 0
+    with contextlib.suppress(struct.error):
+        while at < len(said):
+            status, growths, out, err = REFUSED.unpack_from(said, at)
+            at += REFUSED.size
+            runs.append((Ran(os.waitstatus_to_exitcode(status), said[at : at + out], said[at + out : at + out + err]), growths))
+            at += out + err
+    return runs if runs and at == len(said) else None
 
 
 def run_in_turns(words, given, folder=None, seconds=10, turns=()):

@@ -26,7 +26,7 @@ IsSomeTextWritten reported before after = (text : List ℕ) × IsLineWritten rep
 
 -- The usage line of a command. Those of `script` and `files` are one.
 abbrev pub usage_of : Subcommand → List ℕ
-usage_of Check = codes "usage: bsi check --schema FILE [--asks FILE] CSV..\n"
+usage_of Check = codes "usage: bsi check --schema FILE [--asks FILE] CSV.. | bsi check FILE\n"
 usage_of Save = codes "usage: bsi save [--force] [--strict] [--schema FILE | --delimiter C --decimal C --dates dmy|mdy --null WORD --columns TITLE,.. --round PLACES] --to FILE CSV..\n"
 usage_of Schema = codes "usage: bsi schema [--delimiter C --decimal C --dates dmy|mdy --null WORD --columns TITLE,.. --round PLACES] CSV..\n"
 usage_of Add = codes "usage: bsi add [--so-far] [--strict] FILE CSV..\n"
@@ -37,4 +37,4 @@ usage_of command = codes "usage: bsi script | bsi files --schema FILE --asks FIL
 
 -- What `bsi help` writes.
 abbrev pub help_text : List ℕ
-help_text = codes "bsi keeps the rows of CSV files in bitmap indexes, and answers questions about them.\n\n  bsi save [--schema FILE] --to FILE CSV..        saves the rows of CSV files as an index in a file\n  bsi schema CSV..                                writes the schema that save would find\n  bsi add FILE CSV..                              adds rows to a saved index\n  bsi ask FILE [--asks FILE]                      answers the questions of a file or of standard input\n  bsi show FILE                                   describes a saved index\n  bsi check --schema FILE [--asks FILE] CSV..     says which records and questions are bad, and why\n  bsi files --schema FILE --asks FILE CSV..       answers questions about CSV files, saving no index\n  bsi script                                      carries out the events of standard input\n  bsi help                                        writes this\n\nA question is a line as count,all or by,station,median,price,day,>=,2026-01-31: see man bsi.\n"
+help_text = codes "bsi keeps the rows of CSV files in bitmap indexes, and answers questions about them.\n\n  bsi save [--schema FILE] --to FILE CSV..        saves the rows of CSV files as an index in a file\n  bsi schema CSV..                                writes the schema that save would find\n  bsi add FILE CSV..                              adds rows to a saved index\n  bsi ask FILE [--asks FILE]                      answers the questions of a file or of standard input\n  bsi show FILE                                   describes a saved index\n  bsi check --schema FILE [--asks FILE] CSV..     says which records and questions are bad, and why\n  bsi check FILE                                  reads all of a saved index, and counts its rows\n  bsi files --schema FILE --asks FILE CSV..       answers questions about CSV files, saving no index\n  bsi script                                      carries out the events of standard input\n  bsi help                                        writes this\n\nA question is a line as count,all or by,station,median,price,day,>=,2026-01-31: see man bsi.\n"

@@ -10,6 +10,7 @@ abbrev pub IsRequestOf : Subcommand → Request → Type 0
 IsRequestOf command request.Script = command ≡ Script
 IsRequestOf command (request.Files paths) = command ≡ Files
 IsRequestOf command (request.Check paths) = command ≡ Check
+IsRequestOf command (request.CheckIndex path) = command ≡ Check
 IsRequestOf command (request.Save paths) = command ≡ Save
 IsRequestOf command (request.Schema asked) = command ≡ Schema
 IsRequestOf command (request.Add paths) = command ≡ Add

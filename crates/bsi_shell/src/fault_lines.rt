@@ -23,6 +23,7 @@ pub(crate) const HELP: &str =
     bsi ask FILE [--asks FILE]                      answers the questions of a file or of standard input\n  \
     bsi show FILE                                   describes a saved index\n  \
     bsi check --schema FILE [--asks FILE] CSV..     says which records and questions are bad, and why\n  \
+    bsi check FILE                                  reads all of a saved index, and counts its rows\n  \
     bsi files --schema FILE --asks FILE CSV..       answers questions about CSV files, saving no index\n  \
     bsi script                                      carries out the events of standard input\n  \
     bsi help                                        writes this\n\
@@ -159,7 +160,8 @@ fn usage_of(command: Subcommand) -> &'static str
         Subcommand::Script | Subcommand::Files => {
             "usage: bsi script | bsi files --schema FILE --asks FILE CSV..\n"
         }
-        Subcommand::Check => "usage: bsi check --schema FILE [--asks FILE] CSV..\n",
+        Subcommand::Check =>
+            "usage: bsi check --schema FILE [--asks FILE] CSV.. | bsi check FILE\n",
         Subcommand::Save =>
             "usage: bsi save [--force] [--strict] [--schema FILE | --delimiter C --decimal C --dates dmy|mdy --null WORD --columns TITLE,.. --round PLACES] --to FILE CSV..\n",
         Subcommand::Schema => {

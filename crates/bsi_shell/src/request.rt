@@ -20,7 +20,7 @@ pub(crate) enum Subcommand {
     Script,
     /// Runs over files.
     Files,
-    /// Says what a run over files would not accept.
+    /// Says what a run over files would not accept, or whether all of a saved index can be read.
     Check,
     /// Saves the rows of files in a file.
     Save,
@@ -79,7 +79,11 @@ const COMMANDS: [(&str, &[Argument]); 8] = [
     ("files", &[Argument::Schema, Argument::Asks, Argument::Rows]),
     (
         "check",
-        &[Argument::Schema, Argument::AsksIfGiven, Argument::Rows],
+        &[
+            Argument::SchemaIfGiven,
+            Argument::AsksIfGiven,
+            Argument::Rows,
+        ],
     ),
     (
         "save",
@@ -177,6 +181,8 @@ pub(crate) enum Request<'a> {
     Files(Paths<'a>),
     /// Say what a run over files would not accept.
     Check(CheckPaths<'a>),
+    /// Say whether all of the saved index of this path can be read.
+    CheckIndex(&'a str),
     /// Save the rows of files in a file.
     Save(SaveRequest<'a>),
     /// Say the schema that is found of row files.
@@ -331,12 +337,25 @@ fn read_paths<'a>(alloc: Global, files: &ArgMatches<'a>) -> Result<Request<'a>, 
 fn read_check_paths<'a>(alloc: Global, files: &ArgMatches<'a>) -> Result<Request<'a>, AllocError>
     ensures { IfOk result (IsRequestOf Subcommand.Check) }
 {
-    let (Some(schema), Some(rows)) = (files.get_str("schema"), files.get_strs("rows")) else {
+    let Some(rows) = files.get_strs("rows") else {
         return Ok(Request::Wrong);
     };
     let asks = files.get_str("asks");
+    let Some(schema) = files.get_str("schema") else {
+        return Ok(read_index_path(asks, rows));
+    };
     let rows = rows.to_vec(alloc)?;
     Ok(Request::Check(CheckPaths { schema, asks, rows }))
+}
+
+/// Reads the path of a saved index that is to be checked: one path, and no questions.
+fn read_index_path<'a>(asks: Option<&'a str>, paths: &[&'a str]) -> Request<'a>
+    ensures { IsRequestOf Subcommand.Check result }
+{
+    if asks.is_some() || paths.len() != 1 {
+        return Request::Wrong;
+    }
+    Request::CheckIndex(paths[0])
 }
 
 /// Reads the paths from the matches of the command `save`.

@@ -1,10 +1,11 @@
-//! Carries out the commands over a saved index: `bsi save`, `bsi schema`, `bsi add`, `bsi ask` and `bsi show`; and `bsi
-//! help`.
+//! Carries out the commands over a saved index: `bsi save`, `bsi schema`, `bsi add`, `bsi ask`, `bsi show` and `bsi check`;
+//! and `bsi help`.
 ghost use Rattle.std.specs.Prelude.{◌≡◌, ◌<◌, ◌≤◌, IfErr, IfOk, IsOk, IsOkAnd, OnOk, false, length};
 ghost use Rattle.std.specs.Io.KnownBytes.{Appends, Keeps};
 ghost use Rattle.bsi_shell.specs.StoreRuns.{bad_records_notice, EndedByFault, HasAddedRows, HasAskedEither, HasDescribedRows, HasFailedFound, HasFailedSaveOf, HasFailedSchemaOf, HasFailedStore, HasGivenRows, HasSavedBy, HasSavedDeclared, HasSavedFound, HasSavedRows, IsCutByWrite, IsFlushed, LeavesAdd, LeavesAsk, LeavesSave, LeavesSaveBy, LeavesShow, OfSome};
 ghost use Rattle.bsi_shell.specs.FaultLines.{help_text, IsLineWritten};
-ghost use Rattle.bsi_store.specs.Asked.{HasShown};
+ghost use Rattle.bsi_shell.specs.Checks.{LeavesIndexCheck};
+ghost use Rattle.bsi_store.specs.Asked.{HasReadWhole, HasShown};
 ghost use Rattle.bsi_store.specs.Faults.{store_fault_line};
 ghost use Rattle.bsi_store.specs.Surveyed.{HasDescribed, HasSurveyed};
 
@@ -17,7 +18,8 @@ use bsi_files::{Gate, Stopping};
 use bsi_logical::LogicalFormat;
 use bsi_store::{
     AddPaths, AskPaths, LockFile, SavePaths, StoreFault, SurveyFault, add_rows, ask_input,
-    ask_over, describe_rows, find_file_delimiter, save_kinds, save_rows, show_index, survey_rows,
+    ask_over, check_index, describe_rows, find_file_delimiter, save_kinds, save_rows, show_index,
+    survey_rows,
 };
 use bsi_survey::SurveyOptions;
 use bsi_text::{WriteFault, write_bytes};
@@ -291,6 +293,26 @@ pub(crate) fn answer_show<
     ensures stderr_unchanged { result.status ≡ 0 → F.contents stderr.new ≡ F.contents stderr.old }
 {
     let run = show_index(rt, path, output);
+    finish_command(run, output, stderr)
+}
+
+/// Carries out `bsi check` of a saved index.
+pub(crate) fn answer_check_index<
+    'a,
+    R: AllocGlobal + Files<File = S>,
+    S: Read + LockFile + Drop,
+    O: Write,
+    F: Write,
+>(rt: &R, path: &'a str, output: &mut O, stderr: &mut F) -> CommandEnd
+    ensures status { result.status ≤ 1 }
+    ensures whole { result.status ≡ 0 →
+        IsFlushed (HasReadWhole S.remaining) (O.contents output.old) (O.contents output.new) }
+    ensures reported { result.status ≡ 1 →
+        HasFailedStore (LeavesIndexCheck S.remaining path.entry) (HasReadWhole S.remaining)
+        (O.contents output.old) (O.contents output.new) result.reported (F.contents stderr.old) (F.contents stderr.new) }
+    ensures stderr_unchanged { result.status ≡ 0 → F.contents stderr.new ≡ F.contents stderr.old }
+{
+    let run = check_index(rt, path, output);
     finish_command(run, output, stderr)
 }
 

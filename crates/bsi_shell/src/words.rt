@@ -1,7 +1,7 @@
 //! Runs a command line (`run_words`): carries out what its words ask for, and returns the status to end with.
 ghost use Rattle.std.specs.Prelude.{◌≡◌, ◌≢◌, ◌≤◌, IfErr, OnErr, OnOk, false};
 ghost use Rattle.std.specs.Io.KnownBytes.{Appends};
-ghost use Rattle.bsi_shell.specs.Checks.{HasChecked, HasFailedCheck};
+ghost use Rattle.bsi_shell.specs.Checks.{HasChecked, HasCheckedEither, HasFailedCheck, HasFailedEitherCheck};
 ghost use Rattle.bsi_shell.specs.Commands.{subcommand_of};
 ghost use Rattle.bsi_shell.specs.FaultLines.{help_text, usage_of, IsLineWritten};
 ghost use Rattle.bsi_shell.specs.FileRuns.{HasFailedFiles, HasRunOver};
@@ -16,7 +16,8 @@ use crate::files::{RunFault, run_paths};
 use crate::paths::{CheckPaths, Paths};
 use crate::request::{Request, Subcommand, read_request, subcommand_of};
 use crate::store_commands::{
-    answer_add, answer_ask, answer_help, answer_save, answer_schema, answer_show,
+    answer_add, answer_ask, answer_check_index, answer_help, answer_save, answer_schema,
+    answer_show,
 };
 use bsi_files::{FilesFault, Gate, Stopping};
 use bsi_store::LockFile;
@@ -81,12 +82,12 @@ pub fn run_words<
         HasFailedFiles S.remaining (O.contents output.old) (O.contents output.new) result.reported
         (F.contents stderr.old) (F.contents stderr.new) }
 
-    // Where it is `check`, all is good after status 0, and no reason was written. After status 1 there are reasons on
-    // the output, or `stderr` has the line of a fault, as above.
+    // Where it is `check`, all is good after status 0, and no reason was written; or all of a saved index was read. After
+    // status 1 there are reasons on the output, or `stderr` has the line of a fault, as above.
     ensures checked { result.status ≡ 0 → subcommand_of words.items ≡ Subcommand.Check →
-        HasChecked S.remaining (O.contents output.old) (O.contents output.new) }
+        HasCheckedEither S.remaining (O.contents output.old) (O.contents output.new) }
     ensures reasons { result.status ≡ 1 → subcommand_of words.items ≡ Subcommand.Check →
-        HasFailedCheck S.remaining (O.contents output.old) (O.contents output.new) result.reported
+        HasFailedEitherCheck S.remaining (O.contents output.old) (O.contents output.new) result.reported
         (F.contents stderr.old) (F.contents stderr.new) }
 
     // Where it is a command over a saved index, it has done this by some paths after status 0. After status 1 `stderr`
@@ -142,6 +143,7 @@ pub fn run_words<
         Request::Script => answer_script(rt.alloc(), input, output, stderr),
         Request::Files(paths) => answer_files(rt, &paths, output, stderr, gate),
         Request::Check(paths) => answer_check(rt, &paths, output, stderr),
+        Request::CheckIndex(path) => answer_check_index(rt, path, output, stderr),
         Request::Save(request) => answer_save(rt, &request, output, stderr, gate),
         Request::Schema(request) => answer_schema(rt, &request, output, stderr),
         Request::Add(paths) => answer_add(rt, &paths, output, stderr, gate),

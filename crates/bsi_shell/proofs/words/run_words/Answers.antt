@@ -22,12 +22,12 @@ returns-clause-files_reported g c = λ one files.
 
 pub returns-clause-reasons : goal.returns-clause-reasons
 returns-clause-reasons g c = λ one check.
-    inr (
+    inl (inr (
       Run NoMemory,
       refl {a = g.O.Write.contents c.args.output.now},
       subst (λ reported. IsLineWritten reported (g.F.Write.contents c.args.stderr.now) (g.F.Write.contents c.write_run_fault.new.stderr) (fault_line (Run NoMemory)))
           (sym c.by-in-NoMemory.ensures.reported) c.write_run_fault.ensures,
-    )
+    ))
 
 pub returns-clause-unsaved : goal.returns-clause-unsaved
 returns-clause-unsaved g c = λ one command.
@@ -95,6 +95,19 @@ returns-in-Ask-clause-unasked g c = λ one command. inl (c.in-Ask.paths, c.answe
 
 pub returns-in-Show-clause-unshown : goal.returns-in-Show-clause-unshown
 returns-in-Show-clause-unshown g c = λ one command. inl (c.in-Show.path, c.answer_show.ensures.reported one)
+
+-- a check of files, or of a saved index
+pub returns-in-Check-clause-reasons : goal.returns-in-Check-clause-reasons
+returns-in-Check-clause-reasons g c = λ one command. inl (c.answer_check.ensures.reasons one)
+
+pub returns-in-CheckIndex-clause-reasons : goal.returns-in-CheckIndex-clause-reasons
+returns-in-CheckIndex-clause-reasons g c = λ one command. inr (c.in-CheckIndex.path, c.answer_check_index.ensures.reported one)
+
+pub returns-in-Check-clause-checked : goal.returns-in-Check-clause-checked
+returns-in-Check-clause-checked g c = λ zero command. inl (c.answer_check.ensures.checked zero)
+
+pub returns-in-CheckIndex-clause-checked : goal.returns-in-CheckIndex-clause-checked
+returns-in-CheckIndex-clause-checked g c = λ zero command. inr (c.answer_check_index.ensures.whole zero)
 
 -- and what it did by them
 pub returns-in-Save-clause-saved : goal.returns-in-Save-clause-saved
