@@ -80,13 +80,13 @@ fn columns_have_a_kind(rt: HostRuntime) -> Result<(), NoMemory> {
 }
 
 /// Fields of two parts of a column, and what is decided of both.
-type WorkedChunks = (
+type WorkedParts = (
     &'static [&'static str],
     &'static [&'static str],
     &'static str,
 );
 
-const CHUNKS: [WorkedChunks; 9] = [
+const PARTS: [WorkedParts; 9] = [
     (&["1", "2.5"], &["-0.125", "NA"], "decimal 3 -125 2500"),
     (&["1"], &["Hill"], "texts missing"),
     (&["Hill"], &["Harbour", "Hill"], "text 2"),
@@ -98,26 +98,26 @@ const CHUNKS: [WorkedChunks; 9] = [
     (&["NA"], &["-", "NA"], "nulls 2"),
 ];
 
-fn describe_chunks_once(alloc: Global, chunks: WorkedChunks) -> Result<String, NoMemory> {
+fn describe_parts_once(alloc: Global, parts: WorkedParts) -> Result<String, NoMemory> {
     let words = usual_null_words(alloc)?;
-    let mut column = column_of(alloc, &words, chunks.0, None)?;
-    let other = column_of(alloc, &words, chunks.1, None)?;
+    let mut column = column_of(alloc, &words, parts.0, None)?;
+    let other = column_of(alloc, &words, parts.1, None)?;
     column.join(other)?;
     describe(alloc, &column.decide()?)
 }
 
-fn describe_chunks(alloc: Global, chunks: WorkedChunks) -> Result<String, NoMemory> {
-    match describe_chunks_once(alloc, chunks) {
-        Err(NoMemory) => describe_chunks_once(alloc, chunks),
+fn describe_parts(alloc: Global, parts: WorkedParts) -> Result<String, NoMemory> {
+    match describe_parts_once(alloc, parts) {
+        Err(NoMemory) => describe_parts_once(alloc, parts),
         described => described,
     }
 }
 
 #[test]
-fn chunks_of_columns_are_joined(rt: HostRuntime) -> Result<(), NoMemory> {
-    for &chunks in &CHUNKS {
-        let described = describe_chunks(rt.alloc(), chunks)?;
-        assert!(rt; described.as_str() == chunks.2, "{described}");
+fn parts_of_columns_are_joined(rt: HostRuntime) -> Result<(), NoMemory> {
+    for &parts in &PARTS {
+        let described = describe_parts(rt.alloc(), parts)?;
+        assert!(rt; described.as_str() == parts.2, "{described}");
     }
     Ok(())
 }

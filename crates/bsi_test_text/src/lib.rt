@@ -1,4 +1,4 @@
-//! Tests of calls on texts, schemas, row files, kinds and their inference, checks, surveys, scripts in chunks, faults and
+//! Tests of calls on texts, schemas, row files, kinds and their inference, checks, surveys, scripts in pieces, faults and
 //! moves between threads. No crate uses it.
 #![tactic(auto)]
 
@@ -9,8 +9,6 @@ mod calls;
 #[cfg(test)]
 mod checking;
 #[cfg(test)]
-mod chunks;
-#[cfg(test)]
 mod ends;
 #[cfg(test)]
 mod inferring;
@@ -18,6 +16,8 @@ mod inferring;
 mod kinds;
 #[cfg(test)]
 mod logicals;
+#[cfg(test)]
+mod pieces;
 #[cfg(test)]
 mod row_files;
 #[cfg(test)]

@@ -1,4 +1,4 @@
-//! Tests of scripts that come in chunks: what was written each time more is asked for.
+//! Tests of scripts that come in pieces: what was written each time more is asked for.
 
 use bsi_text::{ScriptFault, run_script};
 use std::alloc::Global;
@@ -6,11 +6,11 @@ use std::io;
 use std::io::{Read, Write};
 use std::sync::atomic::{AtomicU64, Ordering};
 
-// A chunk of a text, and how many lines are to be written once it was given, and before more is asked for.
-type Chunk = (&'static str, u64);
+// A piece of a text, and how many lines are to be written once it was given, and before more is asked for.
+type Piece = (&'static str, u64);
 
-// Chunks that end within a record, within a quoted line break, behind a byte order mark, and at carriage returns.
-const TEXTS: [&[Chunk]; 4] = [
+// Pieces that end within a record, within a quoted line break, behind a byte order mark, and at carriage returns.
+const TEXTS: [&[Piece]; 4] = [
     &[
         ("column,qty,slices,3\nfee", 1),
         ("der,2\nbegin", 2),
@@ -42,11 +42,11 @@ const TEXTS: [&[Chunk]; 4] = [
     ],
 ];
 
-// Gives one chunk after the other. It counts as wrong each time that more is asked for where another number of lines was
+// Gives one piece after the other. It counts as wrong each time that more is asked for where another number of lines was
 // written than is expected.
 #[derive(Drop)]
-struct ChunkReader<'a> {
-    chunks: &'static [Chunk],
+struct PieceReader<'a> {
+    pieces: &'static [Piece],
     given: usize,
     at: usize,
     expected: u64,
@@ -54,22 +54,22 @@ struct ChunkReader<'a> {
     wrong: &'a AtomicU64,
 }
 
-impl<'a> ChunkReader<'a> {
-    // Returns what is left of the chunk that was given last.
+impl<'a> PieceReader<'a> {
+    // Returns what is left of the piece that was given last.
     fn rest(&self) -> &'static [u8] {
-        if self.given == 0 || self.given > self.chunks.len() {
+        if self.given == 0 || self.given > self.pieces.len() {
             return &[];
         }
-        let (text, _) = self.chunks[self.given - 1];
+        let (text, _) = self.pieces[self.given - 1];
         &text.as_bytes()[self.at.min(text.len())..]
     }
 
-    fn next_chunk(&mut self) {
+    fn next_piece(&mut self) {
         if self.lines.load(Ordering::SeqCst) != self.expected {
             self.wrong.fetch_add(1, Ordering::SeqCst);
         }
-        if self.given < self.chunks.len() {
-            let (_, expected) = self.chunks[self.given];
+        if self.given < self.pieces.len() {
+            let (_, expected) = self.pieces[self.given];
             self.expected = expected;
             self.given += 1;
             self.at = 0;
@@ -77,10 +77,10 @@ impl<'a> ChunkReader<'a> {
     }
 }
 
-impl<'a> Read for ChunkReader<'a> {
+impl<'a> Read for PieceReader<'a> {
     fn read(&mut self, buf: &mut [u8]) -> io::Result<usize> {
         if self.rest().is_empty() {
-            self.next_chunk();
+            self.next_piece();
         }
         let rest = self.rest();
         let count = rest.len().min(buf.len());
@@ -108,12 +108,12 @@ impl<'a> Write for Counting<'a> {
     }
 }
 
-// How a script in chunks ends, and how often more was asked for at a wrong time.
-fn run_once(alloc: Global, chunks: &'static [Chunk]) -> (Result<(), ScriptFault>, u64) {
+// How a script in pieces ends, and how often more was asked for at a wrong time.
+fn run_once(alloc: Global, pieces: &'static [Piece]) -> (Result<(), ScriptFault>, u64) {
     let lines = AtomicU64::new(0);
     let wrong = AtomicU64::new(0);
-    let reader = ChunkReader {
-        chunks,
+    let reader = PieceReader {
+        pieces,
         given: 0,
         at: 0,
         expected: 0,
@@ -125,16 +125,16 @@ fn run_once(alloc: Global, chunks: &'static [Chunk]) -> (Result<(), ScriptFault>
 }
 
 // Whether more is only asked for at the right times; where memory was refused, whether it then is.
-fn is_in_time(alloc: Global, chunks: &'static [Chunk]) -> bool {
-    match run_once(alloc, chunks) {
-        (Err(ScriptFault::NoMemory), _) => run_once(alloc, chunks) == (Ok(()), 0),
+fn is_in_time(alloc: Global, pieces: &'static [Piece]) -> bool {
+    match run_once(alloc, pieces) {
+        (Err(ScriptFault::NoMemory), _) => run_once(alloc, pieces) == (Ok(()), 0),
         ended => ended == (Ok(()), 0),
     }
 }
 
 #[test]
 fn each_line_is_written_before_more_is_asked_for(rt: HostRuntime) {
-    for (number, chunks) in TEXTS.iter().enumerate() {
-        assert!(rt; is_in_time(rt.alloc(), chunks), "in text {number}");
+    for (number, pieces) in TEXTS.iter().enumerate() {
+        assert!(rt; is_in_time(rt.alloc(), pieces), "in text {number}");
     }
 }
