@@ -6,23 +6,23 @@ use Rattle.bsi_kinds.specs.declared.kind.Kind.TheVariants.{Boolean, Date, Decima
 use Rattle.bsi_inference.specs.Choices.{choice_of, decimal_choice}
 use Rattle.bsi_inference.specs.Decimals.{is_plain_decimal, number_by, AcceptsDecimal}
 use Rattle.bsi_inference.specs.Decisions.{Decides, DecidesChoice, DecidesTexts}
-use Rattle.bsi_inference.specs.Forms.{IsOfForm}
+use Rattle.bsi_inference.specs.WrittenForms.{IsOfForm}
 use Rattle.bsi_inference.specs.Seen.{CoversSome}
 use Rattle.bsi_inference.specs.declared.candidates.Candidates.{Candidates}
 use Rattle.bsi_inference.specs.declared.choice.Choice.{Choice}
-use Rattle.bsi_inference.specs.declared.choice.Choice.TheVariants.{Nothing, Decimals, Rounded, Form as FormChoice, Digits, Orders, Texts}
+use Rattle.bsi_inference.specs.declared.choice.Choice.TheVariants.{Nothing, Decimals, Rounded, WrittenForm as FormChoice, Digits, Orders, Texts}
 use Rattle.bsi_inference.specs.declared.decimals.Decimals.{Decimals as DecimalsSeen}
 use Rattle.bsi_inference.specs.declared.decision.Column.{Column}
 use Rattle.bsi_inference.specs.declared.decision.Decision.TheVariants.{Column as DecidedColumn}
-use Rattle.bsi_inference.specs.declared.form.Form.{Form}
-use Rattle.bsi_inference.specs.declared.form.Form.TheVariants.{Boolean as BooleanForm, Date as DateForm, Time as TimeForm}
+use Rattle.bsi_inference.specs.declared.written_form.WrittenForm.{WrittenForm}
+use Rattle.bsi_inference.specs.declared.written_form.WrittenForm.TheVariants.{Boolean as BooleanForm, Date as DateForm, Time as TimeForm}
 use Rattle.bsi_inference.specs.declared.gathered.Gathering.{Gathering}
 use Rattle.bsi_inference.specs.declared.gathered.Gathering.TheVariants.{All, Missing, TooMany}
 use Rattle.bsi_inference.specs.declared.seen.Seen.{Seen}
 use Rattle.bsi_inference.specs.declared.seen.Seen.TheVariants.{Nothing as NothingSeen, Numbers, RuledOut}
 
 -- a kind of a form has no texts
-form_kind : (form : Form) (texts : List Field) → IsOfForm form (Text texts) → ⊥
+form_kind : (form : WrittenForm) (texts : List Field) → IsOfForm form (Text texts) → ⊥
 form_kind BooleanForm texts of = of
 form_kind (DateForm f) texts of = of
 form_kind (TimeForm f) texts of = of
@@ -36,9 +36,9 @@ by_state TooMany texts column is = absurd (cc)
 words_none : (state : Gathering) (texts nulls : List Field) (choice : Choice) (column : Column) → DecidesChoice state texts nulls choice (DecidedColumn column)
     → (own : List Field) → column.kind ≡ Text own → column.nulls.items ≡ []
 words_none state texts nulls Nothing column decides own text = absurd decides
-words_none state texts nulls (Decimals places span) column decides own text = let other = decides.0 in absurd (cc)
-words_none state texts nulls (Rounded places span) column decides own text = let other = decides.0 in absurd (cc)
-words_none state texts nulls (FormChoice form span) column decides own text = absurd (form_kind form own (subst (λ (k : Kind). IsOfForm form k) text decides.0))
+words_none state texts nulls (Decimals places range) column decides own text = let other = decides.0 in absurd (cc)
+words_none state texts nulls (Rounded places range) column decides own text = let other = decides.0 in absurd (cc)
+words_none state texts nulls (FormChoice form range) column decides own text = absurd (form_kind form own (subst (λ (k : Kind). IsOfForm form k) text decides.0))
 words_none state texts nulls (Digits places) column is own text = absurd (cc)
 words_none state texts nulls (Orders sign) column is own text = absurd (cc)
 words_none state texts nulls Texts column decides own text = (by_state state texts column decides).1
@@ -62,7 +62,7 @@ texts_alone point decimals accepts = by decimals.seen refl decimals.spelled refl
   where
     by : (seen : Seen) → decimals.seen ≡ seen → (plain : Bool) → decimals.spelled ≡ plain → decimal_choice decimals.seen decimals [] ≡ Texts
     by NothingSeen is plain known = absurd (subst (λ (s : Seen). CoversSome s (λ n. number_by decimals.rounding point decimals.places [] ≡ Some n)) is (accepts []).number)
-    by (Numbers span) is plain known =
+    by (Numbers range) is plain known =
         let covers = subst (λ (s : Seen). CoversSome s (λ n. number_by decimals.rounding point decimals.places [] ≡ Some n)) is (accepts []).number in
         let none = nothing_spelled decimals.rounding point decimals.places in
         let some = covers.1 in

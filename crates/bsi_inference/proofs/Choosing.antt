@@ -8,21 +8,21 @@ use Rattle.bsi_kinds.specs.declared.date.DateForm.{DateForm}
 use Rattle.bsi_kinds.specs.declared.date.DateOrder.{DateOrder}
 use Rattle.bsi_kinds.specs.declared.date.DateOrder.TheVariants.{YearFirst, DayFirst, MonthFirst}
 use Rattle.bsi_kinds.proofs.Cutting.{some_none, some_same}
-use Rattle.bsi_inference.specs.Candidates.{first_remaining, has_month_first, is_month_first, is_month_first_form, span_remaining, AcceptsField, EachAccepts}
+use Rattle.bsi_inference.specs.Candidates.{first_remaining, has_month_first, is_month_first, is_month_first_form, range_remaining, AcceptsField, EachAccepts}
 use Rattle.bsi_inference.specs.Choices.{HasFormNumberIn, HasNumberIn, IsDateIn, IsDateInBoth}
-use Rattle.bsi_inference.specs.Forms.{SpellsInForm}
+use Rattle.bsi_inference.specs.WrittenForms.{SpellsInForm}
 use Rattle.bsi_inference.specs.Seen.{CoversSome}
 use Rattle.bsi_inference.specs.declared.candidate.Candidate.{Candidate}
-use Rattle.bsi_inference.specs.declared.form.Form.{Form}
-use Rattle.bsi_inference.specs.declared.form.Form.TheVariants.{Boolean, Date, Time}
+use Rattle.bsi_inference.specs.declared.written_form.WrittenForm.{WrittenForm}
+use Rattle.bsi_inference.specs.declared.written_form.WrittenForm.TheVariants.{Boolean, Date, Time}
 use Rattle.bsi_inference.specs.declared.seen.Seen.{Seen}
 use Rattle.bsi_inference.specs.declared.seen.Seen.TheVariants.{Nothing, Numbers, RuledOut}
-use Rattle.bsi_inference.specs.declared.span.Span.{Span}
+use Rattle.bsi_inference.specs.declared.number_range.NumberRange.{NumberRange}
 
--- a number that was seen lies in the span
-pub seen_number : (seen : Seen) (span : Span) (Is : ℤ → Type 0) → seen ≡ Numbers span → CoversSome seen Is → HasNumberIn Is span
-seen_number seen span Is is covers =
-    let here : CoversSome (Numbers span) Is = subst (λ (s : Seen). CoversSome s Is) is covers in
+-- a number that was seen lies in the range
+pub seen_number : (seen : Seen) (range : NumberRange) (Is : ℤ → Type 0) → seen ≡ Numbers range → CoversSome seen Is → HasNumberIn Is range
+seen_number seen range Is is covers =
+    let here : CoversSome (Numbers range) Is = subst (λ (s : Seen). CoversSome s Is) is covers in
     record { number = here.0; is = here.1; within = here.2 }
 
 -- the others take what all take
@@ -33,18 +33,18 @@ first_takes : (c : Candidate) (cs : List Candidate) (f : List ℕ) → EachAccep
 first_takes c cs f accepts = accepts 0 c (omega arith)
 
 -- the first candidate that is left takes what all take
-module _ (form : Form) (span : Span) (f : List ℕ) where
-  seen_here : (first : Form) (seen : Seen) (others : Option (Form × Span)) → (others ≡ Some (form, span) → HasFormNumberIn form span f)
-      → option_or (option_map (λ s. (first, s)) (span_remaining seen)) others ≡ Some (form, span) → CoversSome seen (SpellsInForm first f) → HasFormNumberIn form span f
+module _ (form : WrittenForm) (range : NumberRange) (f : List ℕ) where
+  seen_here : (first : WrittenForm) (seen : Seen) (others : Option (WrittenForm × NumberRange)) → (others ≡ Some (form, range) → HasFormNumberIn form range f)
+      → option_or (option_map (λ s. (first, s)) (range_remaining seen)) others ≡ Some (form, range) → CoversSome seen (SpellsInForm first f) → HasFormNumberIn form range f
   seen_here first Nothing others rest is covers = rest is
   seen_here first (Numbers s) others rest is covers =
       let same = some_same is in
       let form_is : first ≡ form = ap (λ p. p.0) same in
-      let span_is : s ≡ span = ap (λ p. p.1) same in
-      subst (λ (g : Form). HasFormNumberIn g span f) form_is (seen_number (Numbers s) span (SpellsInForm first f) (ap (λ t. Numbers t) span_is) covers)
+      let range_is : s ≡ range = ap (λ p. p.1) same in
+      subst (λ (g : WrittenForm). HasFormNumberIn g range f) form_is (seen_number (Numbers s) range (SpellsInForm first f) (ap (λ t. Numbers t) range_is) covers)
   seen_here first RuledOut others rest is covers = rest is
 
-  pub left_takes : (cs : List Candidate) → first_remaining cs ≡ Some (form, span) → EachAccepts cs f → HasFormNumberIn form span f
+  pub left_takes : (cs : List Candidate) → first_remaining cs ≡ Some (form, range) → EachAccepts cs f → HasFormNumberIn form range f
   left_takes [] is accepts = absurd (some_none (sym is))
   left_takes (c ∷ cs) is accepts =
       seen_here c.form c.seen (first_remaining cs) (λ others. left_takes cs others (rest_takes c cs f accepts)) is (first_takes c cs f accepts)
@@ -58,7 +58,7 @@ month_order MonthFirst is = refl
 abbrev form_of : DateOrder → ℕ → DateForm
 form_of order sign = record { order = order; sign = sign }
 
-form_spells : (sign : ℕ) (f : List ℕ) (form : Form) (n : ℤ) → is_month_first_form sign form ≡ true → SpellsInForm form f n → IsDateIn MonthFirst sign f
+form_spells : (sign : ℕ) (f : List ℕ) (form : WrittenForm) (n : ℤ) → is_month_first_form sign form ≡ true → SpellsInForm form f n → IsDateIn MonthFirst sign f
 form_spells sign f Boolean n is spells = absurd (cc)
 form_spells sign f (Date form) n is spells =
     let parts = and_parts (has_month_first form.order) (form.sign == sign) is in
@@ -66,10 +66,10 @@ form_spells sign f (Date form) n is spells =
     (n, ap (λ g. date_number g f) (sym same) ∙ spells)
 form_spells sign f (Time form) n is spells = absurd (cc)
 
-month_here : (sign : ℕ) (f : List ℕ) (form : Form) (seen : Seen) → (is_some (span_remaining seen) && is_month_first_form sign form) ≡ true
+month_here : (sign : ℕ) (f : List ℕ) (form : WrittenForm) (seen : Seen) → (is_some (range_remaining seen) && is_month_first_form sign form) ≡ true
     → CoversSome seen (SpellsInForm form f) → IsDateIn MonthFirst sign f
 month_here sign f form Nothing is covers = absurd (cc)
-month_here sign f form (Numbers span) is covers = form_spells sign f form covers.0 is covers.1
+month_here sign f form (Numbers range) is covers = form_spells sign f form covers.0 is covers.1
 month_here sign f form RuledOut is covers = absurd (cc)
 
 either : (a b : Bool) → (a || b) ≡ true → (a ≡ true) ⊎ (b ≡ true)
@@ -84,9 +84,9 @@ month_takes sign f (c ∷ cs) is accepts = elim (either (is_month_first sign c) 
 ]
 
 -- dates that may have the day or the month first
-pub both_orders : (form : DateForm) (span : Span) (f : List ℕ) (cs : List Candidate) → form.order ≡ DayFirst → list_any (is_month_first form.sign) cs ≡ true
-    → EachAccepts cs f → HasFormNumberIn (Date form) span f → IsDateInBoth form.sign f
-both_orders form span f cs order left accepts seen =
+pub both_orders : (form : DateForm) (range : NumberRange) (f : List ℕ) (cs : List Candidate) → form.order ≡ DayFirst → list_any (is_month_first form.sign) cs ≡ true
+    → EachAccepts cs f → HasFormNumberIn (Date form) range f → IsDateInBoth form.sign f
+both_orders form range f cs order left accepts seen =
     let same : form ≡ form_of DayFirst form.sign = ap (λ o. form_of o form.sign) order in
     record {
       day_first = (seen.number, ap (λ g. date_number g f) (sym same) ∙ seen.is);

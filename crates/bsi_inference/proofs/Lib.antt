@@ -4,7 +4,7 @@ pub mod Choosing
 pub mod Inserting
 pub mod Outcomes
 pub mod Plain
-pub mod Spans
+pub mod Ranges
 pub mod Steps
 pub mod Taking
 pub mod Widening

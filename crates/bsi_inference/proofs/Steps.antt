@@ -4,17 +4,17 @@ use Rattle.std.proofs.Math.ListN.{length-set, set}
 use Rattle.std.proofs.lemmas.Bool.{cases_eq}
 use Rattle.std.proofs.lemmas.List.{get_or_default, length-map}
 use Rattle.bsi_inference.specs.Candidates.{IsJoined, IsNext, IsObserved}
-use Rattle.bsi_inference.specs.Forms.{SpellsInForm}
+use Rattle.bsi_inference.specs.WrittenForms.{SpellsInForm}
 use Rattle.bsi_inference.specs.Seen.{Covers, CoversSome, IsSeenWith, IsSeenWithAll}
 use Rattle.bsi_inference.specs.declared.candidate.Candidate.{Candidate}
-use Rattle.bsi_inference.specs.declared.form.Form.{Form}
+use Rattle.bsi_inference.specs.declared.written_form.WrittenForm.{WrittenForm}
 use Rattle.bsi_inference.specs.declared.seen.Seen.{Seen}
 use Rattle.bsi_inference.specs.declared.seen.Seen.TheVariants.{Nothing, Numbers, RuledOut}
 
 -- a number that is covered is some number that was seen
 pub covers_some : (seen : Seen) (Is : ℤ → Type 0) (n : ℤ) → Is n → Covers seen n → CoversSome seen Is
 covers_some Nothing Is n is covers = covers
-covers_some (Numbers span) Is n is covers = (n, is, covers)
+covers_some (Numbers range) Is n is covers = (n, is, covers)
 covers_some RuledOut Is n is covers = tt
 
 pub fallen_covers : (seen : Seen) (Is : ℤ → Type 0) → seen ≡ RuledOut → CoversSome seen Is
@@ -24,7 +24,7 @@ fallen_covers seen Is ruled_out = subst (λ (s : Seen). CoversSome s Is) (sym ru
 pub covers_more : (old new : Seen) (Is : ℤ → Type 0) → ((n : ℤ) → Covers old n → Covers new n) → (old ≡ RuledOut → new ≡ RuledOut)
     → CoversSome old Is → CoversSome new Is
 covers_more Nothing new Is preserved ruled_out covers = absurd covers
-covers_more (Numbers span) new Is preserved ruled_out covers = covers_some new Is covers.0 covers.1 (preserved covers.0 covers.2)
+covers_more (Numbers range) new Is preserved ruled_out covers = covers_some new Is covers.0 covers.1 (preserved covers.0 covers.2)
 covers_more RuledOut new Is preserved ruled_out covers = fallen_covers new Is (ruled_out refl)
 
 -- a candidate that has fallen stays as it is
@@ -37,7 +37,7 @@ fallen_next field c ruled_out = record {
 }
 
 -- a field that was read, or not
-module _ (field : List ℕ) (form : Form) (old new : Seen) (preserved : (n : ℤ) → Covers old n → Covers new n) (ruled_out : old ≡ RuledOut → new ≡ RuledOut) where
+module _ (field : List ℕ) (form : WrittenForm) (old new : Seen) (preserved : (n : ℤ) → Covers old n → Covers new n) (ruled_out : old ≡ RuledOut → new ≡ RuledOut) where
   takes_read : (found : Option ℤ) → IfSome found (SpellsInForm form field) → IfSome found (Covers new) → IfNone found (new ≡ RuledOut) → CoversSome new (SpellsInForm form field)
   takes_read None spells covers none = fallen_covers new (SpellsInForm form field) none
   takes_read (Some n) spells covers none = covers_some new (SpellsInForm form field) n spells covers
@@ -65,7 +65,7 @@ join_next old other seen same preserved joined ruled_out other_ruled_out exact =
   form = refl;
   preserved = λ f accepts. covers_more old.seen seen (SpellsInForm old.form f) preserved ruled_out accepts;
   joined = λ f accepts. covers_more other.seen seen (SpellsInForm old.form f) joined other_ruled_out
-      (subst (λ (g : Form). CoversSome other.seen (SpellsInForm g f)) (sym same) accepts);
+      (subst (λ (g : WrittenForm). CoversSome other.seen (SpellsInForm g f)) (sym same) accepts);
   seen = exact;
 }
 

@@ -74,15 +74,15 @@ entry_more point p j text n fits is =
 module _ (point p j places : ℕ) (more : places ≡ p + j) (text : List ℕ) where
   more_covered : (new : Seen) (n : ℤ) → decimal_entry point p text ≡ Some n → Covers new (n *ℤ pos (10 ^ j)) → CoversSome new (λ m. decimal_entry point places text ≡ Some m)
   more_covered Nothing n is covers = covers
-  more_covered (Numbers span) n is covers =
-      let fits = between_fits span.least span.greatest (n *ℤ pos (10 ^ j)) span.least_fits span.greatest_fits covers.0 covers.1 in
+  more_covered (Numbers range) n is covers =
+      let fits = between_fits range.least range.greatest (n *ℤ pos (10 ^ j)) range.least_fits range.greatest_fits covers.0 covers.1 in
       (n *ℤ pos (10 ^ j), ap (λ k. decimal_entry point k text) more ∙ entry_more point p j text n fits is, covers)
   more_covered RuledOut n is covers = tt
 
   pub sees_more : (old new : Seen) → ((n : ℤ) → Covers old n → Covers new (n *ℤ pos (10 ^ j))) → (old ≡ RuledOut → new ≡ RuledOut)
       → CoversSome old (λ n. decimal_entry point p text ≡ Some n) → CoversSome new (λ n. decimal_entry point places text ≡ Some n)
   sees_more Nothing new keeps ruled_out accepted = absurd accepted
-  sees_more (Numbers span) new keeps ruled_out accepted = more_covered new accepted.0 accepted.1 (keeps accepted.0 accepted.2)
+  sees_more (Numbers range) new keeps ruled_out accepted = more_covered new accepted.0 accepted.1 (keeps accepted.0 accepted.2)
   sees_more RuledOut new keeps ruled_out accepted = fallen_covers new (λ n. decimal_entry point places text ≡ Some n) (ruled_out refl)
 
 -- what was read

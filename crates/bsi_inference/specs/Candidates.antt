@@ -6,14 +6,14 @@ use Rattle.std.specs.Option.{option_or}
 use Rattle.bsi_rows.specs.Fields.{Field}
 use Rattle.bsi_kinds.specs.declared.date.DateOrder.{DateOrder}
 use Rattle.bsi_kinds.specs.declared.date.DateOrder.TheVariants.{YearFirst, DayFirst, MonthFirst}
-use Rattle.bsi_inference.specs.Forms.{is_allowed, SpellsInForm}
+use Rattle.bsi_inference.specs.WrittenForms.{is_allowed, SpellsInForm}
 use Rattle.bsi_inference.specs.Seen.{CoversSome, IsSeenWith, IsSeenWithAll}
 use Rattle.bsi_inference.specs.declared.candidate.Candidate.{Candidate}
-use Rattle.bsi_inference.specs.declared.form.Form.{Form}
-use Rattle.bsi_inference.specs.declared.form.Form.TheVariants.{Boolean, Date, Time}
+use Rattle.bsi_inference.specs.declared.written_form.WrittenForm.{WrittenForm}
+use Rattle.bsi_inference.specs.declared.written_form.WrittenForm.TheVariants.{Boolean, Date, Time}
 use Rattle.bsi_inference.specs.declared.seen.Seen.{Seen}
 use Rattle.bsi_inference.specs.declared.seen.Seen.TheVariants.{Nothing, Numbers, RuledOut}
-use Rattle.bsi_inference.specs.declared.span.Span.{Span}
+use Rattle.bsi_inference.specs.declared.number_range.NumberRange.{NumberRange}
 
 -- A candidate accepts a field: its form gives the field a number that was seen. One that is ruled out accepts any
 -- field.
@@ -49,15 +49,15 @@ pub record AreNext (field : Field) (old new : List Candidate) : Type 0 where
   pub each : (k : ℕ) → (d : Candidate) → k < length old → IsNext field (slice_index_or old k d) (slice_index_or new k d)
 
 -- The numbers that were seen, if the form is not ruled out.
-abbrev pub span_remaining : Seen → Option Span
-span_remaining Nothing = None
-span_remaining (Numbers span) = Some span
-span_remaining RuledOut = None
+abbrev pub range_remaining : Seen → Option NumberRange
+range_remaining Nothing = None
+range_remaining (Numbers range) = Some range
+range_remaining RuledOut = None
 
 -- The first candidate that is not ruled out: its form, and the numbers that were seen.
-abbrev pub first_remaining : List Candidate → Option (Form × Span)
+abbrev pub first_remaining : List Candidate → Option (WrittenForm × NumberRange)
 first_remaining [] = None
-first_remaining (c ∷ cs) = option_or (option_map (λ span. (c.form, span)) (span_remaining c.seen)) (first_remaining cs)
+first_remaining (c ∷ cs) = option_or (option_map (λ range. (c.form, range)) (range_remaining c.seen)) (first_remaining cs)
 
 abbrev pub has_month_first : DateOrder → Bool
 has_month_first YearFirst = false
@@ -65,17 +65,17 @@ has_month_first DayFirst = false
 has_month_first MonthFirst = true
 
 -- Dates with the month first, and the sign between two numbers.
-abbrev pub is_month_first_form : ℕ → Form → Bool
+abbrev pub is_month_first_form : ℕ → WrittenForm → Bool
 is_month_first_form sign Boolean = false
 is_month_first_form sign (Date form) = has_month_first form.order && form.sign == sign
 is_month_first_form sign (Time form) = false
 
 -- The candidate is not ruled out, and has such dates.
 abbrev pub is_month_first : ℕ → Candidate → Bool
-is_month_first sign c = is_some (span_remaining c.seen) && is_month_first_form sign c.form
+is_month_first sign c = is_some (range_remaining c.seen) && is_month_first_form sign c.form
 
 -- The candidate of a form before any field. A form that the column may not have is ruled out.
-abbrev pub first_candidate : Option DateOrder → Form → Candidate
+abbrev pub first_candidate : Option DateOrder → WrittenForm → Candidate
 first_candidate order form = record { form = form; seen = if is_allowed order form then Nothing else RuledOut }
 
 -- A candidate is joined with the one of the same form that saw other fields of the column.
@@ -86,7 +86,7 @@ pub record IsJoined (old other new : Candidate) : Type 0 where
   pub preserved : (f : Field) → AcceptsField f old → AcceptsField f new
   -- The candidate accepts each field that the other one accepted.
   pub joined : (f : Field) → AcceptsField f other → AcceptsField f new
-  -- The spans of the two candidates are joined; if either is ruled out, so is the new one.
+  -- The ranges of the two candidates are joined; if either is ruled out, so is the new one.
   pub seen : IsSeenWithAll other.seen old.seen new.seen
 
 pub record AreJoined (old others new : List Candidate) : Type 0 where

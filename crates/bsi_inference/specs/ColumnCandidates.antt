@@ -10,7 +10,7 @@ use Rattle.bsi_kinds.specs.Nulls.{is_null_word}
 use Rattle.bsi_inference.specs.declared.candidate.Candidate.{Candidate}
 use Rattle.bsi_inference.specs.declared.candidates.Candidates.{Candidates}
 use Rattle.bsi_inference.specs.declared.decimals.Decimals.{Decimals}
-use Rattle.bsi_inference.specs.declared.form.TheConstants.{FORMS}
+use Rattle.bsi_inference.specs.declared.written_form.TheConstants.{WRITTEN_FORMS}
 use Rattle.bsi_inference.specs.declared.gathered.Gathering.TheVariants.{All, Missing, TooMany}
 use Rattle.bsi_inference.specs.declared.seen.Seen.TheVariants.{Nothing, RuledOut}
 
@@ -91,7 +91,7 @@ pub record HasSeenNothing (first : Decimals) (each : List Candidate) (c : Candid
 abbrev pub IsNewColumnBy : Option ℕ → ℕ → Option DateOrder → Candidates → Type 0
 IsNewColumnBy rounding point order c =
     (c.point ≡ point)
-    × HasSeenNothing (record { places = 0; rounding = rounding; seen = Nothing; spelled = true }) (map (first_candidate order) FORMS) c
+    × HasSeenNothing (record { places = 0; rounding = rounding; seen = Nothing; spelled = true }) (map (first_candidate order) WRITTEN_FORMS) c
 
 abbrev pub IsNewColumn : ℕ → Option DateOrder → Candidates → Type 0
 IsNewColumn point order c = IsNewColumnBy None point order c
@@ -114,7 +114,7 @@ pub record HaveSameForms (first second : Candidates) : Type 0 where
 pub record LooksForBy (places : Option ℕ) (point : ℕ) (c : Candidates) : Type 0 where
   pub decimals : c.point ≡ point
   pub rounding : c.decimals.rounding ≡ places
-  pub forms : map (λ c. c.form) c.forms.items ≡ FORMS
+  pub forms : map (λ c. c.form) c.forms.items ≡ WRITTEN_FORMS
 
 -- The column's decimals are not rounded.
 abbrev pub LooksFor : ℕ → Candidates → Type 0

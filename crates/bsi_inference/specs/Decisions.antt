@@ -8,10 +8,10 @@ use Rattle.bsi_kinds.specs.declared.kind.Kind.TheVariants.{Decimal, Rounded as R
 use Rattle.bsi_inference.specs.Choices.{choice_of, HasNumberIn, IsDateInBoth}
 use Rattle.bsi_inference.specs.ColumnCandidates.{IsNull}
 use Rattle.bsi_inference.specs.Decimals.{IsPlainDecimal}
-use Rattle.bsi_inference.specs.Forms.{IsOfForm}
+use Rattle.bsi_inference.specs.WrittenForms.{IsOfForm}
 use Rattle.bsi_inference.specs.declared.candidates.Candidates.{Candidates}
 use Rattle.bsi_inference.specs.declared.choice.Choice.{Choice}
-use Rattle.bsi_inference.specs.declared.choice.Choice.TheVariants.{Nothing, Decimals, Rounded, Form as FormChoice, Digits, Orders, Texts}
+use Rattle.bsi_inference.specs.declared.choice.Choice.TheVariants.{Nothing, Decimals, Rounded, WrittenForm as FormChoice, Digits, Orders, Texts}
 use Rattle.bsi_inference.specs.declared.decision.Column.{Column}
 use Rattle.bsi_inference.specs.declared.decision.Decision.{Decision}
 use Rattle.bsi_inference.specs.declared.decision.Decision.TheVariants.{Column as DecidedColumn, Doubt as InDoubt, Nulls}
@@ -19,7 +19,7 @@ use Rattle.bsi_inference.specs.declared.decision.Doubt.{Doubt}
 use Rattle.bsi_inference.specs.declared.decision.Doubt.TheVariants.{TooManyDigits, TwoOrders, TextsMissing, TooManyTexts}
 use Rattle.bsi_inference.specs.declared.gathered.Gathering.{Gathering}
 use Rattle.bsi_inference.specs.declared.gathered.Gathering.TheVariants.{All, Missing, TooMany}
-use Rattle.bsi_inference.specs.declared.span.Span.{Span}
+use Rattle.bsi_inference.specs.declared.number_range.NumberRange.{NumberRange}
 
 -- A field is empty, or one of the words.
 abbrev pub IsEmptyOr : List Field → Field → Type 0
@@ -27,7 +27,7 @@ IsEmptyOr words f = (f ≡ []) ⊎ Contains words f
 
 -- A field has a number in the column.
 abbrev pub HasNumber : ℕ → Column → Field → Type 0
-HasNumber point column f = HasNumberIn (IsSpelled column.kind point f) column.span
+HasNumber point column f = HasNumberIn (IsSpelled column.kind point f) column.range
 
 -- A doubt is true of a field that is not null.
 abbrev pub IsDoubtOf : ℕ → Doubt → Field → Type 0
@@ -48,21 +48,21 @@ HasKind (DecidedColumn column) = IsKind column.kind
 HasKind (Nulls words) = Unit {0}
 HasKind (InDoubt doubt) = Unit {0}
 
--- The decision is a column of a kind, with a span and null words.
-abbrev pub IsColumnOf : Kind → Span → List Field → Decision → Type 0
-IsColumnOf kind span nulls (DecidedColumn column) =
-    (column.kind ≡ kind) × (column.span ≡ span) × (map (λ w. w.items) column.nulls.items ≡ nulls)
-IsColumnOf kind span nulls (Nulls words) = ⊥
-IsColumnOf kind span nulls (InDoubt doubt) = ⊥
+-- The decision is a column of a kind, with a range and null words.
+abbrev pub IsColumnOf : Kind → NumberRange → List Field → Decision → Type 0
+IsColumnOf kind range nulls (DecidedColumn column) =
+    (column.kind ≡ kind) × (column.range ≡ range) × (map (λ w. w.items) column.nulls.items ≡ nulls)
+IsColumnOf kind range nulls (Nulls words) = ⊥
+IsColumnOf kind range nulls (InDoubt doubt) = ⊥
 
 -- A column of texts.
 pub record HasTexts (texts : List Field) (column : Column) : Type 0 where
   -- The kind is that of these texts.
   pub kind : column.kind ≡ Text texts
   -- The least number is 0.
-  pub least : column.span.least ≡ pos 0
+  pub least : column.range.least ≡ pos 0
   -- The greatest number is one less than the number of texts.
-  pub greatest : column.span.greatest +ℤ pos 1 ≡ pos (length texts)
+  pub greatest : column.range.greatest +ℤ pos 1 ≡ pos (length texts)
   -- There is no null word.
   pub nulls : column.nulls.items ≡ []
 
@@ -84,12 +84,12 @@ HasNulls nulls column = map (λ w. w.items) column.nulls.items ≡ nulls
 -- What is decided of a choice. `nulls` are the null words that were met.
 abbrev pub DecidesChoice : Gathering → List Field → List Field → Choice → Decision → Type 0
 DecidesChoice state texts nulls Nothing (Nulls words) = map (λ w. w.items) words.items ≡ nulls
-DecidesChoice state texts nulls (Decimals places span) (DecidedColumn column) =
-    (column.kind ≡ Decimal places) × (column.span ≡ span) × HasNulls nulls column
-DecidesChoice state texts nulls (Rounded places span) (DecidedColumn column) =
-    (column.kind ≡ RoundedKind places) × (column.span ≡ span) × HasNulls nulls column
-DecidesChoice state texts nulls (FormChoice form span) (DecidedColumn column) =
-    IsOfForm form column.kind × (column.span ≡ span) × HasNulls nulls column
+DecidesChoice state texts nulls (Decimals places range) (DecidedColumn column) =
+    (column.kind ≡ Decimal places) × (column.range ≡ range) × HasNulls nulls column
+DecidesChoice state texts nulls (Rounded places range) (DecidedColumn column) =
+    (column.kind ≡ RoundedKind places) × (column.range ≡ range) × HasNulls nulls column
+DecidesChoice state texts nulls (FormChoice form range) (DecidedColumn column) =
+    IsOfForm form column.kind × (column.range ≡ range) × HasNulls nulls column
 DecidesChoice state texts nulls (Digits places) decision = decision ≡ InDoubt (TooManyDigits places)
 DecidesChoice state texts nulls (Orders sign) decision = decision ≡ InDoubt (TwoOrders sign)
 DecidesChoice state texts nulls Texts decision = DecidesTexts state texts decision

@@ -4,8 +4,8 @@ pub mod Codes
 pub mod ColumnCandidates
 pub mod Decimals
 pub mod Decisions
-pub mod Forms
 pub mod Gatherings
 pub mod Nulls
 pub mod Seen
 pub mod Texts
+pub mod WrittenForms

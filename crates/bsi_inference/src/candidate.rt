@@ -5,16 +5,16 @@ ghost use Rattle.std.specs.Prelude.{◌≡◌, map};
 ghost use Rattle.std.specs.List.{list_any};
 ghost use Rattle.bsi_inference.specs.Candidates.{first_candidate, first_remaining, is_month_first, AreJoined, AreNext, IsJoined, IsNext};
 
-use crate::form::Form;
+use crate::number_range::NumberRange;
 use crate::seen::Seen;
-use crate::span::Span;
+use crate::written_form::WrittenForm;
 use bsi_kinds::DateOrder;
 
 /// A form that the fields of a column may have, and the numbers that they have by it.
 #[derive(Clone, Copy, Debug, PartialEq, Eq)]
 pub(crate) struct Candidate {
     /// The form.
-    pub form: Form,
+    pub form: WrittenForm,
     /// What was seen of the column.
     pub seen: Seen,
 }
@@ -22,7 +22,7 @@ pub(crate) struct Candidate {
 impl Candidate {
     /// Returns the candidate of a form, before a field was seen. It is ruled out where the caller says that day or month stands
     /// first, and the form has it otherwise.
-    pub(crate) fn first(form: Form, order: Option<DateOrder>) -> Candidate
+    pub(crate) fn first(form: WrittenForm, order: Option<DateOrder>) -> Candidate
         ensures { result ≡ first_candidate order form }
     {
         Candidate {
@@ -68,12 +68,12 @@ pub(crate) fn join_each(candidates: &mut [Candidate], others: &[Candidate])
 }
 
 /// Returns the form and the numbers of the first candidate that is not ruled out.
-pub(crate) fn find_remaining(candidates: &[Candidate]) -> Option<(Form, Span)>
+pub(crate) fn find_remaining(candidates: &[Candidate]) -> Option<(WrittenForm, NumberRange)>
     ensures { result ≡ first_remaining candidates.now }
 {
     'candidates: for candidate in candidates {
-        if let Seen::Numbers(span) = candidate.seen {
-            return Some((candidate.form, span));
+        if let Seen::Numbers(range) = candidate.seen {
+            return Some((candidate.form, range));
         }
     }
     None
@@ -93,7 +93,7 @@ fn is_month_first(candidate: Candidate, sign: u8) -> bool
     ensures { result ≡ is_month_first sign candidate }
 {
     match (candidate.seen, candidate.form) {
-        (Seen::Numbers(_), Form::Date(form)) => {
+        (Seen::Numbers(_), WrittenForm::Date(form)) => {
             matches!(form.order, DateOrder::MonthFirst) && form.sign == sign
         }
         _ => false,

@@ -10,11 +10,11 @@ ghost use Rattle.bsi_inference.specs.ColumnCandidates.{has_remaining, is_null_fi
 use crate::NoMemory;
 use crate::candidate::{Candidate, find_remaining, join_each, observe_each};
 use crate::decimals::Decimals;
-use crate::form::FORMS;
 use crate::gathered::Gathered;
 use crate::nulls::is_null_word;
 use crate::seen::Seen;
 use crate::text_set::TextSet;
+use crate::written_form::WRITTEN_FORMS;
 use bsi_kinds::DateOrder;
 use std::alloc::Global;
 
@@ -62,7 +62,7 @@ impl Candidates {
         ensures begun { IfOk result (IsNewColumnBy rounding point order) }
         ensures forms { IfOk result (LooksForBy rounding point) }
     {
-        let forms = list_forms(alloc, order)?;
+        let forms = list_written_forms(alloc, order)?;
         Ok(Candidates {
             point,
             decimals: Decimals {
@@ -208,10 +208,10 @@ impl Candidates {
 }
 
 /// Makes a list of the forms that a column may have, of which no field was seen.
-fn list_forms(alloc: Global, order: Option<DateOrder>) -> Result<Vec<Candidate>, NoMemory>
-    ensures { IfOk result (λ forms. forms.items ≡ map (first_candidate order) FORMS) }
+fn list_written_forms(alloc: Global, order: Option<DateOrder>) -> Result<Vec<Candidate>, NoMemory>
+    ensures { IfOk result (λ forms. forms.items ≡ map (first_candidate order) WRITTEN_FORMS) }
 {
-    FORMS
+    WRITTEN_FORMS
         .iter()
         .map(|form| Candidate::first(*form, order))
         .collect(alloc)

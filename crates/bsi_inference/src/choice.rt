@@ -9,9 +9,9 @@ ghost use Rattle.bsi_inference.specs.ColumnCandidates.{AcceptsValue};
 
 use crate::candidate::{Candidate, find_remaining, has_month_first};
 use crate::candidates::Candidates;
-use crate::form::Form;
+use crate::number_range::NumberRange;
 use crate::seen::Seen;
-use crate::span::Span;
+use crate::written_form::WrittenForm;
 use bsi_kinds::{DateForm, DateOrder, MAX_PLACES};
 
 /// What is meant of the candidates of a column.
@@ -20,11 +20,11 @@ pub(crate) enum Choice {
     /// None: each field is null.
     Nothing,
     /// Decimals of so many places.
-    Decimals(u32, Span),
+    Decimals(u32, NumberRange),
     /// Decimals that are rounded to so many places.
-    Rounded(u32, Span),
+    Rounded(u32, NumberRange),
     /// A form.
-    Form(Form, Span),
+    WrittenForm(WrittenForm, NumberRange),
     /// Decimals that need too many digits, and have so many places.
     Digits(usize),
     /// Dates, of which day or month may stand first, with this sign between two numbers.
@@ -42,36 +42,36 @@ impl Candidates {
     {
         match self.decimals.seen {
             Seen::Nothing => Choice::Nothing,
-            Seen::Numbers(span) => self.choose_decimals(span),
-            Seen::RuledOut => self.choose_form(),
+            Seen::Numbers(range) => self.choose_decimals(range),
+            Seen::RuledOut => self.choose_written_form(),
         }
     }
 
     /// Chooses decimals of these numbers or, if they have too many places, a form.
-    fn choose_decimals(&self, span: Span) -> Choice
-        requires { self.now.decimals.seen ≡ Seen.Numbers span }
+    fn choose_decimals(&self, range: NumberRange) -> Choice
+        requires { self.now.decimals.seen ≡ Seen.Numbers range }
         ensures is { result
-            ≡ number_choice self.now.decimals.rounding span self.now.decimals self.now.forms.items }
+            ≡ number_choice self.now.decimals.rounding range self.now.decimals self.now.forms.items }
         ensures few { HasFewPlaces result }
         ensures accepts { (f : Field) → AcceptsValue self.now f → IsChosenFor self.now.point result f }
     {
         match self.decimals.rounding {
-            Some(places) if places <= MAX_PLACES => Choice::Rounded(places, span),
+            Some(places) if places <= MAX_PLACES => Choice::Rounded(places, range),
             None if self.decimals.places <= MAX_PLACES as usize => {
-                Choice::Decimals(self.decimals.places as u32, span)
+                Choice::Decimals(self.decimals.places as u32, range)
             }
-            _ => self.choose_form(),
+            _ => self.choose_written_form(),
         }
     }
 
     /// Chooses the first form that is not ruled out.
-    fn choose_form(&self) -> Choice
+    fn choose_written_form(&self) -> Choice
         ensures is { result ≡ form_choice self.now.decimals self.now.forms.items }
         ensures few { HasFewPlaces result }
         ensures accepts { (f : Field) → AcceptsValue self.now f → IsChosenFor self.now.point result f }
     {
         match find_remaining(&self.forms) {
-            Some((form, span)) => choose_order(form, span, &self.forms),
+            Some((form, range)) => choose_order(form, range, &self.forms),
             None if self.decimals.spelled => Choice::Digits(self.decimals.places),
             None => Choice::Texts,
         }
@@ -79,27 +79,27 @@ impl Candidates {
 }
 
 /// Chooses a form, unless it has dates that may also have the month first.
-fn choose_order(form: Form, span: Span, candidates: &[Candidate]) -> Choice
-    ensures is { result ≡ order_choice candidates.now (form, span) }
+fn choose_order(form: WrittenForm, range: NumberRange, candidates: &[Candidate]) -> Choice
+    ensures is { result ≡ order_choice candidates.now (form, range) }
     ensures few { HasFewPlaces result }
     ensures accepts { (point : ℕ) → (f : Field) → EachAccepts candidates.now f →
-        HasFormNumberIn form span f → IsChosenFor point result f }
+        HasFormNumberIn form range f → IsChosenFor point result f }
 {
     match form {
-        Form::Date(date) => choose_date(date, span, candidates),
-        _ => Choice::Form(form, span),
+        WrittenForm::Date(date) => choose_date(date, range, candidates),
+        _ => Choice::WrittenForm(form, range),
     }
 }
 
 /// Chooses a form of dates, unless dates may also have the month first.
-fn choose_date(form: DateForm, span: Span, candidates: &[Candidate]) -> Choice
-    ensures is { result ≡ date_choice candidates.now span form }
+fn choose_date(form: DateForm, range: NumberRange, candidates: &[Candidate]) -> Choice
+    ensures is { result ≡ date_choice candidates.now range form }
     ensures few { HasFewPlaces result }
     ensures accepts { (point : ℕ) → (f : Field) → EachAccepts candidates.now f →
-        HasFormNumberIn (Form.Date form) span f → IsChosenFor point result f }
+        HasFormNumberIn (WrittenForm.Date form) range f → IsChosenFor point result f }
 {
     match form.order {
         DateOrder::DayFirst if has_month_first(candidates, form.sign) => Choice::Orders(form.sign),
-        _ => Choice::Form(Form::Date(form), span),
+        _ => Choice::WrittenForm(WrittenForm::Date(form), range),
     }
 }

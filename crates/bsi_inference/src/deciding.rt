@@ -10,7 +10,7 @@ use crate::candidates::Candidates;
 use crate::choice::Choice;
 use crate::decision::{Column, Decision, Doubt};
 use crate::gathered::{Gathered, Gathering};
-use crate::span::Span;
+use crate::number_range::NumberRange;
 use crate::text_set::TextSet;
 use bsi_kinds::{Dictionary, Kind};
 use std::alloc::Global;
@@ -35,9 +35,9 @@ impl Candidates {
         } = self;
         match choice {
             Choice::Nothing => Ok(Decision::Nulls(nulls.into_texts()?)),
-            Choice::Decimals(places, span) => make_column(Kind::Decimal(places), span, nulls),
-            Choice::Rounded(places, span) => make_column(Kind::Rounded(places), span, nulls),
-            Choice::Form(form, span) => make_column(form.kind(alloc)?, span, nulls),
+            Choice::Decimals(places, range) => make_column(Kind::Decimal(places), range, nulls),
+            Choice::Rounded(places, range) => make_column(Kind::Rounded(places), range, nulls),
+            Choice::WrittenForm(form, range) => make_column(form.kind(alloc)?, range, nulls),
             Choice::Digits(places) => Ok(Decision::Doubt(Doubt::TooManyDigits(places))),
             Choice::Orders(sign) => Ok(Decision::Doubt(Doubt::TwoOrders(sign))),
             Choice::Texts => decide_gathered(alloc, gathered),
@@ -45,13 +45,13 @@ impl Candidates {
     }
 }
 
-/// Makes a column of a kind and a span.
-fn make_column(kind: Kind, span: Span, nulls: TextSet) -> Result<Decision, NoMemory>
-    ensures { IfOk result (IsColumnOf kind span nulls) }
+/// Makes a column of a kind and a range.
+fn make_column(kind: Kind, range: NumberRange, nulls: TextSet) -> Result<Decision, NoMemory>
+    ensures { IfOk result (IsColumnOf kind range nulls) }
 {
     Ok(Decision::Column(Column {
         kind,
-        span,
+        range,
         nulls: nulls.into_texts()?,
     }))
 }
@@ -80,7 +80,7 @@ fn make_texts(alloc: Global, texts: TextSet) -> Result<Decision, NoMemory>
     let dictionary = Dictionary::new(texts.into_texts()?).unwrap();
     Ok(Decision::Column(Column {
         kind: Kind::Text(dictionary),
-        span: Span {
+        range: NumberRange {
             least: 0,
             greatest: len as i64 - 1,
         },

@@ -1,7 +1,7 @@
-//! What was decided of a column (`Decision`): its kind, limits and null words (`Column`), or why it has no kind yet
+//! What was decided of a column (`Decision`): its kind, range and null words (`Column`), or why it has no kind yet
 //! (`Doubt`).
 
-use crate::span::Span;
+use crate::number_range::NumberRange;
 use bsi_kinds::Kind;
 
 /// A column: its kind, the numbers of its fields, and the words besides the empty field that are null.
@@ -10,7 +10,7 @@ pub struct Column {
     /// The kind.
     pub kind: Kind,
     /// The least number and the greatest.
-    pub span: Span,
+    pub range: NumberRange,
     /// The null words that were met, in the order of their bytes.
     pub nulls: Vec<Vec<u8>>,
 }

@@ -8,15 +8,15 @@ mod code;
 mod deciding;
 mod decimals;
 mod decision;
-mod form;
 mod gathered;
 mod nulls;
+mod number_range;
 mod seen;
-mod span;
 mod text_set;
+mod written_form;
 
 pub use candidates::Candidates;
 pub use decision::{Column, Decision, Doubt};
 pub use nulls::usual_null_words;
-pub use span::Span;
+pub use number_range::NumberRange;
 pub use std::alloc::AllocError as NoMemory;

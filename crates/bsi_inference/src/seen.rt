@@ -2,9 +2,9 @@
 //! that does not fit.
 
 ghost use Rattle.std.specs.Prelude.{◌≡◌, ◌^◌, ◌≤◌, ℤ, pos, ◌*ℤ◌, IfSome, IfNone};
-ghost use Rattle.bsi_inference.specs.Seen.{Covers, IsInSpan, IsScaled, IsSeenWith, IsSeenWithAll, IsSeenWithEnds};
+ghost use Rattle.bsi_inference.specs.Seen.{Covers, IsInRange, IsScaled, IsSeenWith, IsSeenWithAll, IsSeenWithEnds};
 
-use crate::span::Span;
+use crate::number_range::NumberRange;
 
 /// The numbers of the fields of a column, as one way to read them gave them.
 #[derive(Clone, Copy, Debug, PartialEq, Eq)]
@@ -12,7 +12,7 @@ pub(crate) enum Seen {
     /// No field was read: each was null.
     Nothing,
     /// Each field that is not null has a number of these.
-    Numbers(Span),
+    Numbers(NumberRange),
     /// Some field has no number, or 63 bit slices do not tell the numbers apart.
     RuledOut,
 }
@@ -42,19 +42,19 @@ impl Seen {
     {
         match other {
             Seen::Nothing => self,
-            Seen::Numbers(span) => self.with_span(span),
+            Seen::Numbers(range) => self.with_range(range),
             Seen::RuledOut => Seen::RuledOut,
         }
     }
 
-    /// Returns what was seen once fields have the ends of a span.
-    fn with_span(self, span: Span) -> Seen
+    /// Returns what was seen once fields have the ends of a range.
+    fn with_range(self, range: NumberRange) -> Seen
         ensures preserved { (n : ℤ) → Covers self n → Covers result n }
-        ensures joined { (n : ℤ) → IsInSpan span n → Covers result n }
+        ensures joined { (n : ℤ) → IsInRange range n → Covers result n }
         ensures ruled_out { self ≡ Seen.RuledOut → result ≡ Seen.RuledOut }
-        ensures seen { IsSeenWithEnds span self result }
+        ensures seen { IsSeenWithEnds range self result }
     {
-        self.with_number(span.least).with_number(span.greatest)
+        self.with_number(range.least).with_number(range.greatest)
     }
 
     /// Returns what was seen, with so many digits 0 behind each number.
@@ -66,7 +66,7 @@ impl Seen {
     {
         match self {
             Seen::Nothing => Seen::Nothing,
-            Seen::Numbers(span) => scale(span, digits),
+            Seen::Numbers(range) => scale(range, digits),
             Seen::RuledOut => Seen::RuledOut,
         }
     }
@@ -79,32 +79,32 @@ impl Seen {
         ensures seen { IsSeenWith number self result }
     {
         match self {
-            Seen::Nothing => Seen::Numbers(Span::of(number)),
-            Seen::Numbers(span) => widen(span, number),
+            Seen::Nothing => Seen::Numbers(NumberRange::of(number)),
+            Seen::Numbers(range) => widen(range, number),
             Seen::RuledOut => Seen::RuledOut,
         }
     }
 }
 
-/// Returns a span with one number more, as what was seen.
-fn widen(span: Span, number: i64) -> Seen
+/// Returns a range with one number more, as what was seen.
+fn widen(range: NumberRange, number: i64) -> Seen
     ensures number { Covers result number }
-    ensures preserved { (n : ℤ) → IsInSpan span n → Covers result n }
-    ensures seen { IsSeenWith number (Seen.Numbers span) result }
+    ensures preserved { (n : ℤ) → IsInRange range n → Covers result n }
+    ensures seen { IsSeenWith number (Seen.Numbers range) result }
 {
-    match span.with(number) {
+    match range.with(number) {
         Some(wider) => Seen::Numbers(wider),
         None => Seen::RuledOut,
     }
 }
 
-/// Returns a span with so many digits 0 behind each number, as what was seen.
-fn scale(span: Span, digits: u32) -> Seen
+/// Returns a range with so many digits 0 behind each number, as what was seen.
+fn scale(range: NumberRange, digits: u32) -> Seen
     requires { digits ≤ 18 }
-    ensures preserved { (n : ℤ) → IsInSpan span n → Covers result (n *ℤ pos (10 ^ digits)) }
-    ensures scaled { IsScaled digits (Seen.Numbers span) result }
+    ensures preserved { (n : ℤ) → IsInRange range n → Covers result (n *ℤ pos (10 ^ digits)) }
+    ensures scaled { IsScaled digits (Seen.Numbers range) result }
 {
-    match span.scaled(digits) {
+    match range.scaled(digits) {
         Some(scaled) => Seen::Numbers(scaled),
         None => Seen::RuledOut,
     }

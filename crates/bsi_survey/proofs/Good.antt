@@ -53,7 +53,7 @@ number_entry column n found is accepted =
 -- a column of the schema is that of a decided one
 pub record IsPlaced (l : Logical) (c : ℕ) (column : Column) : Type 0 where
   pub kind : kind_of l c ≡ column.kind
-  pub stored : IsStoredFor column.span (column_at l.schema.columns c)
+  pub stored : IsStoredFor column.range (column_at l.schema.columns c)
   pub nulls : HasNullsOf l.nulls column
 
 module _ (l : Logical) (c : ℕ) (column : Column) (placed : IsPlaced l c column) (rising : HasRisingTexts column.kind)
@@ -86,21 +86,21 @@ module _ (l : Logical) (c : ℕ) (column : Column) (placed : IsPlaced l c column
   empty_or_good f (inl empty) = null_is f (empty_is f empty)
   empty_or_good f (inr word) = null_is f (word_is f (is_text column.kind) refl word)
 
-  pub number_good : (f : Field) → HasNumberIn (IsSpelled column.kind l.dialect.point f) column.span → IsGoodField l c f
+  pub number_good : (f : Field) → HasNumberIn (IsSpelled column.kind l.dialect.point f) column.range → IsGoodField l c f
   number_good f has =
       spelled_is f has.number (number_is column.kind l.dialect.point f has.number rising has.is)
-      (accepts_number column.span (column_at l.schema.columns c) placed.stored has.number has.within)
+      (accepts_number column.range (column_at l.schema.columns c) placed.stored has.number has.within)
 
 -- the point by which the candidates read is that of the schema, or does not matter
 by_point : (point : ℕ) (start : ColumnStart) (c : Candidates) (column : Column) (f : Field) → IsLookedFor point start c
-    → (start ≡ Texts → is_text column.kind ≡ true) → HasNumberIn (IsSpelled column.kind c.point f) column.span → HasNumberIn (IsSpelled column.kind point f) column.span
+    → (start ≡ Texts → is_text column.kind ≡ true) → HasNumberIn (IsSpelled column.kind c.point f) column.range → HasNumberIn (IsSpelled column.kind point f) column.range
 by_point point Texts c column f looks text has = record {
   number = has.number;
   is = any_point column.kind c.point point f has.number (text refl) has.is;
   within = has.within;
 }
-by_point point Any c column f looks text has = subst (λ (p : ℕ). HasNumberIn (IsSpelled column.kind p f) column.span) looks.decimals has
-by_point point (Rounded places) c column f looks text has = subst (λ (p : ℕ). HasNumberIn (IsSpelled column.kind p f) column.span) looks.decimals has
+by_point point Any c column f looks text has = subst (λ (p : ℕ). HasNumberIn (IsSpelled column.kind p f) column.range) looks.decimals has
+by_point point (Rounded places) c column f looks text has = subst (λ (p : ℕ). HasNumberIn (IsSpelled column.kind p f) column.range) looks.decimals has
 
 -- texts alone come to a column of texts
 texts_only : (point : ℕ) (start : ColumnStart) (c : Candidates) (column : Column) → IsLookedFor point start c → IsDecided c (DecidedColumn column) → start ≡ Texts → is_text column.kind ≡ true

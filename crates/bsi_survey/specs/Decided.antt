@@ -39,8 +39,8 @@ words_of column = map (λ word. word.items) column.nulls.items
 -- A column of nulls alone: it is of whole numbers, and its only number is 0.
 pub record IsNullColumn (words : List Field) (column : Column) : Type 0 where
   pub kind : column.kind ≡ Decimal 0
-  pub least : column.span.least ≡ pos 0
-  pub greatest : column.span.greatest ≡ pos 0
+  pub least : column.range.least ≡ pos 0
+  pub greatest : column.range.greatest ≡ pos 0
   pub nulls : words_of column ≡ words
 
 -- The column of a decision, which is no doubt.

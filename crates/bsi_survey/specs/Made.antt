@@ -17,10 +17,10 @@ use Rattle.bsi_survey.specs.declared.schema_refusal.SchemaRefusal.TheVariants.{R
 abbrev pub IsGoodField : Logical → ℕ → Field → Type 0
 IsGoodField l c field = IsSome (accepted_entry (column_at l.schema.columns c) (entry_of l c field))
 
--- The columns of a schema are stored for the spans of decided columns.
+-- The columns of a schema are stored for the ranges of decided columns.
 pub record AreStoredFor (columns : List Column) (schema : Declared) : Type 0 where
   pub len : length schema.columns ≡ length columns
-  pub each : (c : ℕ) → (d : Column) → c < length columns → IsStoredFor (slice_index_or columns c d).span (column_at schema.columns c)
+  pub each : (c : ℕ) → (d : Column) → c < length columns → IsStoredFor (slice_index_or columns c d).range (column_at schema.columns c)
 
 -- A field is empty, or one of the null words.
 abbrev pub is_null_by : List Field → Field → Bool

@@ -6,7 +6,7 @@ ghost use Rattle.bsi_survey.specs.Decided.{AreColumnsOf, AreDecided, HasRisingTe
 
 use crate::NoMemory;
 use crate::schema_refusal::ColumnDoubt;
-use bsi_inference::{Candidates, Column, Decision, Span};
+use bsi_inference::{Candidates, Column, Decision, NumberRange};
 use bsi_kinds::Kind;
 use std::alloc::Global;
 
@@ -74,7 +74,7 @@ fn column_of(decision: Decision) -> Option<Column>
         }
         Decision::Nulls(nulls) => Some(Column {
             kind: Kind::Decimal(0),
-            span: Span::of(0),
+            range: NumberRange::of(0),
             nulls,
         }),
         Decision::Doubt(_) => None,

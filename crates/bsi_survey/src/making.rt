@@ -57,7 +57,7 @@ fn make_columns(
     let mut schema = Schema::new(alloc);
     'columns: for c in 0..columns.len() {
         let name = make_name(alloc, &schema, titles, c)?;
-        let slicing = slicing_of(columns[c].span);
+        let slicing = slicing_of(columns[c].range);
         let form = ColumnSpec::Slices(slicing.slices);
         schema.add_signed(name.as_str(), form, slicing.offset)?;
     }

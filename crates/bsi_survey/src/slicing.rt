@@ -1,10 +1,10 @@
-//! How many slices a column of a span has, and the least number that it accepts (`Slicing`).
+//! How many slices a column of a range has, and the least number that it accepts (`Slicing`).
 
 ghost use Rattle.std.specs.Prelude.{◌≡◌, ◌<◌, ◌≤◌, ◌^◌, pos, ◌-ℤ◌};
-ghost use Rattle.bsi_inference.specs.Seen.{IsSpan};
+ghost use Rattle.bsi_inference.specs.Seen.{IsRange};
 ghost use Rattle.bsi_survey.specs.Slicings.{IsSlicing, IsWidth};
 
-use bsi_inference::Span;
+use bsi_inference::NumberRange;
 use bsi_schema::MAX_SLICES;
 
 /// How the numbers of a column are stored as slices.
@@ -16,15 +16,15 @@ pub(crate) struct Slicing {
     pub offset: i64,
 }
 
-/// Returns the slices of a column that accepts the numbers of a span, and about as many again.
-pub(crate) fn slicing_of(span: Span) -> Slicing
-    ensures slicing { IsSlicing span result }
-    ensures span { IsSpan span.least span.greatest }
+/// Returns the slices of a column that accepts the numbers of a range, and about as many again.
+pub(crate) fn slicing_of(range: NumberRange) -> Slicing
+    ensures slicing { IsSlicing range result }
+    ensures range { IsRange range.least range.greatest }
 {
-    let slices = (width_of(span.greatest.abs_diff(span.least)) + 1).min(MAX_SLICES);
+    let slices = (width_of(range.greatest.abs_diff(range.least)) + 1).min(MAX_SLICES);
     Slicing {
         slices,
-        offset: span.least.min(last_offset(slices)),
+        offset: range.least.min(last_offset(slices)),
     }
 }
 

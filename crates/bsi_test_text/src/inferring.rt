@@ -189,8 +189,8 @@ fn column_of(
 fn describe(alloc: Global, described: &Decision) -> Result<String, NoMemory> {
     match described {
         Decision::Column(column) => {
-            let least = column.span.least;
-            let greatest = column.span.greatest;
+            let least = column.range.least;
+            let greatest = column.range.greatest;
             match &column.kind {
                 Kind::Boolean(_) => format!(in alloc; "boolean {least} {greatest}"),
                 Kind::Date(_) => format!(in alloc; "date {least} {greatest}"),

@@ -15,22 +15,22 @@ columns-preserved c =
     let before = c.columns.schema.columns in
     let slicing = c.slicing_of-slicing.result in
     let one = named_column c.as_str.result.now (form_of (Slices slicing.slices)) slicing.offset in
-    let P : ℕ → NamedColumn → Type 0 = λ k column. (d : Column) → IsStoredFor (get_or c.args.columns.now k d).span column in
+    let P : ℕ → NamedColumn → Type 0 = λ k column. (d : Column) → IsStoredFor (get_or c.args.columns.now k d).range column in
     let fits : FitsSigned w64 slicing.offset = search rules in
     let added : c.add_signed.new.self.columns ≡ before ++ one ∷ [] =
     ap (λ (s : Declared). s.columns) c.in_ok-add_signed.ensures.added
     ∙ ap (λ (o : ℤ). before ++ named_column c.as_str.result.now (form_of (Slices slicing.slices)) o ∷ []) (to_z-of_z w64 slicing.offset fits) in
     let read = get_or c.args.columns.now c.columns.c c.index-columns-c.result in
-    let made : IsSlicing read.span slicing = c.slicing_of-slicing.ensures.slicing in
-    let stored : IsStoredFor read.span one = record {
-      valid = c.slicing_of-slicing.ensures.span;
+    let made : IsSlicing read.range slicing = c.slicing_of-slicing.ensures.slicing in
+    let stored : IsStoredFor read.range one = record {
+      valid = c.slicing_of-slicing.ensures.range;
       slicing = slicing;
       is_slicing = made;
       form = refl;
       offset = refl;
     } in
     let here : P c.columns.c one = λ d.
-    subst (λ (x : Column). IsStoredFor x.span one)
+    subst (λ (x : Column). IsStoredFor x.range one)
     (sym c.index-columns-c.is ∙ sym (read_at c.args.columns.now c.columns.c c.index-columns-c.result (omega arith) c.index-columns-c.is d)) stored in
     record {
       len = ap length added ∙ length-append before (one ∷ []) ∙ omega (arith, c.columns.invariant.len);

@@ -8,5 +8,5 @@ use Rattle.bsi_survey.proofs.making.make_columns.Given as goal
 abbrev pub invariant-columns : goal.invariant-columns
 invariant-columns l = record {
   len : length l.schema.columns ≡ l.c;
-  stored : AreEach (λ k column. (d : Column) → IsStoredFor (get_or l.columns k d).span column) l.schema.columns;
+  stored : AreEach (λ k column. (d : Column) → IsStoredFor (get_or l.columns k d).range column) l.schema.columns;
 }

@@ -6,8 +6,8 @@ use Rattle.bsi_survey.proofs.slicing.slicing_of.Goals as goal
 
 pub returns-clause-slicing : goal.returns-clause-slicing
 returns-clause-slicing c =
-    let least = to_z-of_z w64 c.args.span.least c.args.span.least_fits in
-    let greatest = to_z-of_z w64 c.args.span.greatest c.args.span.greatest_fits in
+    let least = to_z-of_z w64 c.args.range.least c.args.range.least_fits in
+    let greatest = to_z-of_z w64 c.args.range.greatest c.args.range.greatest_fits in
     let first : FitsSigned w64 c.min.result = search rules in
     let last : FitsSigned w64 c.last_offset.result = search rules in
     record {

@@ -9,11 +9,11 @@ use Rattle.bsi_inference.proofs.candidates.Candidates.choose_decimals.Goals as g
 pub returns-in-Some-clause-accepts : goal.returns-in-Some-clause-accepts
 returns-in-Some-clause-accepts c = λ f accepts.
     let seen = c.args.self.now.decimals.seen in
-    seen_number seen c.args.span (λ n. rounded_entry c.args.self.now.point c.in-Some.places f ≡ Some n) c.requires
+    seen_number seen c.args.range (λ n. rounded_entry c.args.self.now.point c.in-Some.places f ≡ Some n) c.requires
     (subst (λ (r : Option ℕ). CoversSome seen (λ n. number_by r c.args.self.now.point c.args.self.now.decimals.places f ≡ Some n)) c.in-Some.is accepts.decimal.number)
 
 pub returns-in-None-clause-accepts : goal.returns-in-None-clause-accepts
 returns-in-None-clause-accepts c = λ f accepts.
     let seen = c.args.self.now.decimals.seen in
-    seen_number seen c.args.span (λ n. decimal_entry c.args.self.now.point c.args.self.now.decimals.places f ≡ Some n) c.requires
+    seen_number seen c.args.range (λ n. decimal_entry c.args.self.now.point c.args.self.now.decimals.places f ≡ Some n) c.requires
     (subst (λ (r : Option ℕ). CoversSome seen (λ n. number_by r c.args.self.now.point c.args.self.now.decimals.places f ≡ Some n)) c.in-None.is accepts.decimal.number)

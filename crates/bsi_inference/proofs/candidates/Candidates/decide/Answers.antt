@@ -7,26 +7,26 @@ use Rattle.bsi_inference.proofs.candidates.Candidates.decide.Goals as goal
 
 pub returns-in-Decimals-clause-accepts : goal.returns-in-Decimals-clause-accepts
 returns-in-Decimals-clause-accepts c =
-    if_ok c.make_column.result (IsColumnOf (Decimal c.in-Decimals.places) c.in-Decimals.span c.args.self.nulls) (λ d. (f : List ℕ) → Accepts c.args.self f → IsDecidedFor c.args.self d f)
-    (column_takes c.args.self (Decimal c.in-Decimals.places) c.in-Decimals.span c.in-Decimals.ensures.accepts) c.make_column.ensures
+    if_ok c.make_column.result (IsColumnOf (Decimal c.in-Decimals.places) c.in-Decimals.range c.args.self.nulls) (λ d. (f : List ℕ) → Accepts c.args.self f → IsDecidedFor c.args.self d f)
+    (column_takes c.args.self (Decimal c.in-Decimals.places) c.in-Decimals.range c.in-Decimals.ensures.accepts) c.make_column.ensures
 
 pub returns-in-Rounded-clause-accepts : goal.returns-in-Rounded-clause-accepts
 returns-in-Rounded-clause-accepts c =
-    if_ok c.make_column-in-Rounded.result (IsColumnOf (Rounded c.in-Rounded.places) c.in-Rounded.span c.args.self.nulls) (λ d. (f : List ℕ) → Accepts c.args.self f → IsDecidedFor c.args.self d f)
-    (column_takes c.args.self (Rounded c.in-Rounded.places) c.in-Rounded.span c.in-Rounded.ensures.accepts) c.make_column-in-Rounded.ensures
+    if_ok c.make_column-in-Rounded.result (IsColumnOf (Rounded c.in-Rounded.places) c.in-Rounded.range c.args.self.nulls) (λ d. (f : List ℕ) → Accepts c.args.self f → IsDecidedFor c.args.self d f)
+    (column_takes c.args.self (Rounded c.in-Rounded.places) c.in-Rounded.range c.in-Rounded.ensures.accepts) c.make_column-in-Rounded.ensures
 
-pub returns-in-Form-clause-accepts : goal.returns-in-Form-clause-accepts
-returns-in-Form-clause-accepts c =
-    let kind = c.in_ok-kind-in-Form.field-0 in
-    if_ok c.make_column-in-Form.result (IsColumnOf kind c.in-Form.span c.args.self.nulls) (λ d. (f : List ℕ) → Accepts c.args.self f → IsDecidedFor c.args.self d f)
-    (column_takes c.args.self kind c.in-Form.span (λ f accepts. let seen = c.in-Form.ensures.accepts f accepts in
-    record { number = seen.number; is = c.in_ok-kind-in-Form.ensures.spells c.args.self.point f seen.number seen.is; within = seen.within })) c.make_column-in-Form.ensures
+pub returns-in-WrittenForm-clause-accepts : goal.returns-in-WrittenForm-clause-accepts
+returns-in-WrittenForm-clause-accepts c =
+    let kind = c.in_ok-kind-in-WrittenForm.field-0 in
+    if_ok c.make_column-in-WrittenForm.result (IsColumnOf kind c.in-WrittenForm.range c.args.self.nulls) (λ d. (f : List ℕ) → Accepts c.args.self f → IsDecidedFor c.args.self d f)
+    (column_takes c.args.self kind c.in-WrittenForm.range (λ f accepts. let seen = c.in-WrittenForm.ensures.accepts f accepts in
+    record { number = seen.number; is = c.in_ok-kind-in-WrittenForm.ensures.spells c.args.self.point f seen.number seen.is; within = seen.within })) c.make_column-in-WrittenForm.ensures
 
-pub returns-in-Form-clause-meant : goal.returns-in-Form-clause-meant
-returns-in-Form-clause-meant c =
-    let kind = c.in_ok-kind-in-Form.field-0 in
-    if_ok c.make_column-in-Form.result (IsColumnOf kind c.in-Form.span c.args.self.nulls) (Decides c.args.self)
-    (column_meant c.args.self.gathered.state c.args.self.gathered.texts _ c.in-Form.form kind c.in-Form.span c.args.self.nulls (sym c.in-Form.ensures.is) c.in_ok-kind-in-Form.ensures.form) c.make_column-in-Form.ensures
+pub returns-in-WrittenForm-clause-meant : goal.returns-in-WrittenForm-clause-meant
+returns-in-WrittenForm-clause-meant c =
+    let kind = c.in_ok-kind-in-WrittenForm.field-0 in
+    if_ok c.make_column-in-WrittenForm.result (IsColumnOf kind c.in-WrittenForm.range c.args.self.nulls) (Decides c.args.self)
+    (column_meant c.args.self.gathered.state c.args.self.gathered.texts _ c.in-WrittenForm.form kind c.in-WrittenForm.range c.args.self.nulls (sym c.in-WrittenForm.ensures.is) c.in_ok-kind-in-WrittenForm.ensures.form) c.make_column-in-WrittenForm.ensures
 
 pub returns-clause-accepts : goal.returns-clause-accepts
 returns-clause-accepts c =

@@ -1,10 +1,10 @@
-//! The forms in which dates, times and booleans may be written (`Form`): the number that a field spells in one, and its
-//! kind.
+//! The forms in which dates, times and booleans may be written (`WrittenForm`): the number that a field spells in one,
+//! and its kind.
 
 ghost use Rattle.std.specs.Prelude.{◌≡◌, ℕ, ℤ, IfSome, IfNone, IfOk};
 ghost use Rattle.bsi_rows.specs.Fields.{Field};
 ghost use Rattle.bsi_kinds.specs.Kinds.{IsKind, IsSpelled};
-ghost use Rattle.bsi_inference.specs.Forms.{is_allowed, is_same_order, word_number, IsOfForm, SpellsInForm};
+ghost use Rattle.bsi_inference.specs.WrittenForms.{is_allowed, is_same_order, word_number, IsOfForm, SpellsInForm};
 
 use crate::NoMemory;
 use bsi_kinds::{
@@ -14,7 +14,7 @@ use std::alloc::Global;
 
 /// How the values of a column may be written, if they are no decimals and no texts.
 #[derive(Clone, Copy, Debug, PartialEq, Eq)]
-pub(crate) enum Form {
+pub(crate) enum WrittenForm {
     /// The words `false` and `true`.
     Boolean,
     /// Dates, written so.
@@ -24,71 +24,71 @@ pub(crate) enum Form {
 }
 
 /// The forms that a column may have: of two that read the same fields the first is meant.
-pub(crate) const FORMS: [Form; 13] = [
-    Form::Boolean,
-    Form::Date(ISO_DATE),
-    Form::Date(DateForm {
+pub(crate) const WRITTEN_FORMS: [WrittenForm; 13] = [
+    WrittenForm::Boolean,
+    WrittenForm::Date(ISO_DATE),
+    WrittenForm::Date(DateForm {
         order: DateOrder::DayFirst,
         sign: b'.',
     }),
-    Form::Date(DateForm {
+    WrittenForm::Date(DateForm {
         order: DateOrder::DayFirst,
         sign: b'/',
     }),
-    Form::Date(DateForm {
+    WrittenForm::Date(DateForm {
         order: DateOrder::DayFirst,
         sign: b'-',
     }),
-    Form::Date(DateForm {
+    WrittenForm::Date(DateForm {
         order: DateOrder::MonthFirst,
         sign: b'/',
     }),
-    Form::Date(DateForm {
+    WrittenForm::Date(DateForm {
         order: DateOrder::MonthFirst,
         sign: b'-',
     }),
-    Form::Time(TimeForm {
+    WrittenForm::Time(TimeForm {
         date: ISO_DATE,
         unit: TimeUnit::Seconds,
         utc: false,
     }),
-    Form::Time(TimeForm {
+    WrittenForm::Time(TimeForm {
         date: ISO_DATE,
         unit: TimeUnit::Milliseconds,
         utc: false,
     }),
-    Form::Time(TimeForm {
+    WrittenForm::Time(TimeForm {
         date: ISO_DATE,
         unit: TimeUnit::Microseconds,
         utc: false,
     }),
-    Form::Time(TimeForm {
+    WrittenForm::Time(TimeForm {
         date: ISO_DATE,
         unit: TimeUnit::Seconds,
         utc: true,
     }),
-    Form::Time(TimeForm {
+    WrittenForm::Time(TimeForm {
         date: ISO_DATE,
         unit: TimeUnit::Milliseconds,
         utc: true,
     }),
-    Form::Time(TimeForm {
+    WrittenForm::Time(TimeForm {
         date: ISO_DATE,
         unit: TimeUnit::Microseconds,
         utc: true,
     }),
 ];
 
-impl Form {
+impl WrittenForm {
     /// Reads a field as the number that stands for its value, or returns none if no number does. It allocates no memory.
     pub(crate) fn read(self, field: &[u8]) -> Option<i64>
         ensures some { IfSome result (SpellsInForm self field.now) }
         ensures none { IfNone result ((n : ℤ) → SpellsInForm self field.now n → ⊥) }
     {
         match self {
-            Form::Boolean => read_word(field),
-            Form::Date(form) => read_date(form, field),
-            Form::Time(form) => read_time(form, field),
+            WrittenForm::Boolean => read_word(field),
+            WrittenForm::Date(form) => read_date(form, field),
+            WrittenForm::Time(form) => read_time(form, field),
         }
     }
 
@@ -98,7 +98,7 @@ impl Form {
         ensures { result ≡ is_allowed order self }
     {
         match (order, self) {
-            (Some(order), Form::Date(form)) => is_same_order(order, form.order),
+            (Some(order), WrittenForm::Date(form)) => is_same_order(order, form.order),
             _ => true,
         }
     }
@@ -111,12 +111,12 @@ impl Form {
             SpellsInForm self f n → IsSpelled kind point f n) }
     {
         Ok(match self {
-            Form::Boolean => Kind::Boolean(BooleanForm {
+            WrittenForm::Boolean => Kind::Boolean(BooleanForm {
                 no: Vec::from_slice(alloc, b"false".as_slice())?,
                 yes: Vec::from_slice(alloc, b"true".as_slice())?,
             }),
-            Form::Date(form) => Kind::Date(form),
-            Form::Time(form) => Kind::Time(form),
+            WrittenForm::Date(form) => Kind::Date(form),
+            WrittenForm::Time(form) => Kind::Time(form),
         })
     }
 }

@@ -1,8 +1,8 @@
 use Rattle.std.proofs.Common.{◌^◌, arith}
 use Rattle.std.proofs.lemmas.Int.{ints}
 use Rattle.bsi_kinds.proofs.Writing.{few_places}
-use Rattle.bsi_inference.proofs.Spans.{end_is, if_none, product_is, product_past, products_in_order, wide_none}
-use Rattle.bsi_inference.proofs.span.Span.scaled.Goals as goal
+use Rattle.bsi_inference.proofs.Ranges.{end_is, if_none, product_is, product_past, products_in_order, wide_none}
+use Rattle.bsi_inference.proofs.number_range.NumberRange.scaled.Goals as goal
 
 pub overflow_cast-factor : goal.overflow_cast-factor
 overflow_cast-factor c = omega (arith, ints, c.pow-factor.ensures, few_places c.args.digits c.requires)

@@ -1,11 +1,11 @@
--- Spans with a number more.
+-- Ranges with a number more.
 use Rattle.std.proofs.Common.{◌≡◌, ℕ, ◌<◌, ◌≤◌, ◌^◌, ℤ, pos, ◌≤ℤ◌, ◌*ℤ◌, FitsSigned, ◌-ℤ◌, IfNone, IfSome, Option, Some, None, ap, ap₂, subst, sym, ◌∙◌, arith}
 use Rattle.std.proofs.lemmas.Int.{int_max_is, int_min_is, ints, to_z-of_z, to_z_pos}
 use mir.Val.{of_z, to_z}
 use Rattle.std.specs.Int.{int_max, int_min, w64}
 use Rattle.bsi_kinds.proofs.Comparing.{gap, times_add}
-use Rattle.bsi_inference.specs.Seen.{IsInSpan, IsSpan}
-use Rattle.bsi_inference.specs.declared.span.Span.{Span}
+use Rattle.bsi_inference.specs.Seen.{IsInRange, IsRange}
+use Rattle.bsi_inference.specs.declared.number_range.NumberRange.{NumberRange}
 
 -- a product keeps the order
 times_keeps : (a b : ℤ) (w : ℕ) → a ≤ℤ b → (a *ℤ pos w) ≤ℤ (b *ℤ pos w)
@@ -26,27 +26,27 @@ max_left a b = omega (arith, ints, int_max_is a b)
 max_right : (a b : ℤ) → b ≤ℤ int_max a b
 max_right a b = omega (arith, ints, int_max_is a b)
 
--- a span with a number more has that number, and those that it had
-module _ (span wider : Span) (number read : ℤ) (same : read ≡ number) (least : wider.least ≡ int_min span.least read) (greatest : wider.greatest ≡ int_max span.greatest read) where
-  least_is : wider.least ≡ int_min span.least number
-  least_is = least ∙ ap (λ n. int_min span.least n) same
+-- a range with a number more has that number, and those that it had
+module _ (range wider : NumberRange) (number read : ℤ) (same : read ≡ number) (least : wider.least ≡ int_min range.least read) (greatest : wider.greatest ≡ int_max range.greatest read) where
+  least_is : wider.least ≡ int_min range.least number
+  least_is = least ∙ ap (λ n. int_min range.least n) same
 
-  greatest_is : wider.greatest ≡ int_max span.greatest number
-  greatest_is = greatest ∙ ap (λ n. int_max span.greatest n) same
+  greatest_is : wider.greatest ≡ int_max range.greatest number
+  greatest_is = greatest ∙ ap (λ n. int_max range.greatest n) same
 
-  pub wider_has : IsInSpan wider number
+  pub wider_has : IsInRange wider number
   wider_has = (
-    subst (λ (z : ℤ). z ≤ℤ number) (sym least_is) (min_right span.least number),
-    subst (λ (z : ℤ). number ≤ℤ z) (sym greatest_is) (max_right span.greatest number),
+    subst (λ (z : ℤ). z ≤ℤ number) (sym least_is) (min_right range.least number),
+    subst (λ (z : ℤ). number ≤ℤ z) (sym greatest_is) (max_right range.greatest number),
   )
 
-  low_end : (n : ℤ) → span.least ≤ℤ n → int_min span.least number ≤ℤ n
-  low_end n low = let less = min_left span.least number in omega (arith, ints, less)
+  low_end : (n : ℤ) → range.least ≤ℤ n → int_min range.least number ≤ℤ n
+  low_end n low = let less = min_left range.least number in omega (arith, ints, less)
 
-  high_end : (n : ℤ) → n ≤ℤ span.greatest → n ≤ℤ int_max span.greatest number
-  high_end n high = let more = max_left span.greatest number in omega (arith, ints, more)
+  high_end : (n : ℤ) → n ≤ℤ range.greatest → n ≤ℤ int_max range.greatest number
+  high_end n high = let more = max_left range.greatest number in omega (arith, ints, more)
 
-  pub wider_keeps : (n : ℤ) → IsInSpan span n → IsInSpan wider n
+  pub wider_keeps : (n : ℤ) → IsInRange range n → IsInRange wider n
   wider_keeps n between = (
     subst (λ (z : ℤ). z ≤ℤ n) (sym least_is) (low_end n between.0),
     subst (λ (z : ℤ). n ≤ℤ z) (sym greatest_is) (high_end n between.1),
@@ -61,7 +61,7 @@ product_is x a w p fits same few whole is =
     let small : w < 2 ^ 63 = omega arith in
     to_z-of_z w64 x here ∙ is ∙ ap₂ (λ b c. b *ℤ c) (to_z-of_z w64 a fits) (to_z_pos w64 w small ∙ ap (λ k. pos k) same)
 
--- the least or the greatest number of a span that was made
+-- the least or the greatest number of a range that was made
 pub end_is : {S : Type 0} (end : S → ℤ) (found : Option S) (read is : ℤ) → IfSome found (λ s. end s ≡ read) → read ≡ is → IfSome found (λ s. end s ≡ is)
 end_is end None read is given same = given
 end_is end (Some s) read is given same = given ∙ same
@@ -71,12 +71,12 @@ pub products_in_order : (a b low high : ℤ) (w : ℕ) → a ≤ℤ b → low �
 products_in_order a b low high w order low_is high_is =
     subst (λ (z : ℤ). z ≤ℤ high) (sym low_is) (subst (λ (z : ℤ). (a *ℤ pos w) ≤ℤ z) (sym high_is) (times_keeps a b w order))
 
--- a span with digits behind each number
-pub scaled_keeps : (span scaled : Span) (w : ℕ) → scaled.least ≡ span.least *ℤ pos w → scaled.greatest ≡ span.greatest *ℤ pos w
-    → (n : ℤ) → IsInSpan span n → IsInSpan scaled (n *ℤ pos w)
-scaled_keeps span scaled w low high n between = (
-  subst (λ (z : ℤ). z ≤ℤ (n *ℤ pos w)) (sym low) (times_keeps span.least n w between.0),
-  subst (λ (z : ℤ). (n *ℤ pos w) ≤ℤ z) (sym high) (times_keeps n span.greatest w between.1),
+-- a range with digits behind each number
+pub scaled_keeps : (range scaled : NumberRange) (w : ℕ) → scaled.least ≡ range.least *ℤ pos w → scaled.greatest ≡ range.greatest *ℤ pos w
+    → (n : ℤ) → IsInRange range n → IsInRange scaled (n *ℤ pos w)
+scaled_keeps range scaled w low high n between = (
+  subst (λ (z : ℤ). z ≤ℤ (n *ℤ pos w)) (sym low) (times_keeps range.least n w between.0),
+  subst (λ (z : ℤ). (n *ℤ pos w) ≤ℤ z) (sym high) (times_keeps n range.greatest w between.1),
 )
 
 -- a product that does not fit
@@ -94,6 +94,6 @@ if_none (Some s) P holds = tt
 
 -- ends too far from each other
 pub wide_none : {S : Type 0} (found : Option S) (low high least greatest : ℤ) → low ≡ least → high ≡ greatest → IfNone found (pos (2 ^ 63) ≤ℤ (high -ℤ low))
-    → IfNone found (IsSpan least greatest → ⊥)
+    → IfNone found (IsRange least greatest → ⊥)
 wide_none None low high least greatest low_is high_is wide = λ is. let narrow = is.narrow in omega (arith, ints, wide, low_is, high_is, narrow)
 wide_none (Some s) low high least greatest low_is high_is wide = tt
