@@ -45,8 +45,8 @@ mixed_at rows n (fed ∷ feds) (suc k) none =
 abbrev fed_of : ℕ → ℕ → FedCounts
 fed_of accepted bad = record { accepted = accepted; bad = bad }
 
-module _ {R F : Type 0} (form : F → Format) (rem : R → KnownBytes) where
-  counts_from : (stops : Bool) (rows : List SourcedRow) (n : ℕ) (sources : List (SourceOf R F)) (feds : List Fed) → AreFedFrom form rem stops rows n sources feds
+module _ {R F : Type 0} (format_by : F → Format) (rem : R → KnownBytes) where
+  counts_from : (stops : Bool) (rows : List SourcedRow) (n : ℕ) (sources : List (SourceOf R F)) (feds : List Fed) → AreFedFrom format_by rem stops rows n sources feds
       → map file_counts (files_from rows n feds) ≡ map fed_counts feds
   unfolding files_from
   counts_from stops rows n [] [] fed = refl
@@ -55,7 +55,7 @@ module _ {R F : Type 0} (form : F → Format) (rem : R → KnownBytes) where
   counts_from stops rows n (source ∷ sources) (x ∷ feds) fed =
       ap₂ (λ c cs. c ∷ cs) (ap (λ k. fed_of k x.bad) fed.0.many) (counts_from stops rows (suc n) sources feds fed.1)
 
-  pub as_many : (stops : Bool) (rows : List SourcedRow) (n : ℕ) (sources : List (SourceOf R F)) (feds : List Fed) → AreFedFrom form rem stops rows n sources feds
+  pub as_many : (stops : Bool) (rows : List SourcedRow) (n : ℕ) (sources : List (SourceOf R F)) (feds : List Fed) → AreFedFrom format_by rem stops rows n sources feds
       → length sources ≡ length feds
   as_many stops rows n [] [] fed = refl
   as_many stops rows n [] (x ∷ feds) fed = absurd fed
@@ -69,11 +69,11 @@ module _ {R F : Type 0} (form : F → Format) (rem : R → KnownBytes) where
 
   -- the file of a source that was read out
   pub row_file : IsWholeLaw → (format : Format) (reader : R) (source : SourceOf R F) (text : List ℕ) (rows : List Entries) (bad : ℕ)
-      → Begins form rem format reader source → rem reader ≡ Some text → IsReadOut form rem source rows bad → IsRowFile format text (record { rows = rows; bad = bad })
+      → Begins format_by rem format reader source → rem reader ≡ Some text → IsReadOut format_by rem source rows bad → IsRowFile format text (record { rows = rows; bad = bad })
   row_file law format reader source text rows bad begins is out =
-      let stands : IsAfterHeader rem (layout_by form source.layout) source.input (strip_bom text) =
-      subst (λ o. IfSome o (λ bytes. IsAfterHeader rem (layout_by form source.layout) source.input (strip_bom bytes))) is begins.behind in
-      let whole = law (layout_by form source.layout) source.input out.at (strip_bom text) source.counts out.end rows stands out.read_so_far out.over in
+      let stands : IsAfterHeader rem (layout_by format_by source.layout) source.input (strip_bom text) =
+      subst (λ o. IfSome o (λ bytes. IsAfterHeader rem (layout_by format_by source.layout) source.input (strip_bom bytes))) is begins.behind in
+      let whole = law (layout_by format_by source.layout) source.input out.at (strip_bom text) source.counts out.end rows stands out.read_so_far out.over in
       let none : source.counts.read_so_far ≡ 0 = ap (λ (t : Counts). t.read_so_far) begins.counts_are in
       let no_bad : source.counts.bad ≡ 0 = ap (λ (t : Counts). t.bad) begins.counts_are in
       subst (λ (f : Format). IsRowFile f text (record { rows = rows; bad = bad })) begins.format_is (record {
@@ -87,13 +87,13 @@ module _ {R F : Type 0} (form : F → Format) (rem : R → KnownBytes) where
       })
 
   one_file : IsWholeLaw → (format : Format) (reader : R) (source : SourceOf R F) (text : List ℕ) (rows : List SourcedRow) (n : ℕ) (fed : Fed)
-      → Begins form rem format reader source → rem reader ≡ Some text → IsFedFrom form rem false rows n source fed
+      → Begins format_by rem format reader source → rem reader ≡ Some text → IsFedFrom format_by rem false rows n source fed
       → IsRowFile format text (record { rows = rows_from n rows; bad = fed.bad })
   one_file law format reader source text rows n fed begins is has =
       row_file law format reader source text (rows_from n rows) fed.bad begins is (has.out refl begins.end_is)
 
   all_files : IsWholeLaw → (format : Format) (readers : List R) (sources : List (SourceOf R F)) (texts : List (List ℕ)) (rows : List SourcedRow) (n : ℕ) (feds : List Fed)
-      → AllZip (Begins form rem format) readers sources → map rem readers ≡ map (λ text. Some text) texts → AreFedFrom form rem false rows n sources feds
+      → AllZip (Begins format_by rem format) readers sources → map rem readers ≡ map (λ text. Some text) texts → AreFedFrom format_by rem false rows n sources feds
       → AllZip (IsRowFile format) texts (files_from rows n feds)
   unfolding files_from
   all_files law format [] [] [] rows n [] begin is fed = tt
@@ -110,11 +110,11 @@ module _ {R F : Type 0} (form : F → Format) (rem : R → KnownBytes) where
 
   -- the rows of sources that were read out are those of the files
   pub loaded_of : IsWholeLaw → (stops : Bool) → stops ≡ false → (format : Format) (limit : ℕ) (readers : List R) (sources : List (SourceOf R F))
-      (texts : List (List ℕ)) (rows : List SourcedRow) (feds : List Fed) → AllZip (Begins form rem format) readers sources
-      → map rem readers ≡ map (λ text. Some text) texts → IsAllFed form rem stops limit rows sources feds
+      (texts : List (List ℕ)) (rows : List SourcedRow) (feds : List Fed) → AllZip (Begins format_by rem format) readers sources
+      → map rem readers ≡ map (λ text. Some text) texts → IsAllFed format_by rem stops limit rows sources feds
       → HasLoaded format limit texts rows (map fed_counts feds)
   loaded_of law stops never format limit readers sources texts rows feds begin is all =
-      let fed = subst (λ b. IsAllFed form rem b limit rows sources feds) never all in
+      let fed = subst (λ b. IsAllFed format_by rem b limit rows sources feds) never all in
       let many = as_many false rows 0 sources feds fed.each in
       record {
         files = files_from rows 0 feds;

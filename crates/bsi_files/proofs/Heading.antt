@@ -27,13 +27,13 @@ pub map_long : {X Y : Type 0} (f : X → Y) (xs : List X) → length (map f xs) 
 map_long f [] = refl
 map_long f (x ∷ xs) = ap (λ n. suc n) (map_long f xs)
 
-module _ {R F : Type 0} (form : F → Format) (rem : R → KnownBytes) (format : Format) where
+module _ {R F : Type 0} (format_by : F → Format) (rem : R → KnownBytes) (format : Format) where
   -- a source that stands after a header
-  header_of : (reader : R) (source : SourceOf R F) → Begins form rem format reader source → IfSome (rem reader) (HasHeader format)
+  header_of : (reader : R) (source : SourceOf R F) → Begins format_by rem format reader source → IfSome (rem reader) (HasHeader format)
   header_of reader source begins = subst (λ (f : Format). IfSome (rem reader) (HasHeader f)) begins.format_is (by (rem reader) begins.behind)
     where
       mine : Format
-      mine = form source.layout.format
+      mine = format_by source.layout.format
 
       at : (o : Option Read) → MatchOption o ⊥ (λ read. (source.layout.header ≡ read.0) × (reader_state source.input ≡ read.1) × (source_of rem source.input ≡ Some read.2))
           → MatchOption o ⊥ (λ read. mine.is_header read.0 ≡ true)
@@ -41,11 +41,11 @@ module _ {R F : Type 0} (form : F → Format) (rem : R → KnownBytes) (format :
       at (Some read) stands =
           subst (λ (h : List Field). mine.is_header h ≡ true) stands.0 (subst (λ (f : Format). f.is_header source.layout.header ≡ true) (sym begins.format_is) begins.header_is)
 
-      by : (o : KnownBytes) → IfSome o (λ bytes. IsAfterHeader rem (layout_by form source.layout) source.input (strip_bom bytes)) → IfSome o (HasHeader mine)
+      by : (o : KnownBytes) → IfSome o (λ bytes. IsAfterHeader rem (layout_by format_by source.layout) source.input (strip_bom bytes)) → IfSome o (HasHeader mine)
       by None behind = tt
       by (Some bytes) behind = at (next_record mine.config st.StartRecord [] [] (strip_bom bytes)) behind
 
-  pub headers_of : (readers : List R) (sources : List (SourceOf R F)) → AllZip (Begins form rem format) readers sources
+  pub headers_of : (readers : List R) (sources : List (SourceOf R F)) → AllZip (Begins format_by rem format) readers sources
       → All (λ other. IfSome other (HasHeader format)) (map rem readers)
   headers_of [] sources begun = All-nil (λ other. IfSome other (HasHeader format))
   headers_of (reader ∷ readers) [] begun = absurd begun
@@ -53,24 +53,24 @@ module _ {R F : Type 0} (form : F → Format) (rem : R → KnownBytes) (format :
       All-cons (λ other. IfSome other (HasHeader format)) (rem reader) (map rem readers) (header_of reader source begun.0) (headers_of readers sources begun.1)
 
   -- the file whose header is read next
-  first_without : (all left rest : List R) (reader : R) (sources : List (SourceOf R F)) (number : ℕ) → HasMatched (Begins form rem format) all left sources
+  first_without : (all left rest : List R) (reader : R) (sources : List (SourceOf R F)) (number : ℕ) → HasMatched (Begins format_by rem format) all left sources
       → left ≡ reader ∷ rest → number ≡ length sources → IfSome (rem reader) (LacksHeader format) → IsFirstWithoutHeader format (map rem all) number
   first_without all left rest reader sources number has is at lacks = record {
     before = map rem has.done;
     file = rem reader;
     after = map rem rest;
     files_are = ap (λ rs. map rem rs) (has.parts ∙ ap (λ rs. has.done ++ rs) is) ∙ map_append rem has.done (reader ∷ rest);
-    number_is = at ∙ sym (map_long rem has.done ∙ matched_long (Begins form rem format) has.done sources has.matched);
+    number_is = at ∙ sym (map_long rem has.done ∙ matched_long (Begins format_by rem format) has.done sources has.matched);
     others = headers_of has.done sources has.matched;
     none = lacks;
   }
 
   -- each file before it has a header
-  behind : (all left rest : List R) (reader : R) (sources : List (SourceOf R F)) (number : ℕ) → HasMatched (Begins form rem format) all left sources
+  behind : (all left rest : List R) (reader : R) (sources : List (SourceOf R F)) (number : ℕ) → HasMatched (Begins format_by rem format) all left sources
       → left ≡ reader ∷ rest → number ≡ length sources → EarlierFilesHaveHeaders format (map rem all) number
   behind all left rest reader sources number has is at =
       let files : map rem all ≡ map rem has.done ++ map rem left = ap (λ rs. map rem rs) has.parts ∙ map_append rem has.done left in
-      let place : number ≡ length (map rem has.done) = at ∙ sym (map_long rem has.done ∙ matched_long (Begins form rem format) has.done sources has.matched) in
+      let place : number ≡ length (map rem has.done) = at ∙ sym (map_long rem has.done ∙ matched_long (Begins format_by rem format) has.done sources has.matched) in
       let one : length left ≡ suc (length rest) = ap (λ (rs : List R). length rs) is in
       record {
         names = omega (arith, place, ap (λ (os : List KnownBytes). length os) files, length-append (map rem has.done) (map rem left), map_long rem left, one);
@@ -80,15 +80,15 @@ module _ {R F : Type 0} (form : F → Format) (rem : R → KnownBytes) (format :
             (headers_of has.done sources has.matched);
       }
 
-  numbered : (all left rest : List R) (reader : R) (sources : List (SourceOf R F)) (place number : ℕ) → HasMatched (Begins form rem format) all left sources
+  numbered : (all left rest : List R) (reader : R) (sources : List (SourceOf R F)) (place number : ℕ) → HasMatched (Begins format_by rem format) all left sources
       → left ≡ reader ∷ rest → place ≡ length sources → (place < max_feeders → number ≡ place) → length all ≤ max_feeders → number ≡ length sources
   numbered all left rest reader sources place number has is at named few =
-      let done : length has.done ≡ length sources = matched_long (Begins form rem format) has.done sources has.matched in
+      let done : length has.done ≡ length sources = matched_long (Begins format_by rem format) has.done sources has.matched in
       let parts : length all ≡ length has.done + length left = ap (λ (rs : List R). length rs) has.parts ∙ length-append has.done left in
       let one : length left ≡ suc (length rest) = ap (λ (rs : List R). length rs) is in
       named (omega arith) ∙ at
 
-  pub headers_fault : (all left rest : List R) (reader : R) (sources : List (SourceOf R F)) (place number : ℕ) (fault : FilesFault) → HasMatched (Begins form rem format) all left sources
+  pub headers_fault : (all left rest : List R) (reader : R) (sources : List (SourceOf R F)) (place number : ℕ) (fault : FilesFault) → HasMatched (Begins format_by rem format) all left sources
       → left ≡ reader ∷ rest → place ≡ length sources → (place < max_feeders → number ≡ place) → length all ≤ max_feeders → IsHeaderFault format (rem reader) number fault
       → IsHeadersFault format (map rem all) fault
   headers_fault all left rest reader sources place number (files.Source f source.BadHeader) has is at named few met =

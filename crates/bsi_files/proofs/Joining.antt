@@ -42,9 +42,9 @@ module _ {A B : Type 0} {Is : A → B → Type 0} {all left : List A} {ys : List
 -- ---- threads
 
 -- of threads and their ends, to the feeders, the sources and the ends
-pub ends_of : {R F X : Type 0} (form : F → Format) (rem : R → KnownBytes) (threads : List X) (ends : List FeedEnd) (f : X → Task R F)
-    → AllZip (λ thread end. IsFeedEnd form rem (f thread).0 (f thread).1 end) threads ends → AreEndsOf form rem (map f threads) ends
-ends_of form rem [] [] f are = tt
-ends_of form rem [] (end ∷ ends) f are = absurd are
-ends_of form rem (thread ∷ threads) [] f are = absurd are
-ends_of form rem (thread ∷ threads) (end ∷ ends) f are = (are.0, ends_of form rem threads ends f are.1)
+pub ends_of : {R F X : Type 0} (format_by : F → Format) (rem : R → KnownBytes) (threads : List X) (ends : List FeedEnd) (f : X → Task R F)
+    → AllZip (λ thread end. IsFeedEnd format_by rem (f thread).0 (f thread).1 end) threads ends → AreEndsOf format_by rem (map f threads) ends
+ends_of format_by rem [] [] f are = tt
+ends_of format_by rem [] (end ∷ ends) f are = absurd are
+ends_of format_by rem (thread ∷ threads) [] f are = absurd are
+ends_of format_by rem (thread ∷ threads) (end ∷ ends) f are = (are.0, ends_of format_by rem threads ends f are.1)

@@ -106,30 +106,30 @@ less_of xs ys begins other = by begins.0 begins.1
 
 -- ---- what the closings carried
 
-module _ {R F : Type 0} (form : F → Format) (rem : R → KnownBytes) (progress : List FeederProgress) where
+module _ {R F : Type 0} (format_by : F → Format) (rem : R → KnownBytes) (progress : List FeederProgress) where
   record AreGiven (n : ℕ) (sources : List (SourceOf R F)) (feds : List Fed) : Type 0 where
     rows : Lists
-    given : AllZip (GaveRows form rem) sources rows
+    given : AllZip (GaveRows format_by rem) sources rows
     settled : (k : ℕ) → k < length rows → (progress_at progress (n + k)).carried ≡ Some (at rows k)
     many : length rows ≡ length feds
 
-  one_given : (n : ℕ) (feeder : FeederState) (source : SourceOf R F) (end : FeedEnd) (fed : Fed) → feeder.sent ≡ [] → IsFeedEnd form rem feeder source end
+  one_given : (n : ℕ) (feeder : FeederState) (source : SourceOf R F) (end : FeedEnd) (fed : Fed) → feeder.sent ≡ [] → IsFeedEnd format_by rem feeder source end
       → IsClosingSettled progress n end fed → fed.closed ≡ true
-      → (rows : List Entries) × GaveRows form rem source rows × ((progress_at progress n).carried ≡ Some rows)
+      → (rows : List Entries) × GaveRows format_by rem source rows × ((progress_at progress n).carried ≡ Some rows)
   one_given n feeder source end fed fresh is settled closed = by end.closing refl is.fed.sent settled.settled
     where
-      has : HasFed form rem source feeder.sent end
+      has : HasFed format_by rem source feeder.sent end
       has = is.fed
 
       by : (o : Option Sent) → end.closing ≡ o → IfSome o (λ closing. closing.rows ≡ feeder.sent ++ has.rows)
           → IfSome o (λ closing. (progress_at progress n).carried ≡ Some closing.rows)
-          → (rows : List Entries) × GaveRows form rem source rows × ((progress_at progress n).carried ≡ Some rows)
+          → (rows : List Entries) × GaveRows format_by rem source rows × ((progress_at progress n).carried ≡ Some rows)
       by None e sent t =
           let wrong : false ≡ true = sym (ap (λ o. is_some o) e) ∙ (sym settled.fed_is.closed ∙ closed) in absurd (cc (wrong))
       by (Some closing) e sent t = (has.rows, has.given, t ∙ ap (λ xs. Some xs) (sent ∙ ap (λ xs. xs ++ has.rows) fresh))
 
   all_given : (system : SystemName) (n : ℕ) (feeders : List FeederState) (sources : List (SourceOf R F)) (ends : List FeedEnd) (feds : List Fed)
-      → length sources ≡ length feeders → AreFeeders system n feeders → AreEndsOf form rem (tasks feeders sources) ends → AreClosingsSettled progress n ends feds
+      → length sources ≡ length feeders → AreFeeders system n feeders → AreEndsOf format_by rem (tasks feeders sources) ends → AreClosingsSettled progress n ends feds
       → all_closed feds ≡ true → AreGiven n sources feds
   unfolding at
   all_given system n [] [] [] [] same own are settled closed = record { rows = []; given = tt; settled = λ k lt. absurd (omega arith); many = refl }
@@ -155,7 +155,7 @@ module _ {R F : Type 0} (form : F → Format) (rem : R → KnownBytes) (progress
       both true false is = absurd (cc (is))
       both false b is = absurd (cc (is))
 
-      at_each : (one : (rows : List Entries) × GaveRows form rem source rows × ((progress_at progress n).carried ≡ Some rows)) (rest : AreGiven (suc n) sources feds)
+      at_each : (one : (rows : List Entries) × GaveRows format_by rem source rows × ((progress_at progress n).carried ≡ Some rows)) (rest : AreGiven (suc n) sources feds)
           → (k : ℕ) → k < suc (length rest.rows) → (progress_at progress (n + k)).carried ≡ Some (at (one.0 ∷ rest.rows) k)
       at_each one rest zero lt = (let here : n + 0 ≡ n = add-zero n in ap (λ m. (progress_at progress m).carried) here ∙ one.2)
       at_each one rest (suc k) lt =
@@ -164,18 +164,18 @@ module _ {R F : Type 0} (form : F → Format) (rem : R → KnownBytes) (progress
 
 -- ---- the limit is passed
 
-module _ {R F : Type 0} (form : F → Format) (rem : R → KnownBytes) where
+module _ {R F : Type 0} (format_by : F → Format) (rem : R → KnownBytes) where
   pub over_limit : (before : List FeederProgress) (limit : ℕ) (s : LoaderState) (system : SystemName) (feeders : List FeederState) (sources : List (SourceOf R F)) (ends : List FeedEnd)
       (feds : List Fed) → IsFullWithRowsLeft (length feds) s → s.system ≡ system → system.limit ≡ limit → length system.channels ≡ length feeders
-      → length sources ≡ length feeders → AreFeeders system 0 feeders → AreEndsOf form rem (tasks feeders sources) ends → AreClosingsSettled before 0 ends feds
-      → SettledUnchanged before s.progress → all_closed feds ≡ true → AreOverLimit form rem limit sources
+      → length sources ≡ length feeders → AreFeeders system 0 feeders → AreEndsOf format_by rem (tasks feeders sources) ends → AreClosingsSettled before 0 ends feds
+      → SettledUnchanged before s.progress → all_closed feds ≡ true → AreOverLimit format_by rem limit sources
   over_limit before limit s system feeders sources ends feds full system_is limit_is channels many own are settled unchanged closed =
-      let given = all_given form rem before system 0 feeders sources ends feds many own are settled closed in
+      let given = all_given format_by rem before system 0 feeders sources ends feds many own are settled closed in
       let always = full.full.always in
       let f : ℕ = full.feeder in
       let popped = popped_lists s.progress in
       let wide : length s.progress ≡ length given.rows =
-      always.many ∙ (ap (λ (x : SystemName). length x.channels) system_is ∙ (channels ∙ (sym many ∙ matched_long (GaveRows form rem) sources given.rows given.given))) in
+      always.many ∙ (ap (λ (x : SystemName). length x.channels) system_is ∙ (channels ∙ (sym many ∙ matched_long (GaveRows format_by rem) sources given.rows given.given))) in
       let as_wide : length popped ≡ length given.rows = popped_long s.progress ∙ wide in
       let now : (k : ℕ) → k < length given.rows → (progress_at s.progress k).carried ≡ Some (at given.rows k) =
       λ k lt. (let here : 0 + k ≡ k = omega arith in

@@ -16,15 +16,15 @@ use Rattle.bsi_files.specs.Prefixes.{ArePrefixes, HasLoadedPrefixes, HasPrefix}
 use Rattle.bsi_files.proofs.Failing.{begun_header, texts_many}
 use Rattle.bsi_syntax.specs.Bytes.{KnownBytes}
 
-module _ {R F : Type 0} (form : F → Format) (rem : R → KnownBytes) where
-  prefix : (format : Format) (reader : R) (s : SourceOf R F) (text : List ℕ) (rows : List Entries) (bad : ℕ) → Begins form rem format reader s → rem reader ≡ Some text
-      → CountsBad form rem s rows bad → HasPrefix format text rows bad
+module _ {R F : Type 0} (format_by : F → Format) (rem : R → KnownBytes) where
+  prefix : (format : Format) (reader : R) (s : SourceOf R F) (text : List ℕ) (rows : List Entries) (bad : ℕ) → Begins format_by rem format reader s → rem reader ≡ Some text
+      → CountsBad format_by rem s rows bad → HasPrefix format text rows bad
   prefix format reader s text rows bad begins known counts =
       let counted = counts.1 in
       let records = counted.read_so_far.records in
-      let stands : IsAfterHeader rem (layout_by form s.layout) s.input (strip_bom text) =
-      subst (λ o. IfSome o (λ bytes. IsAfterHeader rem (layout_by form s.layout) s.input (strip_bom bytes))) known begins.behind in
-      let all = first_join_by (form s.layout.format).config rem text s.input counted.at (s.layout.header ∷ []) records (begun_header form rem s text stands) counted.read_so_far.read in
+      let stands : IsAfterHeader rem (layout_by format_by s.layout) s.input (strip_bom text) =
+      subst (λ o. IfSome o (λ bytes. IsAfterHeader rem (layout_by format_by s.layout) s.input (strip_bom bytes))) known begins.behind in
+      let all = first_join_by (format_by s.layout.format).config rem text s.input counted.at (s.layout.header ∷ []) records (begun_header format_by rem s text stands) counted.read_so_far.read in
       let none : s.counts.bad ≡ 0 = ap (λ (t : Counts). t.bad) begins.counts_are in
       subst (λ (f : Format). HasPrefix f text rows bad) begins.format_is (record {
         header = s.layout.header;
@@ -39,7 +39,7 @@ module _ {R F : Type 0} (form : F → Format) (rem : R → KnownBytes) where
       })
 
   parts : (stops : Bool) (format : Format) (readers : List R) (sources : List (SourceOf R F)) (texts : List (List ℕ)) (rows : List SourcedRow) (n : ℕ) (feds : List Fed)
-      → AllZip (Begins form rem format) readers sources → map rem readers ≡ map (λ text. Some text) texts → AreFedFrom form rem stops rows n sources feds
+      → AllZip (Begins format_by rem format) readers sources → map rem readers ≡ map (λ text. Some text) texts → AreFedFrom format_by rem stops rows n sources feds
       → ArePrefixes format rows n texts (map fed_counts feds)
   parts stops format [] [] [] rows n [] begin is fed = tt
   parts stops format [] [] [] rows n (x ∷ feds) begin is fed = absurd fed
@@ -57,10 +57,10 @@ module _ {R F : Type 0} (form : F → Format) (rem : R → KnownBytes) where
       )
 
   pub loaded_prefixes : (stops : Bool) (format : Format) (limit : ℕ) (readers : List R) (sources : List (SourceOf R F)) (texts : List (List ℕ)) (rows : List SourcedRow) (feds : List Fed)
-      → AllZip (Begins form rem format) readers sources → map rem readers ≡ map (λ text. Some text) texts → IsAllFed form rem stops limit rows sources feds
+      → AllZip (Begins format_by rem format) readers sources → map rem readers ≡ map (λ text. Some text) texts → IsAllFed format_by rem stops limit rows sources feds
       → HasLoadedPrefixes format limit texts rows (map fed_counts feds)
   loaded_prefixes stops format limit readers sources texts rows feds begin is all =
-      let many = texts_many form rem format readers sources texts begin is in
+      let many = texts_many format_by rem format readers sources texts begin is in
       record {
         each = parts stops format readers sources texts rows 0 feds begin is all.each;
         none = λ f le. all.none f (omega (arith, le, many));

@@ -132,9 +132,9 @@ feeders_long n [] capacities same = refl
 feeders_long n (channel ∷ channels) [] same = absurd (omega arith)
 feeders_long n (channel ∷ channels) (capacity ∷ capacities) same = ap suc (feeders_long (suc n) channels capacities (omega arith))
 
-module _ {R F : Type 0} (form : F → Format) (rem : R → KnownBytes) where
+module _ {R F : Type 0} (format_by : F → Format) (rem : R → KnownBytes) where
   pub closings_of : (system : SystemName) (n : ℕ) (feeders : List FeederState) (sources : List (SourceOf R F)) (ends : List FeedEnd) → AreFeeders system n feeders
-      → AreEndsOf form rem (tasks feeders sources) ends → AreClosings system n ends
+      → AreEndsOf format_by rem (tasks feeders sources) ends → AreClosings system n ends
   closings_of system n feeders sources [] own are = tt
   closings_of system n [] sources (end ∷ ends) own are = absurd are
   closings_of system n (feeder ∷ feeders) [] (end ∷ ends) own are = absurd are
@@ -150,15 +150,15 @@ module _ {R F : Type 0} (form : F → Format) (rem : R → KnownBytes) where
       )
 
   fed_one : (stops : Bool) (rows : List SourcedRow) (progress : List FeederProgress) (n : ℕ) (feeder : FeederState) (source : SourceOf R F) (end : FeedEnd) (fed : Fed)
-      → rows_from n rows ≡ (progress_at progress n).popped → feeder.sent ≡ [] → IsFeedEnd form rem feeder source end → IsLoaded progress n end fed → EndedWell stops fed
-      → IsFedFrom form rem stops rows n source fed
+      → rows_from n rows ≡ (progress_at progress n).popped → feeder.sent ≡ [] → IsFeedEnd format_by rem feeder source end → IsLoaded progress n end fed → EndedWell stops fed
+      → IsFedFrom format_by rem stops rows n source fed
   fed_one stops rows progress n feeder source end fed from fresh is loaded fine = by end.closing refl is.fed.sent loaded.popped
     where
-      has : HasFed form rem source feeder.sent end
+      has : HasFed format_by rem source feeder.sent end
       has = is.fed
 
       by : (o : Option Sent) → end.closing ≡ o → IfSome o (λ closing. closing.rows ≡ feeder.sent ++ has.rows)
-          → IfSome o (λ closing. progress_at progress n ≡ all_popped closing.rows) → IsFedFrom form rem stops rows n source fed
+          → IfSome o (λ closing. progress_at progress n ≡ all_popped closing.rows) → IsFedFrom format_by rem stops rows n source fed
       by None e sent popped =
           let wrong : false ≡ true = sym (ap (λ o. is_some o) e) ∙ (sym loaded.fed_is.closed ∙ fine.closed) in absurd (cc (wrong))
       by (Some closing) e sent popped =
@@ -167,16 +167,16 @@ module _ {R F : Type 0} (form : F → Format) (rem : R → KnownBytes) where
           record {
             many = sym (ap length same) ∙ (has.many ∙ sym loaded.fed_is.accepted);
             counted = λ going.
-                subst (λ xs. CountsBad form rem source xs fed.bad) same (subst (λ b. CountsBad form rem source has.rows b) (sym loaded.fed_is.bad) (has.counted going));
+                subst (λ xs. CountsBad format_by rem source xs fed.bad) same (subst (λ b. CountsBad format_by rem source has.rows b) (sym loaded.fed_is.bad) (has.counted going));
             out = λ never going.
                 let out = has.out (sym loaded.fed_is.stopped ∙ fine.none_stopped never) (sym loaded.fed_is.fault ∙ fine.fault) going in
-                subst (λ xs. IsReadOut form rem source xs fed.bad) same (subst (λ b. IsReadOut form rem source has.rows b) (sym loaded.fed_is.bad) out);
+                subst (λ xs. IsReadOut format_by rem source xs fed.bad) same (subst (λ b. IsReadOut format_by rem source has.rows b) (sym loaded.fed_is.bad) out);
           }
 
   pub fed_all : (stops : Bool) (rows : List SourcedRow) (progress : List FeederProgress) (system : SystemName) (n : ℕ) (feeders : List FeederState) (sources : List (SourceOf R F))
       (ends : List FeedEnd) (feds : List Fed)
       → ((f : ℕ) → rows_from f rows ≡ (progress_at progress f).popped) → length sources ≡ length feeders → AreFeeders system n feeders
-      → AreEndsOf form rem (tasks feeders sources) ends → AreLoaded progress n ends feds → All (EndedWell stops) feds → AreFedFrom form rem stops rows n sources feds
+      → AreEndsOf format_by rem (tasks feeders sources) ends → AreLoaded progress n ends feds → All (EndedWell stops) feds → AreFedFrom format_by rem stops rows n sources feds
   fed_all stops rows progress system n [] [] [] [] from many own are loaded fine = tt
   fed_all stops rows progress system n [] (source ∷ sources) ends feds from many own are loaded fine = absurd (omega arith)
   fed_all stops rows progress system n (feeder ∷ feeders) [] ends feds from many own are loaded fine = absurd (omega arith)
@@ -192,8 +192,8 @@ module _ {R F : Type 0} (form : F → Format) (rem : R → KnownBytes) where
   -- all rows that were popped
   pub all_fed : (stops : Bool) (limit : ℕ) (loaded : LoaderState) (system : SystemName) (feeders : List FeederState) (sources : List (SourceOf R F)) (ends : List FeedEnd) (feds : List Fed)
       → AlwaysHolds loaded → loaded.system ≡ system → length system.channels ≡ length feeders → length sources ≡ length feeders
-      → AreFeeders system 0 feeders → AreEndsOf form rem (tasks feeders sources) ends → AreLoaded loaded.progress 0 ends feds → All (EndedWell stops) feds
-      → length (loaded.published ++ loaded.staged) ≤ loaded.system.limit → system.limit ≡ limit → IsAllFed form rem stops limit (loaded.published ++ loaded.staged) sources feds
+      → AreFeeders system 0 feeders → AreEndsOf format_by rem (tasks feeders sources) ends → AreLoaded loaded.progress 0 ends feds → All (EndedWell stops) feds
+      → length (loaded.published ++ loaded.staged) ≤ loaded.system.limit → system.limit ≡ limit → IsAllFed format_by rem stops limit (loaded.published ++ loaded.staged) sources feds
   all_fed stops limit loaded system feeders sources ends feds always same channels many own are popped fine few most =
       let rows : List SourcedRow = loaded.published ++ loaded.staged in
       let long : length loaded.progress ≡ length sources = always.many ∙ (ap (λ (s : SystemName). length s.channels) same ∙ (channels ∙ sym many)) in

@@ -11,15 +11,15 @@ use Rattle.bsi_syntax.specs.Bytes.{KnownBytes}
 use Rattle.bsi_input.specs.Formats.{Format}
 
 -- How a feeder ended that read this source.
-pub record IsFeedEnd {R F : Type 0} (form : F → Format) (rem : R → KnownBytes) (feeder : FeederState) (source : SourceOf R F) (end : FeedEnd) : Type 0 where
+pub record IsFeedEnd {R F : Type 0} (format_by : F → Format) (rem : R → KnownBytes) (feeder : FeederState) (source : SourceOf R F) (end : FeedEnd) : Type 0 where
   -- If there is a closing, its number is that of the feeder.
   pub number : IfSome end.closing (λ closing. closing.number ≡ feeder.number)
   -- If there is a closing, its channel is that of the feeder.
   pub channel : IfSome end.closing (λ closing. closing.channel ≡ feeder.channel)
   -- The rows that were sent, and the records that were bad.
-  pub fed : HasFed form rem source feeder.sent end
+  pub fed : HasFed format_by rem source feeder.sent end
   -- If there is a fault, the source had ended by it, or stopped at it after the accepted rows.
-  pub fault : IfSome end.fault (HasFailed form rem source end.accepted)
+  pub fault : IfSome end.fault (HasFailed format_by rem source end.accepted)
 
 -- A feeder, and the source that it reads.
 abbrev pub Task : Type 0 → Type 0 → Type 0
@@ -33,7 +33,7 @@ tasks (feeder ∷ feeders) (source ∷ sources) = (feeder, source) ∷ tasks fee
 
 -- How each task ended.
 abbrev pub AreEndsOf : {R F : Type 0} → (F → Format) → (R → KnownBytes) → List (Task R F) → List FeedEnd → Type 0
-AreEndsOf form rem given ends = AllZip (λ (feeder, source) end. IsFeedEnd form rem feeder source end) given ends
+AreEndsOf format_by rem given ends = AllZip (λ (feeder, source) end. IsFeedEnd format_by rem feeder source end) given ends
 
 -- The feeders of a system, numbered from n, which have sent nothing.
 abbrev pub AreFeeders : SystemName → ℕ → List FeederState → Type 0

@@ -149,7 +149,7 @@ IsFaultOf stops declared texts fault = RowTextsAreValid declared texts
 -- ---- by the sources
 
 -- The source of this number fails with the fault.
-pub record FailsAt {R F : Type 0} (form : F → Format) (rem : R → KnownBytes) (sources : List (SourceOf R F)) (number : ℕ) (fault : SourceFault)
+pub record FailsAt {R F : Type 0} (format_by : F → Format) (rem : R → KnownBytes) (sources : List (SourceOf R F)) (number : ℕ) (fault : SourceFault)
     : Type 0 where
   -- The source of this number.
   pub source : SourceOf R F
@@ -158,21 +158,21 @@ pub record FailsAt {R F : Type 0} (form : F → Format) (rem : R → KnownBytes)
   -- The list of sources has this source at the number.
   pub at : slice_get sources number ≡ Some source
   -- The source had ended by the fault, or stopped at the fault after `many` rows.
-  pub failed : HasFailed form rem source many fault
+  pub failed : HasFailed format_by rem source many fault
 
 -- A source that had not ended gave these rows.
 abbrev pub GaveRows : {R F : Type 0} → (F → Format) → (R → KnownBytes) → SourceOf R F → List Entries → Type 0
-GaveRows form rem source rows = source.end ≡ None → GivesRows form rem source rows
+GaveRows format_by rem source rows = source.end ≡ None → GivesRows format_by rem source rows
 
 -- The sources gave more rows than the limit.
-pub record AreOverLimit {R F : Type 0} (form : F → Format) (rem : R → KnownBytes) (limit : ℕ) (sources : List (SourceOf R F)) : Type 0 where
+pub record AreOverLimit {R F : Type 0} (format_by : F → Format) (rem : R → KnownBytes) (limit : ℕ) (sources : List (SourceOf R F)) : Type 0 where
   pub rows : List (List Entries)
-  pub given : AllZip (GaveRows form rem) sources rows
+  pub given : AllZip (GaveRows format_by rem) sources rows
   pub past : limit < sum_by length rows
 
 -- A source that had not ended was read to its end.
 abbrev pub WasReadOut : {R F : Type 0} → (F → Format) → (R → KnownBytes) → SourceOf R F → Type 0
-WasReadOut form rem source = source.end ≡ None → (rows : List Entries) × (bad : ℕ) × IsReadOut form rem source rows bad
+WasReadOut format_by rem source = source.end ≡ None → (rows : List Entries) × (bad : ℕ) × IsReadOut format_by rem source rows bad
 
 -- The fault is that of source `number`, and no source of a lower number has one.
 abbrev pub IsSourceFault : List Fed → FilesFault → Type 0
@@ -220,9 +220,9 @@ is_of_loading fault = false
 
 -- A fault while rows are loaded.
 abbrev pub IsLoadFault : {R F : Type 0} → (F → Format) → (R → KnownBytes) → Bool → ℕ → List (SourceOf R F) → FilesFault → Type 0
-IsLoadFault form rem stops limit sources (run.Source number fault) =
-    FailsAt form rem sources number fault × (stops ≡ false → All (WasReadOut form rem) (take number sources))
-IsLoadFault form rem stops limit sources (run.NotClosed number) = number < length sources
-IsLoadFault form rem stops limit sources run.IndexFull = AreOverLimit form rem limit sources
-IsLoadFault form rem stops limit sources run.NoMemory = ⊤
-IsLoadFault form rem stops limit sources fault = ⊥
+IsLoadFault format_by rem stops limit sources (run.Source number fault) =
+    FailsAt format_by rem sources number fault × (stops ≡ false → All (WasReadOut format_by rem) (take number sources))
+IsLoadFault format_by rem stops limit sources (run.NotClosed number) = number < length sources
+IsLoadFault format_by rem stops limit sources run.IndexFull = AreOverLimit format_by rem limit sources
+IsLoadFault format_by rem stops limit sources run.NoMemory = ⊤
+IsLoadFault format_by rem stops limit sources fault = ⊥

@@ -185,19 +185,19 @@ module _ {R : Type 0} (rem : R → KnownBytes) (a b : Reader R) (fields : List F
           (is ∙ read.2, read.3, read.4)
 
   -- it is a header, of which a layout was made
-  pub layout_behind : {F : Type 0} (form : F → Format) (f : F) (made : Option (LayoutOf F)) (r : Result (LayoutOf F) SourceFault)
-      → form f ≡ format
-      → made ≡ (if (form f).is_header fields then Some (record { format = f; header = fields }) else None) → made ≡ result_ok r → ReadRecord rem a b true fields
-      → IfOk r (λ layout. IfSome (source_of rem a) (IsAfterHeader rem (layout_by form layout) b))
-  layout_behind form f made (Err fault) of is ok next = tt
-  layout_behind {F} form f made (Ok layout) of is ok next =
-      subst (λ (l : Layout). IfSome (source_of rem a) (IsAfterHeader rem l b)) (sym (by ((form f).is_header fields) is)) (stands_after fields refl next)
+  pub layout_behind : {F : Type 0} (format_by : F → Format) (f : F) (made : Option (LayoutOf F)) (r : Result (LayoutOf F) SourceFault)
+      → format_by f ≡ format
+      → made ≡ (if (format_by f).is_header fields then Some (record { format = f; header = fields }) else None) → made ≡ result_ok r → ReadRecord rem a b true fields
+      → IfOk r (λ layout. IfSome (source_of rem a) (IsAfterHeader rem (layout_by format_by layout) b))
+  layout_behind format_by f made (Err fault) of is ok next = tt
+  layout_behind {F} format_by f made (Ok layout) of is ok next =
+      subst (λ (l : Layout). IfSome (source_of rem a) (IsAfterHeader rem l b)) (sym (by ((format_by f).is_header fields) is)) (stands_after fields refl next)
     where
       by : (good : Bool) → made ≡ (if good then Some (record { format = f; header = fields }) else None)
-          → layout_by form layout ≡ record { format = format; header = fields }
+          → layout_by format_by layout ≡ record { format = format; header = fields }
       by true e =
           let same : layout ≡ record { format = f; header = fields } = cc (ok, e) in
-          ap (layout_by form) same ∙ ap (λ (l : Format). record { format = l; header = fields }) of
+          ap (layout_by format_by) same ∙ ap (λ (l : Format). record { format = l; header = fields }) of
       by false e = absurd (cc (ok, e))
 
   -- there is none

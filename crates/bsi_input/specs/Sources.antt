@@ -23,13 +23,14 @@ pub record Layout : Type 0 where
   pub format : Format
   pub header : List Field
 
--- A layout whose format is a value of any type, and the layout that it is where `form` is what such a value stands for.
+-- A layout whose format is a value of any type, and the layout that it is where `format_by` is what such a value
+-- stands for.
 pub record LayoutOf (F : Type 0) : Type 0 where
   pub format : F
   pub header : List Field
 
 abbrev pub layout_by : {F : Type 0} → (F → Format) → LayoutOf F → Layout
-layout_by form layout = record { format = form layout.format; header = layout.header }
+layout_by format_by layout = record { format = format_by layout.format; header = layout.header }
 
 -- The number of records after the header that were read so far, and of the bad ones among them.
 pub record Counts : Type 0 where
@@ -59,8 +60,8 @@ pub record Source (R : Type 0) : Type 0 where
   -- How the source ended, or none.
   pub end : SourceEnd
 
--- A row source whose format is a value of any type, and the source that it is where `form` is what such a value stands
--- for.
+-- A row source whose format is a value of any type, and the source that it is where `format_by` is what such a value
+-- stands for.
 pub record SourceOf (R F : Type 0) : Type 0 where
   -- How the file is read, and its header.
   pub layout : LayoutOf F
@@ -72,8 +73,8 @@ pub record SourceOf (R F : Type 0) : Type 0 where
   pub end : SourceEnd
 
 abbrev pub source_by : {R F : Type 0} → (F → Format) → SourceOf R F → Source R
-source_by form source = record
-    { layout = layout_by form source.layout; input = source.input; counts = source.counts; end = source.end }
+source_by format_by source = record
+    { layout = layout_by format_by source.layout; input = source.input; counts = source.counts; end = source.end }
 
 -- A reader of records that are written so: it trims nothing, and records may have any number of fields.
 pub record IsReaderBy {R : Type 0} (by : Config) (input : Reader R) : Type 0 where

@@ -12,15 +12,15 @@ use Rattle.bsi_check.proofs.rows.check_input.Goals as goal
 pub returns-clause-finding : goal.returns-clause-finding
 returns-clause-finding g c = λ bytes known.
     let header = fields_of c.read_header.new.fields in
-    let form = g.F.RowFormat.format in
-    let format = form c.args.format.now in
+    let format_by = g.F.RowFormat.format in
+    let format = format_by c.args.format.now in
     let start = c.args.input.now in
     let input = c.read_header.new.input in
     let next : ReadRecord g.I.Read.remaining start input true header = search rules in
     let named : format.is_header header ≡ true = search rules in
     counted_text g.I.Read.remaining format header start input c.in_ok-counts.counts (Some bytes) named known
     (stands_after g.I.Read.remaining start input header format c.requires.by.config c.requires.start header refl next)
-    (subst (λ (l : LayoutOf g.row.F.Denot). HasCounted g.I.Read.remaining (layout_by form l) input c.in_ok-counts.counts) c.in_ok-layout.ensures c.in_ok-counts.ensures.counted)
+    (subst (λ (l : LayoutOf g.row.F.Denot). HasCounted g.I.Read.remaining (layout_by format_by l) input c.in_ok-counts.counts) c.in_ok-layout.ensures c.in_ok-counts.ensures.counted)
 
 -- the header was read, and then too many records
 pub returns-in_err-counts-clause-too_long : goal.returns-in_err-counts-clause-too_long

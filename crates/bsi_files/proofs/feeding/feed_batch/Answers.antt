@@ -12,10 +12,10 @@ use Rattle.bsi_files.proofs.feeding.feed_batch.Goals as goal
 pub returns-in_default : goal.returns-in_default
 returns-in_default g c =
     let rem = g.I.Read.remaining in
-    let form = g.F.RowFormat.format in
+    let format_by = g.F.RowFormat.format in
     let source = c.args.source.now in
-    let refused : (source.end ≡ None) × ReadsOn form rem source c.fill_batch.new.source = search rules in
-    (refl {a = c.args.feeder.now}, refused_now form rem source (taken_none rem (layout_by form source.layout) source.input source.counts) refused.0, refused.1)
+    let refused : (source.end ≡ None) × ReadsOn format_by rem source c.fill_batch.new.source = search rules in
+    (refl {a = c.args.feeder.now}, refused_now format_by rem source (taken_none rem (layout_by format_by source.layout) source.input source.counts) refused.0, refused.1)
 
 -- the ring has places for the batch
 pub send_batch-requires : goal.send_batch-requires

@@ -17,7 +17,7 @@ use Rattle.bsi_files.proofs.feeding.fill_batch.Goals as goal
 pub fills-init : goal.fills-init
 fills-init g c =
     let rem = g.I.Read.remaining in
-    let form = g.F.RowFormat.format in
+    let format_by = g.F.RowFormat.format in
     let source = c.args.source.now in
     let none = ap length c.requires.batch.0 in
     record {
@@ -25,7 +25,7 @@ fills-init g c =
       batch = (refl, c.requires.batch.1);
       few = omega (arith, none);
       some = omega arith;
-      passed = subst (HasPassed form rem source source) (sym (ap entries_of c.requires.batch.0)) (passed_none form rem source (taken_none rem (layout_by form source.layout) source.input source.counts));
+      passed = subst (HasPassed format_by rem source source) (sym (ap entries_of c.requires.batch.0)) (passed_none format_by rem source (taken_none rem (layout_by format_by source.layout) source.input source.counts));
       start = λ is. refl;
       read_so_far = λ some. absurd (omega (arith, some, none));
     }
@@ -34,7 +34,7 @@ fills-init g c =
 pub returns-in-Err-clause-given : goal.returns-in-Err-clause-given
 returns-in-Err-clause-given g c =
     let rem = g.I.Read.remaining in
-    let form = g.F.RowFormat.format in
+    let format_by = g.F.RowFormat.format in
     let old = c.fills.source in
     let new = c.fill.new.self in
     let e = c.fill.ensures in
@@ -43,21 +43,21 @@ returns-in-Err-clause-given g c =
     let empty = ap (λ (b : RowBlock). b.rows) c.clear.ensures in
     let full = c.fill.new.block in
     let none : entries_of full.rows ≡ [] = search rules in
-    let has = subst (HasPassed form rem c.args.source.now new) (ap (λ xs. rows ++ xs) none ∙ append-nil rows)
-    (passed_fill form rem old new 0 c.clear.new.self full empty c.fill.result e.failed e.ended e.filled (taken_both rem) e.stopped e.same e.few c.args.source.now rows i.passed) in
+    let has = subst (HasPassed format_by rem c.args.source.now new) (ap (λ xs. rows ++ xs) none ∙ append-nil rows)
+    (passed_fill format_by rem old new 0 c.clear.new.self full empty c.fill.result e.failed e.ended e.filled (taken_both rem) e.stopped e.same e.few c.args.source.now rows i.passed) in
     record {
-      read_so_far = read_on form rem c.args.source.now new rows has.gone (taken_both rem);
-      some = λ some. passed_next form rem c.args.source.now new rows has e.few some;
+      read_so_far = read_on format_by rem c.args.source.now new rows has.gone (taken_both rem);
+      some = λ some. passed_next format_by rem c.args.source.now new rows has e.few some;
       none = λ nothing.
-          subst (λ (s : SourceOf g.row.I.Denot g.row.F.Denot). FailsNow form rem s c.in-Err.fault) (i.start (omega (arith, nothing, length-map c.fills.batch.rows (λ (row : SourcedRow). row.1))))
-          (fill_fails form rem old new 0 c.clear.new.self full empty c.fill.result e.failed e.ended e.filled (taken_both rem) e.stopped c.in-Err.fault c.in-Err.is);
+          subst (λ (s : SourceOf g.row.I.Denot g.row.F.Denot). FailsNow format_by rem s c.in-Err.fault) (i.start (omega (arith, nothing, length-map c.fills.batch.rows (λ (row : SourcedRow). row.1))))
+          (fill_fails format_by rem old new 0 c.clear.new.self full empty c.fill.result e.failed e.ended e.filled (taken_both rem) e.stopped c.in-Err.fault c.in-Err.is);
     }
 
 -- no row is left
 pub returns-then-len-eq0-clause-given : goal.returns-then-len-eq0-clause-given
 returns-then-len-eq0-clause-given g c =
     let rem = g.I.Read.remaining in
-    let form = g.F.RowFormat.format in
+    let format_by = g.F.RowFormat.format in
     let old = c.fills.source in
     let new = c.fill.new.self in
     let e = c.fill.ensures in
@@ -66,14 +66,14 @@ returns-then-len-eq0-clause-given g c =
     let empty = ap (λ (b : RowBlock). b.rows) c.clear.ensures in
     let full = c.fill.new.block in
     let zero : length full.rows ≡ 0 = omega (arith, c.len.ensures.len, c.if-len-eq0.true) in
-    let has = subst (HasPassed form rem c.args.source.now new) (ap (λ xs. rows ++ xs) (no_entries_of full.rows zero) ∙ append-nil rows)
-    (passed_fill form rem old new 0 c.clear.new.self full empty c.fill.result e.failed e.ended e.filled (taken_both rem) e.stopped e.same e.few c.args.source.now rows i.passed) in
+    let has = subst (HasPassed format_by rem c.args.source.now new) (ap (λ xs. rows ++ xs) (no_entries_of full.rows zero) ∙ append-nil rows)
+    (passed_fill format_by rem old new 0 c.clear.new.self full empty c.fill.result e.failed e.ended e.filled (taken_both rem) e.stopped e.same e.few c.args.source.now rows i.passed) in
     record {
-      read_so_far = read_on form rem c.args.source.now new rows has.gone (taken_both rem);
-      some = λ some. passed_next form rem c.args.source.now new rows has e.few some;
+      read_so_far = read_on format_by rem c.args.source.now new rows has.gone (taken_both rem);
+      some = λ some. passed_next format_by rem c.args.source.now new rows has e.few some;
       none = λ nothing.
-          subst (λ (s : SourceOf g.row.I.Denot g.row.F.Denot). GivesFirst rem (source_by form s) (source_by form new) None × GivesNone form rem s new) (i.start (omega (arith, nothing, length-map c.fills.batch.rows (λ (row : SourcedRow). row.1))))
-          (fill_over form rem old new 0 c.clear.new.self full empty c.fill.result e.failed e.ended e.filled e.later c.in_default.is (taken_both rem) e.same e.few zero);
+          subst (λ (s : SourceOf g.row.I.Denot g.row.F.Denot). GivesFirst rem (source_by format_by s) (source_by format_by new) None × GivesNone format_by rem s new) (i.start (omega (arith, nothing, length-map c.fills.batch.rows (λ (row : SourcedRow). row.1))))
+          (fill_over format_by rem old new 0 c.clear.new.self full empty c.fill.result e.failed e.ended e.filled e.later c.in_default.is (taken_both rem) e.same e.few zero);
     }
 
 -- the rows of the block fit the batch
@@ -93,12 +93,12 @@ append_block-requires-clause-fits g c =
 pub fills-preserved : goal.fills-preserved
 fills-preserved g c =
     let rem = g.I.Read.remaining in
-    let form = g.F.RowFormat.format in
+    let format_by = g.F.RowFormat.format in
     let e = c.fill.ensures in
     let i = c.fills.invariant in
     let empty = ap (λ (b : RowBlock). b.rows) c.clear.ensures in
     let full = c.fill.new.block in
-    let same = same_block form rem c.fills.source c.fill.new.self 0 c.clear.new.self full empty c.fill.result e.failed e.ended e.filled e.stopped in
+    let same = same_block format_by rem c.fills.source c.fill.new.self 0 c.clear.new.self full empty c.fill.result e.failed e.ended e.filled e.stopped in
     let appended : table_of c.append_block.new.self ≡ with_rows (table_of c.fills.batch) full.rows = search rules in
     let many = ap (λ (t : Table). length t.rows) appended ∙ length-append c.fills.batch.rows full.rows in
     let entries = ap (λ (t : Table). entries_of t.rows) appended ∙ entries_append c.fills.batch.rows full.rows in
@@ -110,8 +110,8 @@ fills-preserved g c =
       batch = (ap (λ (t : Table). t.schema) appended ∙ i.batch.0, ap (λ (t : Table). t.feeders) appended ∙ i.batch.1);
       few = omega (arith, many, i.few, c.len.ensures.len, c.len.ensures.within);
       some = omega (arith, many, i.some, c.len.ensures.len, c.if-len-eq0.false);
-      passed = subst (HasPassed form rem c.args.source.now c.fill.new.self) (sym entries)
-          (passed_fill form rem c.fills.source c.fill.new.self 0 c.clear.new.self full empty c.fill.result e.failed e.ended e.filled (taken_both rem) e.stopped e.same e.few
+      passed = subst (HasPassed format_by rem c.args.source.now c.fill.new.self) (sym entries)
+          (passed_fill format_by rem c.fills.source c.fill.new.self 0 c.clear.new.self full empty c.fill.result e.failed e.ended e.filled (taken_both rem) e.stopped e.same e.few
           c.args.source.now (entries_of c.fills.batch.rows) i.passed);
       start = λ none. absurd (omega (arith, none, many, c.len.ensures.len, c.if-len-eq0.false));
       read_so_far = λ some. e.few;
@@ -121,7 +121,7 @@ fills-preserved g c =
 pub returns-in_err-map_err-clause-refused : goal.returns-in_err-map_err-clause-refused
 returns-in_err-map_err-clause-refused g c =
     let rem = g.I.Read.remaining in
-    let form = g.F.RowFormat.format in
+    let format_by = g.F.RowFormat.format in
     let first = c.args.source.now in
     let old = c.fills.source in
     let new = c.fill.new.self in
@@ -129,24 +129,24 @@ returns-in_err-map_err-clause-refused g c =
     let rows = entries_of c.fills.batch.rows in
     let empty = ap (λ (b : RowBlock). b.rows) c.clear.ensures in
     let full = c.fill.new.block in
-    let next = fill_next form rem old new 0 c.clear.new.self full empty c.fill.result e.failed e.ended e.filled e.later c.in_default.is e.same e.few
+    let next = fill_next format_by rem old new 0 c.clear.new.self full empty c.fill.result e.failed e.ended e.filled e.later c.in_default.is e.same e.few
     (λ none. absurd (omega (arith, none, c.len.ensures.len, c.if-len-eq0.false))) in
-    let has = passed_fill form rem old new 0 c.clear.new.self full empty c.fill.result e.failed e.ended e.filled (taken_both rem) e.stopped e.same e.few first rows c.fills.invariant.passed in
+    let has = passed_fill format_by rem old new 0 c.clear.new.self full empty c.fill.result e.failed e.ended e.filled (taken_both rem) e.stopped e.same e.few first rows c.fills.invariant.passed in
     so_err c.from_residual.result
-    (passed_open form rem first old rows c.fills.invariant.passed next.1.before, read_on form rem first new (rows ++ entries_of full.rows) has.gone (taken_both rem))
+    (passed_open format_by rem first old rows c.fills.invariant.passed next.1.before, read_on format_by rem first new (rows ++ entries_of full.rows) has.gone (taken_both rem))
 
 -- all blocks were filled
 pub returns-clause-given : goal.returns-clause-given
 returns-clause-given g c =
     let rem = g.I.Read.remaining in
-    let form = g.F.RowFormat.format in
+    let format_by = g.F.RowFormat.format in
     let first = c.args.source.now in
     let i = c.fills.invariant in
     let rows = entries_of c.fills.batch.rows in
     let many = length-map c.fills.batch.rows (λ (row : SourcedRow). row.1) in
     let some : 0 < length c.fills.batch.rows = omega (arith, i.some, c.requires.some, c.fills-test.false) in
     record {
-      read_so_far = read_on form rem first c.fills.source rows i.passed.gone (taken_both rem);
-      some = λ there. passed_next form rem first c.fills.source rows i.passed (i.read_so_far some) there;
+      read_so_far = read_on format_by rem first c.fills.source rows i.passed.gone (taken_both rem);
+      some = λ there. passed_next format_by rem first c.fills.source rows i.passed (i.read_so_far some) there;
       none = λ nothing. absurd (omega (arith, nothing, many, some));
     }

@@ -23,11 +23,11 @@ load_with_system-loaded-requires-clause-few g c =
 pub returns-clause-counts : goal.returns-clause-counts
 returns-clause-counts g c =
     let rem = g.I.Read.remaining in
-    let form = g.F.RowFormat.format in
+    let format_by = g.F.RowFormat.format in
     let sources = c.in_ok-sources.sources.items in
-    let many = matched_long (Begins form rem (g.F.RowFormat.format c.args.format.now)) c.args.sources.items sources c.in_ok-sources.ensures.begun in
+    let many = matched_long (Begins format_by rem (g.F.RowFormat.format c.args.format.now)) c.args.sources.items sources c.in_ok-sources.ensures.begun in
     if_ok c.load_with_system-loaded.result
-    (λ loaded all. sym (as_many form rem g.G.Stopping.STOPS loaded.table.rows 0 sources loaded.fed.items all.each) ∙ sym many)
+    (λ loaded all. sym (as_many format_by rem g.G.Stopping.STOPS loaded.table.rows 0 sources loaded.fed.items all.each) ∙ sym many)
     c.load_with_system-loaded.ensures.fed
 
 pub returns-clause-feeders : goal.returns-clause-feeders
@@ -38,27 +38,27 @@ returns-clause-feeders g c =
 pub returns-clause-headers : goal.returns-clause-headers
 returns-clause-headers g c =
     let rem = g.I.Read.remaining in
-    let form = g.F.RowFormat.format in
+    let format_by = g.F.RowFormat.format in
     so_ok c.load_with_system-loaded.result
-    (λ texts is. headers_known form rem (g.F.RowFormat.format c.args.format.now) c.args.sources.items c.in_ok-sources.sources.items texts c.in_ok-sources.ensures.begun is)
+    (λ texts is. headers_known format_by rem (g.F.RowFormat.format c.args.format.now) c.args.sources.items c.in_ok-sources.sources.items texts c.in_ok-sources.ensures.begun is)
 
 pub returns-clause-rows : goal.returns-clause-rows
 returns-clause-rows g c =
     let rem = g.I.Read.remaining in
-    let form = g.F.RowFormat.format in
+    let format_by = g.F.RowFormat.format in
     let readers = c.args.sources.items in
     let sources = c.in_ok-sources.sources.items in
     if_ok c.load_with_system-loaded.result
-    (λ loaded all never texts is. loaded_of form rem (is_whole rem) g.G.Stopping.STOPS never (g.F.RowFormat.format c.args.format.now) c.args.limit readers sources texts
+    (λ loaded all never texts is. loaded_of format_by rem (is_whole rem) g.G.Stopping.STOPS never (g.F.RowFormat.format c.args.format.now) c.args.limit readers sources texts
     loaded.table.rows loaded.fed.items c.in_ok-sources.ensures.begun is all)
     c.load_with_system-loaded.ensures.fed
 
 pub returns-clause-prefixes : goal.returns-clause-prefixes
 returns-clause-prefixes g c =
     let rem = g.I.Read.remaining in
-    let form = g.F.RowFormat.format in
+    let format_by = g.F.RowFormat.format in
     if_ok c.load_with_system-loaded.result
-    (λ loaded all texts is. loaded_prefixes form rem g.G.Stopping.STOPS (g.F.RowFormat.format c.args.format.now) c.args.limit c.args.sources.items c.in_ok-sources.sources.items texts
+    (λ loaded all texts is. loaded_prefixes format_by rem g.G.Stopping.STOPS (g.F.RowFormat.format c.args.format.now) c.args.limit c.args.sources.items c.in_ok-sources.sources.items texts
     loaded.table.rows loaded.fed.items c.in_ok-sources.ensures.begun is all)
     c.load_with_system-loaded.ensures.fed
 
@@ -67,12 +67,12 @@ returns-clause-prefixes g c =
 pub returns-clause-fault : goal.returns-clause-fault
 returns-clause-fault g c =
     let rem = g.I.Read.remaining in
-    let form = g.F.RowFormat.format in
+    let format_by = g.F.RowFormat.format in
     let readers = c.args.sources.items in
     let sources = c.in_ok-sources.sources.items in
     let begin = c.in_ok-sources.ensures.begun in
     if_err c.load_with_system-loaded.result (λ fault met texts i.
-    run_fault_of form rem (is_whole rem) g.G.Stopping.STOPS (g.F.RowFormat.format c.args.format.now) c.args.limit readers sources texts begin i fault met) c.load_with_system-loaded.ensures.fault
+    run_fault_of format_by rem (is_whole rem) g.G.Stopping.STOPS (g.F.RowFormat.format c.args.format.now) c.args.limit readers sources texts begin i fault met) c.load_with_system-loaded.ensures.fault
 
 pub returns-clause-counted : goal.returns-clause-counted
 returns-clause-counted g c =
