@@ -19,7 +19,7 @@ use Rattle.bsi_input.specs.BufferedOutput.{AppendsPrefix}
 use Rattle.bsi_input.specs.Formats.{max_records}
 use Rattle.bsi_input.specs.RecordSources.{RecordSource}
 use Rattle.bsi_input.specs.Sources.{HasReadRecords}
-use Rattle.bsi_answers.specs.ReadAhead.{GaveRecords, GivesRecords, ReadsAhead, ReadsMore, ReadsOne, StopsAhead, WritesFirstLines, WritesLines}
+use Rattle.bsi_answers.specs.ReadAhead.{GaveRecords, GivesRecords, ReadsAhead, ReadsMore, ReadsOne, FailsAhead, WritesFirstLines, WritesLines}
 use Rattle.bsi_rows.specs.Fields.{Field}
 use Rattle.bsi_syntax.specs.Bytes.{Bytes, KnownBytes}
 use Rattle.bsi_syntax.specs.Notations.{AppendsText}
@@ -56,7 +56,7 @@ module _ {R : Type 0} (rem : R → KnownBytes) where
 
   -- however a ahead ended, the source gave its records
   pub gave_some : (old new : RecordSource R) (records : List (List Field)) (read : Result Bool FilesFault)
-      → IfOk read (ReadsAhead rem old new records) → IfErr read (StopsAhead rem old records)
+      → IfOk read (ReadsAhead rem old new records) → IfErr read (FailsAhead rem old records)
       → (at : Reader R) × (read_so_far : ℕ) × GaveRecords rem old records at read_so_far
   gave_some old new records (Ok true) reads stops = (new.input, new.read_so_far, reads.0)
   gave_some old new records (Ok false) reads stops = (reads.0, reads.1, reads.2)

@@ -54,7 +54,7 @@ ReadsAhead {R} rem old new records false =
     (at : Reader R) × (read_so_far : ℕ) × GaveRecords rem old records at read_so_far × IsOver rem at
 
 -- A fault was met after these records.
-pub record StopsAhead {R : Type 0} (rem : R → KnownBytes) (old : RecordSource R) (records : List (List Field))
+pub record FailsAhead {R : Type 0} (rem : R → KnownBytes) (old : RecordSource R) (records : List (List Field))
     (fault : FilesFault) : Type 0 where
   -- The reader after the records.
   pub at : Reader R

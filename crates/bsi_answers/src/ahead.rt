@@ -5,7 +5,7 @@ ghost use Rattle.csv.specs.Records.{fields_of};
 ghost use Rattle.bsi_input.specs.Formats.{max_records};
 ghost use Rattle.bsi_input.specs.Sources.{HasNext};
 ghost use Rattle.bsi_answers.specs.Faults.{may_follow_output};
-ghost use Rattle.bsi_answers.specs.ReadAhead.{ReadsAhead, ReadsOne, StopsAhead};
+ghost use Rattle.bsi_answers.specs.ReadAhead.{ReadsAhead, ReadsOne, FailsAhead};
 
 use crate::{FilesFault, Which};
 use bsi_input::{RecordAwareReader, RecordSource};
@@ -30,7 +30,7 @@ pub fn read_ahead<A: Read + Drop>(
     ensures reads { IfOk result
         (ReadsAhead (λ w. A.remaining w.inner) records.old records.new (map fields_of ahead.new.items)) }
     ensures stopped { IfErr result
-        (StopsAhead (λ w. A.remaining w.inner) records.old (map fields_of ahead.new.items)) }
+        (FailsAhead (λ w. A.remaining w.inner) records.old (map fields_of ahead.new.items)) }
 {
     ahead.clear();
     'records: for _ in 0..MAX_AHEAD {

@@ -24,7 +24,7 @@ use Rattle.bsi_input.proofs.FirstRecords.{first_join_by, HasReadFirstBy}
 use Rattle.bsi_files.specs.Begun.{Begins}
 use Rattle.bsi_files.specs.Ends.{tasks, AreEndsOf}
 use Rattle.bsi_answers.specs.Faults.{may_follow_output, raised_at_headers, raised_while_loading}
-use Rattle.bsi_files.specs.Feeding.{HasFailed, StopsAfter}
+use Rattle.bsi_files.specs.Feeding.{HasFailed, FailsAfter}
 use Rattle.bsi_files.specs.Headers.{HasHeader, IsHeadersFault}
 use Rattle.bsi_answers.specs.RowFiles.{RowFile}
 use Rattle.bsi_files.specs.RunFaults.{is_of_loading, AreOverLimit, AreRowFiles, FailsAt, GaveRows, HasFirstRows, IsEndFault, IsFaultOf, IsFaultOfTexts, IsLoadFault, IsTooLongFile, RowTextsAreValid, WasReadOut}
@@ -180,9 +180,9 @@ module _ {R F : Type 0} (format_by : F → Format) (rem : R → KnownBytes) wher
       record { reader = rest.reader; text = rest.text; begins = rest.begins; known = rest.known; at = rest.at }
 
   stops_after : (format : Format) (reader : R) (source : SourceOf R F) (many : ℕ) (fault : SourceFault) → Begins format_by rem format reader source → HasFailed format_by rem source many fault
-      → StopsAfter format_by rem source many fault
+      → FailsAfter format_by rem source many fault
   stops_after format reader source many fault begins failed =
-      subst (λ (end : SourceEnd). MatchOption end (StopsAfter format_by rem source many fault) (λ e. e ≡ Err fault)) begins.end_is failed
+      subst (λ (end : SourceEnd). MatchOption end (FailsAfter format_by rem source many fault) (λ e. e ≡ Err fault)) begins.end_is failed
 
   -- the header was read
   pub begun_header : (source : SourceOf R F) (text : List ℕ) → IsAfterHeader rem (layout_by format_by source.layout) source.input (strip_bom text)
@@ -197,7 +197,7 @@ module _ {R F : Type 0} (format_by : F → Format) (rem : R → KnownBytes) wher
       by (Some read) e h = record { rest = read.2; left = h.2; first = (read, e, h.0, (sym h.1, refl)) }
 
   too_long : (format : Format) (reader : R) (s : SourceOf R F) (text : List ℕ) (many : ℕ) → Begins format_by rem format reader s → rem reader ≡ Some text
-      → StopsAfter format_by rem s many source.TooLong → IsTooLongFile format text
+      → FailsAfter format_by rem s many source.TooLong → IsTooLongFile format text
   too_long format reader s text many begins known stops =
       let stands : IsAfterHeader rem (layout_by format_by s.layout) s.input (strip_bom text) =
       subst (λ o. IfSome o (λ bytes. IsAfterHeader rem (layout_by format_by s.layout) s.input (strip_bom bytes))) known begins.behind in

@@ -6,10 +6,10 @@ use Rattle.bsi_system.specs.Rings.{with_look, with_sent_rows, FeederState}
 use Rattle.bsi_rows.specs.Rows.{Entries}
 use Rattle.csv.specs.declared.reader.Reader.{Reader}
 use Rattle.bsi_input.specs.Formats.{Format}
-use Rattle.bsi_input.specs.Sources.{layout_by, source_by, Counts, GivesFirst, GivesFirstRows, HasEndedBy, HasGivenRows, HasReadAll, HasReadRows, HasStopped, IsOverBy, IsWithoutFault, Layout, LayoutOf, SourceEnd, SourceOf}
+use Rattle.bsi_input.specs.Sources.{layout_by, source_by, Counts, GivesFirst, GivesFirstRows, HasEndedBy, HasGivenRows, HasReadAll, HasReadRows, HasReadToFault, IsOverBy, IsWithoutFault, Layout, LayoutOf, SourceEnd, SourceOf}
 use Rattle.bsi_input.specs.declared.rows.SourceFault.{SourceFault}
 use Rattle.bsi_files.specs.declared.feeding.FeedEnd.{FeedEnd}
-use Rattle.bsi_files.specs.Feeding.{CountsBad, FailsNow, GaveAllRows, GivesNext, GivesNone, GivesRows, HasFailed, HasFed, IsReadOut, ReadsOn, StopsAfter}
+use Rattle.bsi_files.specs.Feeding.{CountsBad, FailsNow, GaveAllRows, GivesNext, GivesNone, GivesRows, HasFailed, HasFed, IsReadOut, ReadsOn, FailsAfter}
 use Rattle.bsi_syntax.specs.Bytes.{KnownBytes}
 
 -- what follows for each value follows for one that is there
@@ -217,9 +217,9 @@ module _ {R F : Type 0} (format_by : F → Format) (rem : R → KnownBytes) wher
       pub failed_after : (many : ℕ) (fault : SourceFault) → many ≡ n → FailsNow format_by rem after fault → HasFailed format_by rem source many fault
       failed_after many fault is fails = by source.end refl
         where
-          stops : source.end ≡ None → (end : SourceEnd) → after.end ≡ end → StopsAfter format_by rem source many fault
+          stops : source.end ≡ None → (end : SourceEnd) → after.end ≡ end → FailsAfter format_by rem source many fault
           stops going None ends =
-              let failed = subst (λ end. MatchOption end ((t : Counts) × HasStopped rem (layout_by format_by after.layout) after.input after.counts t fault) (λ e. e ≡ Err fault)) ends fails in
+              let failed = subst (λ end. MatchOption end ((t : Counts) × HasReadToFault rem (layout_by format_by after.layout) after.input after.counts t fault) (λ e. e ≡ Err fault)) ends fails in
               record {
                 rows = has.rows;
                 number = has.many ∙ sym is;
@@ -227,10 +227,10 @@ module _ {R F : Type 0} (format_by : F → Format) (rem : R → KnownBytes) wher
                 middle = after.counts;
                 end = failed.0;
                 read_so_far = (is_open source after has.rows has.passed.gone ends).1;
-                stopped = subst (λ (l : LayoutOf F). HasStopped rem (layout_by format_by l) after.input after.counts failed.0 fault) has.passed.gone.layout failed.1;
+                stopped = subst (λ (l : LayoutOf F). HasReadToFault rem (layout_by format_by l) after.input after.counts failed.0 fault) has.passed.gone.layout failed.1;
               }
           stops going (Some e) ends =
-              let failed = subst (λ end. MatchOption end ((t : Counts) × HasStopped rem (layout_by format_by after.layout) after.input after.counts t fault) (λ e. e ≡ Err fault)) ends fails in
+              let failed = subst (λ end. MatchOption end ((t : Counts) × HasReadToFault rem (layout_by format_by after.layout) after.input after.counts t fault) (λ e. e ≡ Err fault)) ends fails in
               let gave = was_open source after has.rows has.passed.gone going in
               record {
                 rows = has.rows;
@@ -243,13 +243,13 @@ module _ {R F : Type 0} (format_by : F → Format) (rem : R → KnownBytes) wher
               }
 
           by : (end : SourceEnd) → source.end ≡ end → HasFailed format_by rem source many fault
-          by None going = subst (λ end. MatchOption end (StopsAfter format_by rem source many fault) (λ e. e ≡ Err fault)) (sym going) (stops going after.end refl)
+          by None going = subst (λ end. MatchOption end (FailsAfter format_by rem source many fault) (λ e. e ≡ Err fault)) (sym going) (stops going after.end refl)
           by (Some e) ended =
               let same = subst (λ end. MatchOption end (HasGivenRows rem (layout_by format_by source.layout) source.input after.input source.counts after.counts has.rows after.end) (λ e. (has.rows ≡ []) × (after ≡ source)))
               ended has.passed.gone.given in
-              let failed = subst (λ end. MatchOption end ((t : Counts) × HasStopped rem (layout_by format_by after.layout) after.input after.counts t fault) (λ e. e ≡ Err fault))
+              let failed = subst (λ end. MatchOption end ((t : Counts) × HasReadToFault rem (layout_by format_by after.layout) after.input after.counts t fault) (λ e. e ≡ Err fault))
               (ap (λ (s : SourceOf R F). s.end) same.1 ∙ ended) fails in
-              subst (λ end. MatchOption end (StopsAfter format_by rem source many fault) (λ e. e ≡ Err fault)) (sym ended) failed
+              subst (λ end. MatchOption end (FailsAfter format_by rem source many fault) (λ e. e ≡ Err fault)) (sym ended) failed
 
       -- a source that gives no row more was read out
       read_out : JoinsTaken → (rest : SourceOf R F) (bad : ℕ) → GivesNone format_by rem after rest → bad ≡ rest.counts.bad → source.end ≡ None → IsReadOut format_by rem source has.rows bad

@@ -5,7 +5,7 @@ use Rattle.std.proofs.lemmas.List.{append-nil, length-map, map-append}
 use Rattle.bsi_rows.specs.RowBlocks.{entries_of, sourced_from, RowBlock}
 use Rattle.bsi_rows.specs.Rows.{Entries, SourcedRow}
 use Rattle.bsi_input.specs.Formats.{Format}
-use Rattle.bsi_input.specs.Sources.{layout_by, source_by, Counts, Fills, GivesFirst, HasGivenRows, HasLeft, HasReadAll, HasReadRows, HasStopped, LayoutOf, SourceEnd, SourceOf}
+use Rattle.bsi_input.specs.Sources.{layout_by, source_by, Counts, Fills, GivesFirst, HasGivenRows, HasLeft, HasReadAll, HasReadRows, HasReadToFault, LayoutOf, SourceEnd, SourceOf}
 use Rattle.bsi_input.specs.declared.rows.SourceFault.{SourceFault}
 use Rattle.bsi_input.specs.declared.rows.SourceFault.TheVariants.{NoMemory}
 use Rattle.bsi_files.specs.Feeding.{FailsNow, GivesNext, GivesNone, ReadsOn}
@@ -45,11 +45,11 @@ module _ {R F : Type 0} (format_by : F → Format) (rem : R → KnownBytes) (old
   -- or a fault in its place
   pub one_fails : (fault : SourceFault) → ((f : SourceFault) → old.end ≡ Some (Err f) → (◌≡◌ {A = Result (Option Entries) SourceFault} (Err fault) (Err f)) × (new ≡ old))
       → (old.end ≡ Some (Ok tt) → (◌≡◌ {A = Result (Option Entries) SourceFault} (Err fault) (Ok None)) × (new ≡ old))
-      → (old.end ≡ None → HasStopped rem (layout_by format_by old.layout) old.input old.counts new.counts fault × (new.end ≡ Some (Err fault))) → FailsNow format_by rem old fault × ReadsOn format_by rem old new
+      → (old.end ≡ None → HasReadToFault rem (layout_by format_by old.layout) old.input old.counts new.counts fault × (new.end ≡ Some (Err fault))) → FailsNow format_by rem old fault × ReadsOn format_by rem old new
   one_fails fault failed ended stopped = by old.end refl
     where
       fails : SourceEnd → Type 0
-      fails end = MatchOption end ((t : Counts) × HasStopped rem (layout_by format_by old.layout) old.input old.counts t fault) (λ e. e ≡ Err fault)
+      fails end = MatchOption end ((t : Counts) × HasReadToFault rem (layout_by format_by old.layout) old.input old.counts t fault) (λ e. e ≡ Err fault)
 
       by : (end : SourceEnd) → old.end ≡ end → FailsNow format_by rem old fault × ReadsOn format_by rem old new
       by None is =
@@ -138,11 +138,11 @@ module _ {R F : Type 0} (format_by : F → Format) (rem : R → KnownBytes) (old
             let none = no_rows going (ap (λ (block : RowBlock). length block.rows) stops.1 ∙ ap length empty) in
             let ending = subst (Behind format_by rem (layout_by format_by old.layout) gave.at new.input gave.middle new.counts) stops.0 gave.ending in
             let read_so_far = join (layout_by format_by old.layout) old.input gave.at ending.at old.counts gave.middle new.counts [] [] (subst (HasReadRows rem (layout_by format_by old.layout) old.input gave.at old.counts gave.middle) none gave.read_so_far) ending.read_so_far in
-            subst (λ end. MatchOption end ((t : Counts) × HasStopped rem (layout_by format_by old.layout) old.input old.counts t fault) (λ e. e ≡ Err fault)) (sym going)
+            subst (λ end. MatchOption end ((t : Counts) × HasReadToFault rem (layout_by format_by old.layout) old.input old.counts t fault) (λ e. e ≡ Err fault)) (sym going)
             (new.counts, record { at = ending.at; read_so_far = read_so_far; later = ending.later; too_long = ending.too_long })
         by (Some (Ok done)) going = absurd (cc (is, (ended going).0))
         by (Some (Err e)) going =
-            subst (λ end. MatchOption end ((t : Counts) × HasStopped rem (layout_by format_by old.layout) old.input old.counts t fault) (λ e. e ≡ Err fault)) (sym going) (cc (is, (failed e going).0))
+            subst (λ end. MatchOption end ((t : Counts) × HasReadToFault rem (layout_by format_by old.layout) old.input old.counts t fault) (λ e. e ≡ Err fault)) (sym going) (cc (is, (failed e going).0))
 
     module _ (later : OnOk r ((fault : SourceFault) → new.end ≡ Some (Err fault) → length start.rows < length full.rows)) (done : r ≡ Ok tt) where
       -- a call that puts no row there finds none
@@ -225,7 +225,7 @@ module _ {R F : Type 0} (format_by : F → Format) (rem : R → KnownBytes) (old
 pub refused_now : {R F : Type 0} (format_by : F → Format) (rem : R → KnownBytes) (source : SourceOf R F) → HasReadRows rem (layout_by format_by source.layout) source.input source.input source.counts source.counts []
     → source.end ≡ None → FailsNow format_by rem source NoMemory
 refused_now format_by rem source none going =
-    subst (λ end. MatchOption end ((t : Counts) × HasStopped rem (layout_by format_by source.layout) source.input source.counts t NoMemory) (λ e. e ≡ Err NoMemory)) (sym going)
+    subst (λ end. MatchOption end ((t : Counts) × HasReadToFault rem (layout_by format_by source.layout) source.input source.counts t NoMemory) (λ e. e ≡ Err NoMemory)) (sym going)
     (source.counts, record { at = source.input; read_so_far = none; later = λ is. absurd (cc is); too_long = λ is. absurd (cc is) })
 
 -- what holds anyway holds where there is an error

@@ -6,7 +6,7 @@ use mathlib.Core.List.{IsPrefix}
 use Rattle.bsi_system.specs.Rings.{with_look, with_sent_rows, FeederState}
 use Rattle.bsi_rows.specs.Rows.{Entries}
 use Rattle.bsi_input.specs.Formats.{Format}
-use Rattle.bsi_input.specs.Sources.{layout_by, source_by, Counts, GivesFirst, GivesFirstRows, HasGivenRows, HasReadAll, HasReadRows, HasStopped, IsOverBy, SourceOf, StillHas}
+use Rattle.bsi_input.specs.Sources.{layout_by, source_by, Counts, GivesFirst, GivesFirstRows, HasGivenRows, HasReadAll, HasReadRows, HasReadToFault, IsOverBy, SourceOf, StillHas}
 use Rattle.bsi_input.specs.declared.rows.SourceFault.{SourceFault}
 use Rattle.bsi_files.specs.declared.feeding.FeedEnd.{FeedEnd}
 use Rattle.bsi_files.specs.declared.feeding.FeedOutcome.{FeedOutcome}
@@ -84,8 +84,8 @@ pub record HasFed {R F : Type 0} (format_by : F → Format) (rem : R → KnownBy
   -- Without a stop or a fault, a source that had not ended was read to its end.
   pub out : end.stopped ≡ false → end.fault ≡ None → source.end ≡ None → IsReadOut format_by rem source rows end.bad
 
--- A source that had not ended stopped at the fault, after `many` rows.
-pub record StopsAfter {R F : Type 0} (format_by : F → Format) (rem : R → KnownBytes) (source : SourceOf R F) (many : ℕ) (fault : SourceFault)
+-- A source that had not ended failed with the fault, after `many` rows.
+pub record FailsAfter {R F : Type 0} (format_by : F → Format) (rem : R → KnownBytes) (source : SourceOf R F) (many : ℕ) (fault : SourceFault)
     : Type 0 where
   -- The rows that the source gave.
   pub rows : List Entries
@@ -99,12 +99,12 @@ pub record StopsAfter {R F : Type 0} (format_by : F → Format) (rem : R → Kno
   pub end : Counts
   -- The first records that were read are counted, and the good ones have exactly these rows.
   pub read_so_far : HasReadRows rem (layout_by format_by source.layout) source.input at source.counts middle rows
-  -- After these rows, the reader read only bad records before it stopped by the fault.
-  pub stopped : HasStopped rem (layout_by format_by source.layout) at middle end fault
+  -- After these rows, the reader read only bad records before the fault.
+  pub stopped : HasReadToFault rem (layout_by format_by source.layout) at middle end fault
 
--- A source had ended by the fault, or stopped at it after `many` rows.
+-- A source had ended by the fault, or failed with it after `many` rows.
 abbrev pub HasFailed : {R F : Type 0} → (F → Format) → (R → KnownBytes) → SourceOf R F → ℕ → SourceFault → Type 0
-HasFailed format_by rem source many fault = MatchOption source.end (StopsAfter format_by rem source many fault) (λ end. end ≡ Err fault)
+HasFailed format_by rem source many fault = MatchOption source.end (FailsAfter format_by rem source many fault) (λ end. end ≡ Err fault)
 
 -- A source gave these rows, its next ones.
 pub record GivesNext {R F : Type 0} (format_by : F → Format) (rem : R → KnownBytes) (old new : SourceOf R F) (rows : List Entries) : Type 0 where
@@ -114,15 +114,15 @@ pub record GivesNext {R F : Type 0} (format_by : F → Format) (rem : R → Know
   pub layout : new.layout ≡ old.layout
   -- The reader gave these rows of good records. It goes on after them, or has ended.
   pub given : HasGivenRows rem (layout_by format_by old.layout) old.input new.input old.counts new.counts rows new.end
-  -- The rows are the first good ones left. The source has the others now, unless it stopped by a fault.
+  -- The rows are the first good ones left. The source has the others now, unless it failed.
   pub first : GivesFirstRows rem (source_by format_by old) (source_by format_by new) rows
   -- No more records were read in all than the format has at most.
   pub few : new.counts.read_so_far ≤ (format_by old.layout.format).most
 
--- A source had ended by the fault, or stopped at it without a further row.
+-- A source had ended by the fault, or failed with it without a further row.
 abbrev pub FailsNow : {R F : Type 0} → (F → Format) → (R → KnownBytes) → SourceOf R F → SourceFault → Type 0
 FailsNow format_by rem source fault =
-    MatchOption source.end ((end : Counts) × HasStopped rem (layout_by format_by source.layout) source.input source.counts end fault)
+    MatchOption source.end ((end : Counts) × HasReadToFault rem (layout_by format_by source.layout) source.input source.counts end fault)
     (λ end. end ≡ Err fault)
 
 -- Next records of a source were read and counted. One that had ended counts no more.

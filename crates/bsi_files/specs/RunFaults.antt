@@ -157,7 +157,7 @@ pub record FailsAt {R F : Type 0} (format_by : F → Format) (rem : R → KnownB
   pub many : ℕ
   -- The list of sources has this source at the number.
   pub at : slice_get sources number ≡ Some source
-  -- The source had ended by the fault, or stopped at the fault after `many` rows.
+  -- The source had ended by the fault, or failed with the fault after `many` rows.
   pub failed : HasFailed format_by rem source many fault
 
 -- A source that had not ended gave these rows.

@@ -80,7 +80,7 @@ pub fn feed<R: Wait, I: Read + Drop, F: RowFormat + Drop, G: Gate>(
     // was sent before, and then the rows.
     ensures fed { HasFed F.format I.remaining source feeder.sent result }
 
-    // A fault is one at which the source stops once it has given so many rows. Refused memory may stop it anywhere.
+    // A fault is one with which the source fails after so many rows. Refused memory may stop it anywhere.
     ensures fault { IfSome result.fault (HasFailed F.format I.remaining source result.accepted) }
 {
     let mut accepted = 0;

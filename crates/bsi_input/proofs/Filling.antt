@@ -12,8 +12,8 @@ use Rattle.bsi_rows.specs.Rows.{Entries}
 use Rattle.bsi_syntax.specs.Bytes.{KnownBytes}
 use Rattle.bsi_rows.specs.Fields.{Field}
 use Rattle.bsi_input.specs.Formats.{good_row}
-use Rattle.bsi_input.specs.RecordSources.{ReadsRecordBy, StopsBy}
-use Rattle.bsi_input.specs.Sources.{counts_of, end_after, end_after_call, with_fed_rows, AreCounts, Counts, Fills, HasReadRows, HasStopped, IsOverBy, IsReaderBy, Layout, PutsRows, Source, SourceEnd}
+use Rattle.bsi_input.specs.RecordSources.{ReadsRecordBy, FailsBy}
+use Rattle.bsi_input.specs.Sources.{counts_of, end_after, end_after_call, with_fed_rows, AreCounts, Counts, Fills, HasReadRows, HasReadToFault, IsOverBy, IsReaderBy, Layout, PutsRows, Source, SourceEnd}
 use Rattle.bsi_input.specs.declared.rows.SourceFault.{SourceFault}
 use Rattle.bsi_input.specs.declared.rows.SourceFault.TheVariants.{NoMemory}
 use Rattle.bsi_input.proofs.Joining.{taken_both}
@@ -130,20 +130,20 @@ module _ {R : Type 0} (rem : R → KnownBytes) (layout : Layout) (old b : Reader
   }
 
   -- a fault is met
-  puts_some : (c : Reader R) (r : Result Bool SourceFault) (fault : SourceFault) → IsErrAnd r (λ e. e ≡ fault) → HasStopped rem layout b after after fault
+  puts_some : (c : Reader R) (r : Result Bool SourceFault) (fault : SourceFault) → IsErrAnd r (λ e. e ≡ fault) → HasReadToFault rem layout b after after fault
       → length now.rows < 64 → PutsRows rem layout old c before after feeder start now (end_after_call r)
   puts_some c (Ok found) fault is stops room = absurd is
   puts_some c (Err e) fault is stops room = record {
     rows = are.rows;
     added = are.added;
     fitting = are.fitting;
-    given = record { at = b; middle = after; read_so_far = are.read_so_far; ending = subst (HasStopped rem layout b after after) (sym is) stops };
+    given = record { at = b; middle = after; read_so_far = are.read_so_far; ending = subst (HasReadToFault rem layout b after after) (sym is) stops };
     goes_on = (λ going. absurd (cc going), λ many. absurd (omega (arith, many, room)));
   }
 
   -- a record can't be read, or there are too many
   pub puts_before : (c : Reader R) (r : Result Bool SourceFault) (fault : SourceFault) (count : ℕ) → IsErrAnd r (λ e. e ≡ fault)
-      → StopsBy layout.format.config layout.format.most rem b after.read_so_far count fault → length now.rows < 64 → PutsRows rem layout old c before after feeder start now (end_after_call r)
+      → FailsBy layout.format.config layout.format.most rem b after.read_so_far count fault → length now.rows < 64 → PutsRows rem layout old c before after feeder start now (end_after_call r)
   puts_before c r fault count is stops room =
       puts_some c r fault is (record { at = b; read_so_far = taken_none rem layout b after; later = stops.0; too_long = stops.1 }) room
 

@@ -19,7 +19,7 @@ use Rattle.bsi_rows.specs.Rows.{Entries}
 use Rattle.bsi_syntax.specs.Bytes.{KnownBytes}
 use Rattle.bsi_rows.specs.Fields.{Field}
 use Rattle.bsi_input.specs.Formats.{bad_count, good_row, Format}
-use Rattle.bsi_input.specs.Sources.{layout_by, AreCounts, Counts, HasNextBy, HasNoHeader, HasReadAll, HasReadBy, HasReadRows, HasStopped, IsAfterHeader, IsOverBy, IsReaderBy, Layout, LayoutOf}
+use Rattle.bsi_input.specs.Sources.{layout_by, AreCounts, Counts, HasNextBy, HasNoHeader, HasReadAll, HasReadBy, HasReadRows, HasReadToFault, IsAfterHeader, IsOverBy, IsReaderBy, Layout, LayoutOf}
 use Rattle.bsi_input.specs.declared.rows.SourceFault.{SourceFault}
 use Rattle.bsi_input.specs.declared.rows.SourceFault.TheVariants.{NoMemory, Read, TooLong}
 
@@ -137,18 +137,18 @@ module _ {R : Type 0} (rem : R → KnownBytes) (layout : Layout) (old b : Reader
   has_ended c fields next = record { at = b; read_so_far = are.read_so_far; over = is_over rem old b c fields are.plain.config next }
 
   -- a record can't be read
-  pub read_fails : {T : Type 0} (io : Bool) (r : Result T SourceFault) → IsErrAnd r (λ fault. fault ≡ (if io then Read else NoMemory)) → IfErr r (HasStopped rem layout old before after)
+  pub read_fails : {T : Type 0} (io : Bool) (r : Result T SourceFault) → IsErrAnd r (λ fault. fault ≡ (if io then Read else NoMemory)) → IfErr r (HasReadToFault rem layout old before after)
   read_fails io (Ok found) is = tt
   read_fails true (Err fault) is = record { at = b; read_so_far = are.read_so_far; later = λ bad. cc (is, bad); too_long = λ long. cc (is, long) }
   read_fails false (Err fault) is = record { at = b; read_so_far = are.read_so_far; later = λ bad. cc (is, bad); too_long = λ long. cc (is, long) }
 
   -- memory for a row is refused
-  pub memory_fails : {T : Type 0} (r : Result T SourceFault) → IsErrAnd r (λ fault. fault ≡ NoMemory) → IfErr r (HasStopped rem layout old before after)
+  pub memory_fails : {T : Type 0} (r : Result T SourceFault) → IsErrAnd r (λ fault. fault ≡ NoMemory) → IfErr r (HasReadToFault rem layout old before after)
   memory_fails (Ok found) is = tt
   memory_fails (Err fault) is = record { at = b; read_so_far = are.read_so_far; later = λ bad. cc (is, bad); too_long = λ long. cc (is, long) }
 
   -- there are too many
-  pub is_too_long : (c : Reader R) (fields : List Field) → ReadRecord rem b c true fields → layout.format.most ≤ after.read_so_far → HasStopped rem layout old before after TooLong
+  pub is_too_long : (c : Reader R) (fields : List Field) → ReadRecord rem b c true fields → layout.format.most ≤ after.read_so_far → HasReadToFault rem layout old before after TooLong
   is_too_long c fields next many = record {
     at = b;
     read_so_far = are.read_so_far;

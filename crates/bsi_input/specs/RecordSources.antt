@@ -1,4 +1,4 @@
--- What a call does to a source of the records of a text (`RecordSource`): it reads the next one, or stops at a fault.
+-- What a call does to a source of the records of a text (`RecordSource`): it reads the next one, or fails.
 use Rattle.std.specs.Prelude.{◌≡◌, ◌≢◌, ℕ, ◌+◌, List, [], ◌∷◌, Some, Err, Bool, true, false}
 use Rattle.csv.specs.Reading.{default_config}
 use Rattle.csv.specs.declared.parser.Config.{Config}
@@ -28,20 +28,20 @@ abbrev pub ReadsRecord : {R : Type 0} → (R → KnownBytes) → Reader R → Re
     → Type 0
 ReadsRecord rem old new before after fields more = ReadsRecordBy default_config rem old new before after fields more
 
--- Why a reader stops: a fault, though not of a header. `TooLong` means that the most records were read and one more
+-- Why a reader fails: a fault, though not of a header. `TooLong` means that the most records were read and one more
 -- follows.
-abbrev pub StopsBy : {R : Type 0} → Config → ℕ → (R → KnownBytes) → Reader R → ℕ → ℕ → SourceFault → Type 0
-StopsBy config most rem old before after fault =
+abbrev pub FailsBy : {R : Type 0} → Config → ℕ → (R → KnownBytes) → Reader R → ℕ → ℕ → SourceFault → Type 0
+FailsBy config most rem old before after fault =
     (fault ≢ BadHeader) × (fault ≡ TooLong → (before ≡ most) × HasNextBy config rem old) × (after ≡ before)
 
 -- The same of plain records.
-abbrev pub Stops : {R : Type 0} → ℕ → (R → KnownBytes) → Reader R → ℕ → ℕ → SourceFault → Type 0
-Stops most rem old before after fault = StopsBy default_config most rem old before after fault
+abbrev pub Fails : {R : Type 0} → ℕ → (R → KnownBytes) → Reader R → ℕ → ℕ → SourceFault → Type 0
+Fails most rem old before after fault = FailsBy default_config most rem old before after fault
 
 abbrev pub ReadsNextRecord : {R : Type 0} → (R → KnownBytes) → RecordSource R → RecordSource R → List Field → Bool → Type 0
 ReadsNextRecord rem old new fields more =
     ReadsRecord rem old.input new.input old.read_so_far new.read_so_far fields more × (new.end ≡ end_after more)
 
 -- A source after a call that raised a fault.
-abbrev pub StopsAt : {R : Type 0} → (R → KnownBytes) → RecordSource R → RecordSource R → SourceFault → Type 0
-StopsAt rem old new fault = Stops max_records rem old.input old.read_so_far new.read_so_far fault × (new.end ≡ Some (Err fault))
+abbrev pub FailsAt : {R : Type 0} → (R → KnownBytes) → RecordSource R → RecordSource R → SourceFault → Type 0
+FailsAt rem old new fault = Fails max_records rem old.input old.read_so_far new.read_so_far fault × (new.end ≡ Some (Err fault))

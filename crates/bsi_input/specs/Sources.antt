@@ -148,8 +148,8 @@ pub record HasReadAll {R : Type 0} (rem : R → KnownBytes) (layout : Layout) (o
   pub read_so_far : HasReadRows rem layout old at before after []
   pub over : IsOverBy layout.format.config rem at
 
--- A reader stopped by a fault after bad records.
-pub record HasStopped {R : Type 0} (rem : R → KnownBytes) (layout : Layout) (old : Reader R)
+-- A reader failed after bad records.
+pub record HasReadToFault {R : Type 0} (rem : R → KnownBytes) (layout : Layout) (old : Reader R)
     (before after : Counts) (fault : SourceFault) : Type 0 where
   -- The reader after the last record.
   pub at : Reader R
@@ -211,11 +211,11 @@ GivesFirst rem old new next =
 abbrev pub with_fed_rows : RowBlock → ℕ → List Entries → RowBlock
 with_fed_rows block feeder rows = record block { rows = block.rows ++ sourced_from feeder rows }
 
--- How a source ended: all records that it had left were bad, or it stopped by a fault.
+-- How a source ended: all records that it had left were bad, or it failed.
 abbrev pub HasEndedBy : {R : Type 0} → (R → KnownBytes) → Layout → Reader R → Counts → Counts
     → Result (Unit {0}) SourceFault → Type 0
 HasEndedBy rem layout at before after (Ok done) = HasReadAll rem layout at before after
-HasEndedBy rem layout at before after (Err fault) = HasStopped rem layout at before after fault
+HasEndedBy rem layout at before after (Err fault) = HasReadToFault rem layout at before after fault
 
 -- The end of a source after a call: none if the call read as much as it can take.
 abbrev pub end_after_call : Result Bool SourceFault → SourceEnd
@@ -259,7 +259,7 @@ pub record HasRest {R : Type 0} (rem : R → KnownBytes) (old new : Source R) (r
   pub still : StillHas rem new rest left
   pub count : new.counts.bad + left ≡ old.counts.bad + others
 
--- The rows are the first that a source had left. It has the others now, unless it stopped by a fault.
+-- The rows are the first that a source had left. It has the others now, unless it failed.
 abbrev pub GivesFirstRows : {R : Type 0} → (R → KnownBytes) → Source R → Source R → List Entries → Type 0
 GivesFirstRows rem old new rows =
     (all : List Entries) → (others : ℕ) → StillHas rem old all others

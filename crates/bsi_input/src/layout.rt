@@ -6,7 +6,7 @@ ghost use Rattle.csv.specs.Records.{fields_of};
 ghost use Rattle.bsi_schema.specs.Columns.{fits};
 ghost use Rattle.bsi_rows.specs.RowBlocks.{max_block_rows, no_block_rows, with_block_row, HaveSameLimits};
 ghost use Rattle.bsi_input.specs.Formats.{fitting, given, good_row, in_order};
-ghost use Rattle.bsi_input.specs.RecordSources.{ReadsRecordBy, StopsBy};
+ghost use Rattle.bsi_input.specs.RecordSources.{ReadsRecordBy, FailsBy};
 ghost use Rattle.bsi_input.specs.Sources.{IsReadFault, IsReaderBy};
 
 use crate::NoMemory;
@@ -130,7 +130,7 @@ impl<F: RowFormat + Drop> Layout<F> {
             (ReadsRecordBy (F.format self.now.format).config R.remaining input.old input.new
             read_so_far.old read_so_far.new (fields_of fields.new)) }
         ensures stopped { IfErr result
-            (StopsBy (F.format self.now.format).config (F.format self.now.format).most R.remaining
+            (FailsBy (F.format self.now.format).config (F.format self.now.format).most R.remaining
             input.old read_so_far.old read_so_far.new) }
         ensures few { read_so_far.new ≤ (F.format self.now.format).most }
         ensures by { OnOk result (IsReaderBy (F.format self.now.format).config input.new) }

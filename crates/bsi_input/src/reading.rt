@@ -6,7 +6,7 @@ ghost use Rattle.csv.specs.Reading.{ReadRecord, error_kind, reader_state, source
 ghost use Rattle.csv.specs.Records.{fields_of};
 ghost use Rattle.csv.specs.declared.parser.State.TheVariants as st;
 ghost use Rattle.bsi_input.specs.Formats.{config_of};
-ghost use Rattle.bsi_input.specs.RecordSources.{ReadsRecord, Stops};
+ghost use Rattle.bsi_input.specs.RecordSources.{ReadsRecord, Fails};
 ghost use Rattle.bsi_input.specs.Sources.{end_after, IsPlainReader, IsReadFault, IsReaderBy};
 
 use crate::format::RowFormat;
@@ -86,7 +86,7 @@ pub(crate) fn read_record<R: Read + Drop>(
     requires few { read_so_far.old ≤ most }
     ensures reads { IfOk result
         (ReadsRecord R.remaining input.old input.new read_so_far.old read_so_far.new (fields_of fields.new)) }
-    ensures stopped { IfErr result (Stops most R.remaining input.old read_so_far.old read_so_far.new) }
+    ensures stopped { IfErr result (Fails most R.remaining input.old read_so_far.old read_so_far.new) }
     ensures few { read_so_far.new ≤ most }
     ensures plain { OnOk result (IsPlainReader input.new) }
 {

@@ -4,7 +4,7 @@ ghost use Rattle.std.specs.Prelude.{◌≡◌, ◌≤◌, Some, None, Ok, Err, f
 ghost use Rattle.csv.specs.Reading.{reader_state, source_of, strip_bom};
 ghost use Rattle.csv.specs.Records.{fields_of};
 ghost use Rattle.csv.specs.declared.parser.State.TheVariants as st;
-ghost use Rattle.bsi_input.specs.RecordSources.{ReadsNextRecord, StopsAt};
+ghost use Rattle.bsi_input.specs.RecordSources.{ReadsNextRecord, FailsAt};
 ghost use Rattle.bsi_input.specs.Formats.{max_records};
 
 use crate::reading::{MAX_RECORDS, end_after_call, plain_reader, read_record};
@@ -63,7 +63,7 @@ impl<R: Read + Drop> RecordSource<R> {
         ensures reads { self.old.end ≡ None →
             IfOk result (ReadsNextRecord R.remaining self.old self.new (fields_of fields.new)) }
         ensures stopped { self.old.end ≡ None →
-            IfErr result (StopsAt R.remaining self.old self.new) }
+            IfErr result (FailsAt R.remaining self.old self.new) }
         ensures few { self.new.read_so_far ≤ max_records }
     {
         if let Some(end) = self.end {

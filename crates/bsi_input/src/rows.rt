@@ -11,7 +11,7 @@ ghost use Rattle.bsi_schema.specs.Columns.{fits};
 ghost use Rattle.bsi_rows.specs.RowBlocks.{max_block_rows, no_block_rows, HaveSameLimits};
 ghost use Rattle.bsi_input.specs.FaultTexts.{source_fault_text};
 ghost use Rattle.bsi_input.specs.Formats.{given};
-ghost use Rattle.bsi_input.specs.Sources.{counts_of, end_after, end_after_call, layout_by, source_by, AreCounts, Fills, GivesFirst, HasGivenNext, HasNoHeader, HasStopped, IsAfterHeader, IsReaderBy, PutsRows};
+ghost use Rattle.bsi_input.specs.Sources.{counts_of, end_after, end_after_call, layout_by, source_by, AreCounts, Fills, GivesFirst, HasGivenNext, HasNoHeader, HasReadToFault, IsAfterHeader, IsReaderBy, PutsRows};
 
 use crate::NoMemory;
 use crate::format::RowFormat;
@@ -154,7 +154,7 @@ impl<R: Read + Drop, F: RowFormat + Drop> RowSource<R, F> {
         ensures goes_on { self.old.end ≡ None →
             IfOk result (λ more. self.new.end ≡ end_after (is_some more)) }
         ensures stopped { self.old.end ≡ None →
-            IfErr result (λ fault. HasStopped R.remaining (layout_by F.format self.old.layout)
+            IfErr result (λ fault. HasReadToFault R.remaining (layout_by F.format self.old.layout)
             self.old.input self.old.counts self.new.counts fault × (self.new.end ≡ Some (Err fault))) }
         ensures same { self.new.layout ≡ self.old.layout }
 
@@ -183,7 +183,7 @@ impl<R: Read + Drop, F: RowFormat + Drop> RowSource<R, F> {
         ensures goes_on { self.old.end ≡ None →
             IfOk result (λ more. self.new.end ≡ end_after more) }
         ensures stopped { self.old.end ≡ None →
-            IfErr result (λ fault. HasStopped R.remaining (layout_by F.format self.old.layout)
+            IfErr result (λ fault. HasReadToFault R.remaining (layout_by F.format self.old.layout)
             self.old.input self.old.counts self.new.counts fault × (self.new.end ≡ Some (Err fault))) }
         ensures same { self.new.layout ≡ self.old.layout }
 
@@ -317,7 +317,7 @@ fn read_good_row<R: Read + Drop, F: RowFormat + Drop>(
         (counts_of read_so_far.old bad.old) (counts_of read_so_far.new bad.new)
         (given more row.new)) }
     ensures stopped { IfErr result
-        (HasStopped R.remaining (layout_by F.format layout.now) input.old
+        (HasReadToFault R.remaining (layout_by F.format layout.now) input.old
         (counts_of read_so_far.old bad.old) (counts_of read_so_far.new bad.new)) }
     ensures fits { IfOk result (λ more. more ≡ true →
         IsTrue (fits (F.format layout.now.format).schema.columns row.new)) }

@@ -11,7 +11,7 @@ use Rattle.bsi_input.specs.BufferedOutput.{AppendsPrefix}
 use Rattle.bsi_input.proofs.Waiting.{cut_front, cut_whole}
 use Rattle.bsi_segments.specs.declared.fault.SegmentFault.{SegmentFault}
 use Rattle.bsi_segments.specs.declared.fault.SegmentFault.TheVariants.{CutShort, Damaged, NoMemory, NotASegment, OtherVersion, Read}
-use Rattle.bsi_segments.specs.Segments.{bytes_of, checksum_of, counted_rest, magic, AreWords, EndsWithin, IsRestFault, MeetsFault, ReadsToEnd, ReadsWords, StopsBefore}
+use Rattle.bsi_segments.specs.Segments.{bytes_of, checksum_of, counted_rest, magic, AreWords, EndsWithin, IsRestFault, MeetsFault, ReadsToEnd, ReadsWords, FailsBefore}
 use Rattle.bsi_segments.specs.declared.version.Version.{Version}
 use Rattle.bsi_segments.proofs.Eights.{length-bytes_of}
 use Rattle.bsi_syntax.specs.Bytes.{KnownBytes}
@@ -81,21 +81,21 @@ ends_within a b c count left got old new read within few reads next ended =
     }
 
 -- the number was read, and then not all words
-pub stops_in_words : (a b c : KnownBytes) (count : ℕ) (fault : SegmentFault) → count < 2 ^ 64 → Consumes a b (bytes_of (count ∷ [])) → StopsBefore b c count fault → IsRestFault a c fault
-stops_in_words a b c count NotASegment fits consumed stops = absurd stops
-stops_in_words a b c count OtherVersion fits consumed stops = absurd stops
-stops_in_words a b c count CutShort fits consumed stops =
+pub fails_in_words : (a b c : KnownBytes) (count : ℕ) (fault : SegmentFault) → count < 2 ^ 64 → Consumes a b (bytes_of (count ∷ [])) → FailsBefore b c count fault → IsRestFault a c fault
+fails_in_words a b c count NotASegment fits consumed stops = absurd stops
+fails_in_words a b c count OtherVersion fits consumed stops = absurd stops
+fails_in_words a b c count CutShort fits consumed stops =
     (bytes_of (count ∷ []) ++ stops.bytes, inr (count, stops.bytes, fits, refl, omega (arith, stops.few)), only_more a b c (bytes_of (count ∷ [])) stops.bytes consumed stops.only)
-stops_in_words a b c count Damaged fits consumed stops = absurd stops
-stops_in_words a b c count Read fits consumed stops = tt
-stops_in_words a b c count NoMemory fits consumed stops = tt
+fails_in_words a b c count Damaged fits consumed stops = absurd stops
+fails_in_words a b c count Read fits consumed stops = tt
+fails_in_words a b c count NoMemory fits consumed stops = tt
 
 -- the number and the words were read, and then no checksum
-pub stops_in_sum : (a b c d : KnownBytes) (count : ℕ) (old new : List ℕ) (fault : SegmentFault) → count < 2 ^ 64 → Consumes a b (bytes_of (count ∷ [])) → ReadsWords b c count old new
-    → StopsBefore c d 1 fault → IsRestFault a d fault
-stops_in_sum a b c d count old new NotASegment fits consumed reads stops = absurd stops
-stops_in_sum a b c d count old new OtherVersion fits consumed reads stops = absurd stops
-stops_in_sum a b c d count old new CutShort fits consumed reads stops =
+pub fails_in_sum : (a b c d : KnownBytes) (count : ℕ) (old new : List ℕ) (fault : SegmentFault) → count < 2 ^ 64 → Consumes a b (bytes_of (count ∷ [])) → ReadsWords b c count old new
+    → FailsBefore c d 1 fault → IsRestFault a d fault
+fails_in_sum a b c d count old new NotASegment fits consumed reads stops = absurd stops
+fails_in_sum a b c d count old new OtherVersion fits consumed reads stops = absurd stops
+fails_in_sum a b c d count old new CutShort fits consumed reads stops =
     let last = bytes_of reads.words ++ stops.bytes in
     let long = length-bytes_of reads.words in
     let joined = length-append (bytes_of reads.words) stops.bytes in (
@@ -103,9 +103,9 @@ stops_in_sum a b c d count old new CutShort fits consumed reads stops =
       inr (count, last, fits, refl, omega (arith, joined, long, reads.many, stops.few)),
       only_more a b d (bytes_of (count ∷ [])) last consumed (only_more b c d (bytes_of reads.words) stops.bytes reads.consumed stops.only),
     )
-stops_in_sum a b c d count old new Damaged fits consumed reads stops = absurd stops
-stops_in_sum a b c d count old new Read fits consumed reads stops = tt
-stops_in_sum a b c d count old new NoMemory fits consumed reads stops = tt
+fails_in_sum a b c d count old new Damaged fits consumed reads stops = absurd stops
+fails_in_sum a b c d count old new Read fits consumed reads stops = tt
+fails_in_sum a b c d count old new NoMemory fits consumed reads stops = tt
 
 -- the first word was read, and then a fault was met
 pub faults_behind : (version : Version) (a b c : KnownBytes) (fault : SegmentFault) → Consumes a b (bytes_of (magic version ∷ [])) → IsRestFault b c fault → MeetsFault a c fault

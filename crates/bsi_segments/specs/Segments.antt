@@ -88,13 +88,13 @@ pub record EndsWithin (before after : KnownBytes) (n : ℕ) : Type 0 where
   pub only : ReadsToEnd before after bytes
 
 -- Why `count` words could not be read.
-abbrev pub StopsBefore : KnownBytes → KnownBytes → ℕ → SegmentFault → Type 0
-StopsBefore before after count NotASegment = ⊥
-StopsBefore before after count OtherVersion = ⊥
-StopsBefore before after count CutShort = EndsWithin before after (8 * count)
-StopsBefore before after count Damaged = ⊥
-StopsBefore before after count Read = Unit {0}
-StopsBefore before after count NoMemory = Unit {0}
+abbrev pub FailsBefore : KnownBytes → KnownBytes → ℕ → SegmentFault → Type 0
+FailsBefore before after count NotASegment = ⊥
+FailsBefore before after count OtherVersion = ⊥
+FailsBefore before after count CutShort = EndsWithin before after (8 * count)
+FailsBefore before after count Damaged = ⊥
+FailsBefore before after count Read = Unit {0}
+FailsBefore before after count NoMemory = Unit {0}
 
 -- The first word of no segment, of any version of the format.
 abbrev pub IsForeign : ℕ → Type 0
@@ -122,13 +122,13 @@ IsShortWordFault bytes Read = ⊥
 IsShortWordFault bytes NoMemory = ⊥
 
 -- Why no first word could be read.
-abbrev pub StopsInFirstWord : KnownBytes → KnownBytes → SegmentFault → Type 0
-StopsInFirstWord before after NotASegment = (bytes : Bytes) × IsNoMagicPrefix bytes × ReadsToEnd before after bytes
-StopsInFirstWord before after OtherVersion = ⊥
-StopsInFirstWord before after CutShort = (bytes : Bytes) × (0 < length bytes) × IsMagicPrefix bytes × ReadsToEnd before after bytes
-StopsInFirstWord before after Damaged = ⊥
-StopsInFirstWord before after Read = Unit {0}
-StopsInFirstWord before after NoMemory = ⊥
+abbrev pub FailsInFirstWord : KnownBytes → KnownBytes → SegmentFault → Type 0
+FailsInFirstWord before after NotASegment = (bytes : Bytes) × IsNoMagicPrefix bytes × ReadsToEnd before after bytes
+FailsInFirstWord before after OtherVersion = ⊥
+FailsInFirstWord before after CutShort = (bytes : Bytes) × (0 < length bytes) × IsMagicPrefix bytes × ReadsToEnd before after bytes
+FailsInFirstWord before after Damaged = ⊥
+FailsInFirstWord before after Read = Unit {0}
+FailsInFirstWord before after NoMemory = ⊥
 
 -- The fault of a first word that is of no version that is known.
 abbrev pub IsFirstWordFault : ℕ → SegmentFault → Type 0

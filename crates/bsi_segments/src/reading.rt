@@ -4,7 +4,7 @@
 ghost use Rattle.std.specs.Prelude.{◌≡◌, ◌≢◌, ◌+◌, ◌*◌, ◌^◌, ◌<◌, ◌≤◌, ◌∷◌, [], true, false, length, take, IfErr, IfNone, IfOk, IfSome, OnOk};
 ghost use Rattle.std.specs.Io.KnownBytes.{Consumes, IsAtEnd};
 ghost use Rattle.bsi_segments.specs.declared.version.Version.{Version};
-ghost use Rattle.bsi_segments.specs.Segments.{bytes_of, checksum_of, counted, counted_rest, magic, signature, AreWords, IsFirstWordFault, IsRestFault, IsShortWordFault, MayBegin, MeetsFault, ReadsToEnd, ReadsWords, StopsBefore, StopsInFirstWord};
+ghost use Rattle.bsi_segments.specs.Segments.{bytes_of, checksum_of, counted, counted_rest, magic, signature, AreWords, IsFirstWordFault, IsRestFault, IsShortWordFault, MayBegin, MeetsFault, ReadsToEnd, ReadsWords, FailsBefore, FailsInFirstWord};
 
 use crate::checksums::checksum;
 use crate::fault::SegmentFault;
@@ -56,7 +56,7 @@ pub fn read_words<R: Read>(
     ensures read { OnOk result (ReadsWords (R.remaining reader.old) (R.remaining reader.new) count
         words.old.items words.new.items) }
     ensures fault { IfErr result
-        (StopsBefore (R.remaining reader.old) (R.remaining reader.new) count) }
+        (FailsBefore (R.remaining reader.old) (R.remaining reader.new) count) }
 {
     let mut bytes = [0; 8 * CHUNK_WORDS];
     let mut left = count;
@@ -83,7 +83,7 @@ fn read_first<R: Read>(reader: &mut R) -> Result<Option<u64>, SegmentFault>
     ensures ended { IfOk result (λ next. IfNone next
         (ReadsToEnd (R.remaining reader.old) (R.remaining reader.new) [])) }
     ensures fault { IfErr result
-        (StopsInFirstWord (R.remaining reader.old) (R.remaining reader.new)) }
+        (FailsInFirstWord (R.remaining reader.old) (R.remaining reader.new)) }
 {
     let mut bytes = [0; 8];
     let Ok(consumed) = fill(reader, &mut bytes) else {
@@ -116,7 +116,7 @@ fn read_word<R: Read>(reader: &mut R) -> Result<u64, SegmentFault>
     ensures read { IfOk result (λ word.
         Consumes (R.remaining reader.old) (R.remaining reader.new) (bytes_of (word ∷ []))) }
     ensures fault { IfErr result
-        (StopsBefore (R.remaining reader.old) (R.remaining reader.new) 1) }
+        (FailsBefore (R.remaining reader.old) (R.remaining reader.new) 1) }
 {
     let mut bytes = [0; 8];
     let Ok(consumed) = fill(reader, &mut bytes) else {

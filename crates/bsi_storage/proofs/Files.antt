@@ -7,7 +7,7 @@ use Rattle.std.proofs.lemmas.Grind.{flat_map-append}
 use Rattle.std.proofs.lemmas.List.Elements.{All-append, All-cons, All-nil}
 use Rattle.bsi_rows.specs.Rows.{SourcedRow}
 use Rattle.bsi_rows.specs.Table.{with_rows, Table}
-use Rattle.bsi_segments.specs.Segments.{bytes_of, counted, AreWords, MeetsFault, StopsBefore}
+use Rattle.bsi_segments.specs.Segments.{bytes_of, counted, AreWords, MeetsFault, FailsBefore}
 use Rattle.bsi_segments.specs.declared.version.Version.{Version}
 use Rattle.bsi_segments.specs.declared.version.Version.TheVariants.{Two}
 use Rattle.bsi_segments.proofs.ChunkBytes.{only_more}
@@ -127,7 +127,7 @@ more_read version a b c t more notes next kinds others size read consumed valid 
 
 -- and where the rows are not all read
 pub rows_met : (head : List ℕ) (rows feeders : ℕ) (schema : Declared) → AreWords head → IsFront Two head rows feeders schema → (a b c : KnownBytes) (fault : SegmentFault)
-    → StopsBefore b c (rows_word_count schema feeders rows) fault → Consumes a b (bytes_of (counted Two head)) → IsNextSegmentFault IsAny a c (open_fault fault)
+    → FailsBefore b c (rows_word_count schema feeders rows) fault → Consumes a b (bytes_of (counted Two head)) → IsNextSegmentFault IsAny a c (open_fault fault)
 rows_met head rows feeders schema fit front a b c segment_fault.NotASegment stops consumed = absurd stops
 rows_met head rows feeders schema fit front a b c segment_fault.OtherVersion stops consumed = absurd stops
 rows_met head rows feeders schema fit front a b c segment_fault.CutShort stops consumed = inr (record {

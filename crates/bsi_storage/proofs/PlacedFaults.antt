@@ -14,7 +14,7 @@ use Rattle.bsi_schema.specs.Columns.{column_at, Declared, NamedColumn}
 use Rattle.bsi_segments.specs.Bitmaps.{packed}
 use Rattle.bsi_segments.specs.Bytes.{packed_bytes}
 use Rattle.bsi_segments.specs.Lanes.{lanes_of}
-use Rattle.bsi_segments.specs.Segments.{bytes_of, counted, AreWords, EndsWithin, MeetsFault, StopsBefore}
+use Rattle.bsi_segments.specs.Segments.{bytes_of, counted, AreWords, EndsWithin, MeetsFault, FailsBefore}
 use Rattle.bsi_segments.specs.declared.fault.SegmentFault.{SegmentFault}
 use Rattle.bsi_segments.specs.declared.fault.SegmentFault.TheVariants.{CutShort, Damaged, NoMemory, NotASegment, OtherVersion, Read}
 use Rattle.bsi_segments.specs.declared.version.Version.{Version}
@@ -273,7 +273,7 @@ module _ (known : KnownBytes) (at : ℕ) (t : Table) (notes kinds : List ℕ) (b
 
   module _ (seen after : KnownBytes) (from count : ℕ) (same : seen ≡ known) (here : from ≡ feeders_place first)
       (many : count ≡ feeder_word_count first.front.sizes.feeders first.front.sizes.rows) where
-    pub words_fault : (fault : SegmentFault) → StopsBefore (known_from from seen) after count fault → IsReadOrNoMemory (open_fault fault)
+    pub words_fault : (fault : SegmentFault) → FailsBefore (known_from from seen) after count fault → IsReadOrNoMemory (open_fault fault)
     words_fault NotASegment stops = absurd stops
     words_fault OtherVersion stops = absurd stops
     words_fault CutShort stops =

@@ -2,7 +2,7 @@ use Rattle.std.proofs.Common.{◌≡◌, ◌∷◌, ◌++◌, [], ap, map, rules
 use Rattle.std.specs.Prelude.{Bool, IfOk, Result}
 use Rattle.std.proofs.lemmas.List.{map-append}
 use Rattle.csv.specs.Records.{fields_of}
-use Rattle.bsi_input.specs.RecordSources.{ReadsNextRecord, StopsAt}
+use Rattle.bsi_input.specs.RecordSources.{ReadsNextRecord, FailsAt}
 use Rattle.bsi_answers.proofs.Asking.{only_long}
 use Rattle.bsi_answers.specs.ReadAhead.{ReadsOne}
 use Rattle.bsi_answers.specs.declared.faults.FilesFault.{FilesFault}
@@ -28,5 +28,5 @@ returns-clause-reads g c =
 
 pub returns-in-Err-clause-too_long : goal.returns-in-Err-clause-too_long
 returns-in-Err-clause-too_long g c =
-    let stops : StopsAt (λ w. g.A.Read.remaining w.inner) c.args.records.now c.next_record.new.self c.in-Err.fault = search rules in
+    let stops : FailsAt (λ w. g.A.Read.remaining w.inner) c.args.records.now c.next_record.new.self c.in-Err.fault = search rules in
     λ is. stops.0.1 (only_long c.in-Err.fault (sym c.of_text.ensures.text ∙ is))

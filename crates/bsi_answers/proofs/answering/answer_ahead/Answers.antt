@@ -5,7 +5,7 @@ use Rattle.bsi_rows.specs.Fields.{Field}
 use Rattle.bsi_answers.proofs.Asking.{wrote_all, wrote_none, wrote_part}
 use Rattle.bsi_answers.proofs.Passing.{if_err}
 use Rattle.bsi_answers.specs.AskLines.{IsAskLineBy}
-use Rattle.bsi_answers.specs.ReadAhead.{ReadsAhead, StopsAhead, WritesFirstLines, WritesLines}
+use Rattle.bsi_answers.specs.ReadAhead.{ReadsAhead, FailsAhead, WritesFirstLines, WritesLines}
 use Rattle.bsi_answers.proofs.ReadingAhead.{ahead_prefix, ahead_stands, gave_some}
 use Rattle.bsi_answers.proofs.answering.answer_ahead.Goals as goal
 
@@ -42,7 +42,7 @@ returns-in_err-more-clause-prefix g c =
     let now = g.W.Write.contents c.rounds.writer in
     let after = g.W.Write.contents c.write_answer_lines.new.writer in
     let wrote : WritesLines Is records now after = subst (λ items. WritesLines Is (map fields_of items) now after) c.deref.ensures.value c.in_ok-write_answer_lines.ensures.ok in
-    let stops : IfErr c.from_residual-in_err-more.result (StopsAhead (λ w. g.A.Read.remaining w.inner) c.rounds.records records) = search rules in
+    let stops : IfErr c.from_residual-in_err-more.result (FailsAhead (λ w. g.A.Read.remaining w.inner) c.rounds.records records) = search rules in
     if_err c.from_residual-in_err-more.result (λ fault stopped bytes left. wrote_part Is (λ w. g.A.Read.remaining w.inner) bytes stopped.at stopped.at stopped.read_so_far stopped.gave.few before after
     (ahead_stands Is (λ w. g.A.Read.remaining w.inner) bytes c.rounds.records before now after (c.rounds.invariant.stands bytes left) records stopped.at stopped.read_so_far stopped.gave wrote)
     fault stopped.too_long) stops

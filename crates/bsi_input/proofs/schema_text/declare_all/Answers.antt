@@ -2,7 +2,7 @@ use Rattle.std.proofs.Common.{◌+◌, ◌≤◌, false, true, refl, rules, arit
 use Rattle.csv.specs.Reading.{source_of}
 use Rattle.csv.specs.Records.{fields_of}
 use Rattle.bsi_syntax.specs.Setups.{declared_table, table_after, IsChange}
-use Rattle.bsi_input.specs.RecordSources.{ReadsNextRecord, StopsAt}
+use Rattle.bsi_input.specs.RecordSources.{ReadsNextRecord, FailsAt}
 use Rattle.bsi_input.proofs.Declaring.{declared_bad, declared_fault, declared_more, declared_none, passed_on}
 use Rattle.bsi_input.proofs.schema_text.declare_all.Goals as goal
 use Rattle.bsi_input.specs.Formats.{max_records}
@@ -19,7 +19,7 @@ records-init g c = record {
 pub returns-in_err-next_record-clause-fault : goal.returns-in_err-next_record-clause-fault
 returns-in_err-next_record-clause-fault g c =
     let fault = c.in_err-next_record.field-0.0 in
-    let stops : StopsAt g.R.Read.remaining c.records.records c.next_record.new.self fault = search rules in
+    let stops : FailsAt g.R.Read.remaining c.records.records c.next_record.new.self fault = search rules in
     passed_on (source_of g.R.Read.remaining c.args.records.now.input) c.from_residual.result fault c.from_residual.ensures.1 (λ bytes left.
     declared_fault g.R.Read.remaining bytes c.records.records.input c.records.records.input c.records.records.read_so_far
     c.records.table (c.records.invariant.declared bytes left) fault stops.0.0 stops.0.1)

@@ -1,7 +1,7 @@
 use Rattle.std.proofs.Common.{◌+◌, ◌≤◌, true, subst, sym, rules, arith, ◌∙◌}
 use Rattle.csv.specs.Reading.{source_of}
 use Rattle.csv.specs.Records.{fields_of}
-use Rattle.bsi_input.specs.RecordSources.{ReadsNextRecord, StopsAt}
+use Rattle.bsi_input.specs.RecordSources.{ReadsNextRecord, FailsAt}
 use Rattle.bsi_input.specs.Formats.{max_records}
 use Rattle.bsi_logical.specs.LogicalTexts.{IsLogicalFault}
 use Rattle.bsi_logical.proofs.Saying.{passed_on, said_fault, said_more, said_none, source_fault}
@@ -19,7 +19,7 @@ records-init g c = record {
 pub returns-in_err-next_record-clause-fault : goal.returns-in_err-next_record-clause-fault
 returns-in_err-next_record-clause-fault g c =
     let fault = c.in_err-next_record.field-0.0 in
-    let stops : StopsAt g.R.Read.remaining c.records.records c.next_record.new.self fault = search rules in
+    let stops : FailsAt g.R.Read.remaining c.records.records c.next_record.new.self fault = search rules in
     passed_on (source_of g.R.Read.remaining c.args.records.now.input) c.from_residual.result fault c.from_residual.ensures.1 (λ bytes left.
     source_fault g.R.Read.remaining bytes c.records.records.input c.records.records.input c.records.records.read_so_far
     c.records.logical (c.records.invariant.said bytes left) fault stops.0.0 stops.0.1)

@@ -2,7 +2,7 @@ use Rattle.std.proofs.Common.{◌≡◌, List, ℕ, arith, map, rules, subst, sy
 use Rattle.std.specs.Prelude.{IfErr}
 use Rattle.csv.specs.Records.{fields_of}
 use Rattle.bsi_answers.specs.AskLines.{IsAskLineBy}
-use Rattle.bsi_answers.specs.ReadAhead.{ReadsAhead, StopsAhead, WritesFirstLines, WritesLines}
+use Rattle.bsi_answers.specs.ReadAhead.{ReadsAhead, FailsAhead, WritesFirstLines, WritesLines}
 use Rattle.std.specs.List.{AllZip}
 use Rattle.bsi_answers.specs.Writing.{WritesFirst}
 use Rattle.bsi_answers.proofs.Asking.{wrote_all, wrote_none, wrote_part}
@@ -69,7 +69,7 @@ returns-in-Err-clause-prefix g c = λ t notes kinds are bytes left.
     let now = g.W.Write.contents c.rounds.writer in
     let after = g.W.Write.contents c.answer_ahead.new.writer in
     let wrote : WritesLines Is records now after = subst (λ items. WritesLines Is (map fields_of items) now after) c.deref.ensures.value (c.in_ok-opened.ensures.ok t notes kinds are) in
-    let stops : StopsAhead rem c.rounds.records records c.in-Err.fault = search rules in
+    let stops : FailsAhead rem c.rounds.records records c.in-Err.fault = search rules in
     wrote_part Is rem bytes stops.at stops.at stops.read_so_far stops.gave.few before after
     (ahead_stands Is rem bytes c.rounds.records before now after (c.rounds.invariant.stands t notes kinds are bytes left) records stops.at stops.read_so_far stops.gave wrote)
     c.in-Err.fault stops.too_long

@@ -1,21 +1,21 @@
 use Rattle.std.proofs.Common.{◌≢◌, ap, sym, subst, ◌∙◌}
 use Rattle.std.proofs.lemmas.Result.{err_from_is_err_and}
 use Rattle.bsi_segments.specs.Segments.{checksum_of, AreWords, IsRestFault}
-use Rattle.bsi_segments.proofs.ChunkBytes.{damaged, stops_in_sum, stops_in_words}
+use Rattle.bsi_segments.proofs.ChunkBytes.{damaged, fails_in_sum, fails_in_words}
 use Rattle.bsi_segments.proofs.reading.read_rest.Goals as goal
 
 pub returns-in_err-read_words-clause-fault : goal.returns-in_err-read_words-clause-fault
 returns-in_err-read_words-clause-fault g c =
     let p = err_from_is_err_and c.from_residual-in_err-read_words.result c.from_residual-in_err-read_words.ensures.1 in
     let meets : IsRestFault (g.R.Read.remaining c.args.reader.now) (g.R.Read.remaining c.read_words.new.reader) c.in_err-read_words.field-0.0 =
-    stops_in_words _ _ _ c.in_ok-count.count c.in_err-read_words.field-0.0 c.in_ok-count.ensures.fits c.in_ok-count.ensures.read c.in_err-read_words.ensures.fault in
+    fails_in_words _ _ _ c.in_ok-count.count c.in_err-read_words.field-0.0 c.in_ok-count.ensures.fits c.in_ok-count.ensures.read c.in_err-read_words.ensures.fault in
     rw (p.1, p.2) meets
 
 pub returns-in_err-sum-clause-fault : goal.returns-in_err-sum-clause-fault
 returns-in_err-sum-clause-fault g c =
     let p = err_from_is_err_and c.from_residual-in_err-sum.result c.from_residual-in_err-sum.ensures.1 in
     let meets : IsRestFault (g.R.Read.remaining c.args.reader.now) (g.R.Read.remaining c.read_word-2.new.reader) c.in_err-sum.field-0.0 =
-    stops_in_sum _ _ _ _ c.in_ok-count.count _ _ c.in_err-sum.field-0.0 c.in_ok-count.ensures.fits c.in_ok-count.ensures.read c.in_ok-read_words.ensures.read c.in_err-sum.ensures.fault in
+    fails_in_sum _ _ _ _ c.in_ok-count.count _ _ c.in_err-sum.field-0.0 c.in_ok-count.ensures.fits c.in_ok-count.ensures.read c.in_ok-read_words.ensures.read c.in_err-sum.ensures.fault in
     rw (p.1, p.2) meets
 
 pub returns-then-sum-checksum-clause-fault : goal.returns-then-sum-checksum-clause-fault

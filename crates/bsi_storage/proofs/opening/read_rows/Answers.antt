@@ -2,7 +2,7 @@ use Rattle.std.proofs.Common.{◌≡◌, ◌+◌, ◌*◌, ◌++◌, [], ℕ, Li
 use Rattle.std.specs.Prelude.{IfErr}
 use Rattle.std.specs.Io.KnownBytes.{Consumes}
 use Rattle.bsi_table.specs.Index.{table_of}
-use Rattle.bsi_segments.specs.Segments.{bytes_of, counted, ReadsWords, StopsBefore}
+use Rattle.bsi_segments.specs.Segments.{bytes_of, counted, ReadsWords, FailsBefore}
 use Rattle.bsi_segments.specs.declared.version.Version.TheVariants.{Two}
 use Rattle.bsi_storage.specs.Decoding.{IsFront}
 use Rattle.bsi_storage.specs.Faults.{open_fault, IsAny, IsNextSegmentFault}
@@ -46,7 +46,7 @@ returns-in_err-read_words-clause-fault g c =
       are = rw c.in-Some.is at c.in_ok-front.ensures.made;
       texts = rw c.in-Some.is at c.in_ok-front.ensures.texts;
     } in
-    let stops = subst (λ (n : ℕ). StopsBefore a b n reported) c.count_row_words-count.ensures.count c.in_err-read_words.ensures.fault in
+    let stops = subst (λ (n : ℕ). FailsBefore a b n reported) c.count_row_words-count.ensures.count c.in_err-read_words.ensures.fault in
     let met : IfErr c.from_residual-in_err-read_words.result (λ (fault : OpenFault). fault ≡ open_fault reported) = search rules in
     err_as c.from_residual-in_err-read_words.result (open_fault reported)
     (λ (fault : OpenFault). (before : KnownBytes) → Consumes before a (bytes_of (counted Two c.args.head.now)) → IsNextSegmentFault IsAny before b fault) met
