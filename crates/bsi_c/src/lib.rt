@@ -3,7 +3,7 @@
 #![tactic(auto)]
 
 ghost use Rattle.std.specs.Prelude.{◌≡◌, ◌≢◌, Err, None, drop, length, map};
-ghost use Rattle.bsi_ffi.specs.Calls.{IsAppending, IsAsking, IsClosing, IsCounting, IsDescribing, IsOpening, IsReopening, IsReserving, IsSaving, IsSelecting, IsSettingKinds, IsSharing, IsTellingKinds, LeavesRest, LeavesWords};
+ghost use Rattle.bsi_ffi.specs.Calls.{IsAppending, IsAsking, IsHandleClosing, IsCounting, IsDescribing, IsOpening, IsReopening, IsReserving, IsSaving, IsSelecting, IsSettingKinds, IsSharing, IsTellingKinds, LeavesRest, LeavesWords};
 ghost use Rattle.bsi_ffi.specs.Groups.{IsGrouping};
 ghost use Rattle.bsi_ffi.specs.Lines.{IsAnsweringByLine};
 ghost use Rattle.bsi_ffi.specs.Memory.{IsMeasuring};
@@ -381,7 +381,7 @@ pub extern "C" fn bsi_version() -> u32
 /// Closes a handle. If no other handle has the index, it frees the index.
 #[unsafe(no_mangle)]
 pub extern "C" fn bsi_close(alloc: Global, index: &mut Handle) -> u32
-    ensures status { ReturnsStatus result (IsClosing (opened_in index.old.pointer.value)) }
+    ensures status { ReturnsStatus result (IsHandleClosing (opened_in index.old.pointer.value)) }
     ensures closed { index.new.pointer.value ≡ None }
 {
     status_of(close(alloc, index))

@@ -22,7 +22,7 @@ use Rattle.bsi_input.specs.SchemaTexts.{DeclaresNoColumn, DeclaresTooLong, IsBad
 use Rattle.bsi_storage.specs.Faults.{IsFirstSegmentFault, IsOpened}
 use Rattle.bsi_logical.specs.Logical.{Logical}
 use Rattle.bsi_segments.specs.declared.version.Version.TheVariants.{Two}
-use Rattle.bsi_storage.specs.Saved.{head_segment, max_kinds, max_notes, IsFileOf, MayBeSaved}
+use Rattle.bsi_storage.specs.Saved.{segment_with_head, max_kinds, max_notes, IsFileOf, MayBeSaved}
 use Rattle.bsi_storage.specs.declared.fault.OpenFault.{OpenFault}
 use Rattle.bsi_storage.specs.declared.fault.OpenFault.TheVariants as open_fault
 use Rattle.bsi_ffi.specs.Columns.{are_columns, first_unlike, input_rows, row_count, row_of, AreAccepted, IsFirstMisfit, IsFirstRefusing}
@@ -297,11 +297,11 @@ IsTellingKinds index bytes size ending = WhereOpen index (λ opened ending. Tell
 -- The first bytes are a file of the index with these notes and its text of kinds.
 abbrev pub IsSerialized : OpenIndex → List ℕ → List ℕ → ℕ → Ending → Type 0
 IsSerialized opened notes bytes size (Ok done) =
-    (length notes ≤ max_notes) × (size ≡ length (head_segment opened.table notes opened.kinds))
-    × (take size bytes ≡ head_segment opened.table notes opened.kinds) × MayBeSaved Two opened.table notes opened.kinds
+    (length notes ≤ max_notes) × (size ≡ length (segment_with_head opened.table notes opened.kinds))
+    × (take size bytes ≡ segment_with_head opened.table notes opened.kinds) × MayBeSaved Two opened.table notes opened.kinds
 IsSerialized opened notes bytes size (Err LongNotes) = max_notes < length notes
 IsSerialized opened notes bytes size (Err BufferTooSmall) =
-    (length notes ≤ max_notes) × (size ≡ length (head_segment opened.table notes opened.kinds)) × (length bytes < size)
+    (length notes ≤ max_notes) × (size ≡ length (segment_with_head opened.table notes opened.kinds)) × (length bytes < size)
 IsSerialized opened notes bytes size (Err NoMemory) = Unit {0}
 IsSerialized opened notes bytes size (Err why) = ⊥
 
@@ -383,7 +383,7 @@ IsSharing before other after beside (Ok done) =
 IsSharing before other after beside (Err Open) = IsSome (opened_in other)
 IsSharing before other after beside (Err why) = (opened_in other ≡ None) × IsShareRefusal (opened_in before) why
 
-abbrev pub IsClosing : Option OpenIndex → Ending → Type 0
-IsClosing index (Ok done) = IsSome index
-IsClosing index (Err Closed) = index ≡ None
-IsClosing index (Err why) = ⊥
+abbrev pub IsHandleClosing : Option OpenIndex → Ending → Type 0
+IsHandleClosing index (Ok done) = IsSome index
+IsHandleClosing index (Err Closed) = index ≡ None
+IsHandleClosing index (Err why) = ⊥

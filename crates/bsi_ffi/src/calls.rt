@@ -1,7 +1,7 @@
 //! The calls of the C library: each opens a closed handle, or appends to, asks, saves, shares or closes an open one.
 
 ghost use Rattle.std.specs.Prelude.{◌≡◌, ◌≢◌, None, drop, is_some, length, map, IfErr, OnErr, OnOk};
-ghost use Rattle.bsi_ffi.specs.Calls.{IsAppending, IsAsking, IsClosing, IsCounting, IsDescribing, IsOpening, IsReopening, IsReserving, IsSaving, IsSelecting, IsSettingKinds, IsSharing, IsTellingKinds, LeavesRest, LeavesWords};
+ghost use Rattle.bsi_ffi.specs.Calls.{IsAppending, IsAsking, IsHandleClosing, IsCounting, IsDescribing, IsOpening, IsReopening, IsReserving, IsSaving, IsSelecting, IsSettingKinds, IsSharing, IsTellingKinds, LeavesRest, LeavesWords};
 ghost use Rattle.bsi_ffi.specs.Groups.{IsGrouping};
 ghost use Rattle.bsi_ffi.specs.Lines.{IsAnsweringByLine};
 ghost use Rattle.bsi_ffi.specs.Memory.{IsMeasuring};
@@ -449,7 +449,7 @@ pub fn share(alloc: Global, index: &mut Handle, other: &mut Handle) -> Result<()
 
 /// Closes a handle. If no other handle has the index, it frees the index.
 pub fn close(alloc: Global, index: &mut Handle) -> Result<(), Refusal>
-    ensures ending { IsClosing (opened_in index.old.pointer.value) result }
+    ensures ending { IsHandleClosing (opened_in index.old.pointer.value) result }
     ensures closed { index.new.pointer.value ≡ None }
 {
     let Some(state) = detach_state(index, alloc) else {

@@ -26,8 +26,9 @@ pub record IsHistory (cells : List Cell) (lists : List RowList) : Type 0 where
   pub words : cells ≡ (length (latest [] lists), true) ∷ (0, true) ∷ []
   pub growing : AreGrowing [] lists
 
-abbrev pub head_of : Book → Named
-head_of b = record { tracked = true; key = 0; book = b }
+-- The first word of a book.
+abbrev pub first_word_of : Book → Named
+first_word_of b = record { tracked = true; key = 0; book = b }
 
 -- The lists that a view has.
 abbrev pub lists_of : View RowList ℕ → List RowList

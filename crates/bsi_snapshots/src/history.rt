@@ -72,7 +72,7 @@ impl Model for VersionToken {
 impl VersionToken {
     ghost use Rattle.std.specs.Prelude.{◌≡◌, ◌<◌, IfSome, IsFalse, IsTrue, None, length};
     ghost use mathlib.Core.List.{IsPrefix};
-    ghost use Rattle.bsi_snapshots.specs.History.{head_of, with_list};
+    ghost use Rattle.bsi_snapshots.specs.History.{first_word_of, with_list};
 
     /// Returns the length of the list.
     pub(crate) fn len(&self) -> u64
@@ -113,7 +113,7 @@ impl VersionToken {
         about: &X,
         len: u64,
     ) -> Option<VersionToken>
-        requires head { head.now ≡ head_of self.now.book }
+        requires head { head.now ≡ first_word_of self.now.book }
         requires begins { IsPrefix self.now.list (M.ask about.now) }
         requires long { length (M.ask about.now) ≡ len }
         requires fresh { M.state about.now ≡ None }
@@ -146,13 +146,13 @@ pub struct History {
 // Clauses see which history it is, and its last list.
 impl Model for History {
     ghost use Rattle.std.specs.Prelude.{◌≡◌};
-    ghost use Rattle.bsi_snapshots.specs.History.{head_of, VersionToken};
+    ghost use Rattle.bsi_snapshots.specs.History.{first_word_of, VersionToken};
 
     ghost Value = { VersionToken };
 
     ghost view = { λ h. h.token };
 
-    ghost invariant = { λ h. h.head ≡ head_of h.token.book };
+    ghost invariant = { λ h. h.head ≡ first_word_of h.token.book };
 }
 
 impl History {

@@ -11,7 +11,7 @@ use Rattle.bsi_segments.specs.Schemas.{encoded_schema}
 use Rattle.bsi_segments.specs.declared.version.Version.{Version}
 use Rattle.bsi_segments.specs.declared.version.Version.TheVariants.{One, Two}
 use Rattle.bsi_segments.proofs.Coding.{behind, same_schema, same_text}
-use Rattle.bsi_storage.specs.Saved.{kinds_limit, rows_words, AreRows, MayBeSaved}
+use Rattle.bsi_storage.specs.Saved.{most_kinds, rows_words, AreRows, MayBeSaved}
 use Rattle.bsi_storage.specs.Decoding.{front_words, kinds_words, AreSizes, AreTexts, HasRowsOf}
 
 none_left : (text : List ℕ) → length text ≤ 0 → text ≡ []
@@ -19,7 +19,7 @@ none_left [] few = refl
 none_left (byte ∷ text) few = absurd (omega (arith, few))
 
 -- words that begin with a text of kinds begin with no other
-pub same_kinds : (version : Version) (kinds others xs ys : List ℕ) → AreBytes kinds → AreBytes others → length kinds ≤ kinds_limit version → length others ≤ kinds_limit version
+pub same_kinds : (version : Version) (kinds others xs ys : List ℕ) → AreBytes kinds → AreBytes others → length kinds ≤ most_kinds version → length others ≤ most_kinds version
     → kinds_words version kinds xs ≡ kinds_words version others ys → (kinds ≡ others) × (xs ≡ ys)
 same_kinds One kinds others xs ys are others_are few others_few same = (none_left kinds few ∙ sym (none_left others others_few), same)
 same_kinds Two kinds others xs ys are others_are few others_few same = same_text kinds others xs ys are others_are same
@@ -83,7 +83,7 @@ module _ (version : Version) (words : List ℕ) (t : Table) (notes kinds rest : 
     pub after_notes : more ≡ kinds_words version kinds (encoded_schema t.schema ++ rest)
     after_notes = (same_text text notes more (kinds_words version kinds (encoded_schema t.schema ++ rest)) fits valid.bytes (sym made ∙ after_sizes)).1
 
-    module _ (others last : List ℕ) (others_fit : AreBytes others) (few : length others ≤ kinds_limit version) (split : more ≡ kinds_words version others last) where
+    module _ (others last : List ℕ) (others_fit : AreBytes others) (few : length others ≤ most_kinds version) (split : more ≡ kinds_words version others last) where
       pub after_kinds : last ≡ encoded_schema t.schema ++ rest
       after_kinds =
           (same_kinds version others kinds last (encoded_schema t.schema ++ rest) others_fit valid.kinds_are few valid.few_kinds (sym split ∙ after_notes)).1

@@ -6,7 +6,7 @@ use Rattle.bsi_segments.specs.declared.version.Version.{Version}
 use Rattle.bsi_segments.specs.declared.version.Version.TheVariants.{One, Two}
 use Rattle.bsi_segments.proofs.Eights.{length-bytes_of}
 use Rattle.bsi_storage.specs.Heads.{head}
-use Rattle.bsi_storage.specs.Saved.{body, head_segment, rows_words, segment, table_segment}
+use Rattle.bsi_storage.specs.Saved.{body, segment_with_head, rows_words, segment, table_segment}
 
 -- the words that are counted
 abbrev pub first_words : Version → Table → List ℕ → List ℕ → List ℕ
@@ -19,7 +19,7 @@ last_words One t = []
 last_words Two t = rows_words t.schema t.feeders t.rows
 
 pub parts : (version : Version) (t : Table) (notes kinds : List ℕ) → segment version t notes kinds ≡ bytes_of (counted version (first_words version t notes kinds)) ++ bytes_of (last_words version t)
-unfolding table_segment head_segment
+unfolding table_segment segment_with_head
 parts One t notes kinds = sym (append-nil (bytes_of (counted One (body t notes))))
 parts Two t notes kinds = refl
 
@@ -49,6 +49,6 @@ body_segment words t notes is = ap (λ ws. bytes_of (counted One ws)) is
 
 -- and of a head and rows
 pub rows_segment : (words rows : List ℕ) (t : Table) (notes kinds : List ℕ) → words ≡ head t notes kinds → rows ≡ rows_words t.schema t.feeders t.rows
-    → bytes_of (counted Two words) ++ bytes_of rows ≡ head_segment t notes kinds
-unfolding head_segment
+    → bytes_of (counted Two words) ++ bytes_of rows ≡ segment_with_head t notes kinds
+unfolding segment_with_head
 rows_segment words rows t notes kinds is rows_are = ap₂ (λ ws rs. bytes_of (counted Two ws) ++ bytes_of rs) is rows_are

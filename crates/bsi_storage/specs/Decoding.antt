@@ -13,7 +13,7 @@ use Rattle.bsi_segments.specs.Bytes.{text_words, AreBytes}
 use Rattle.bsi_segments.specs.Schemas.{encoded_schema}
 use Rattle.bsi_segments.specs.declared.version.Version.{Version}
 use Rattle.bsi_segments.specs.declared.version.Version.TheVariants.{One, Two}
-use Rattle.bsi_storage.specs.Saved.{kinds_limit, notes_limit, rows_words, AreRows}
+use Rattle.bsi_storage.specs.Saved.{most_kinds, most_notes, rows_words, AreRows}
 use Rattle.bsi_syntax.specs.Bytes.{Bytes}
 
 -- The numbers of rows and feeders and the limit are those of some index.
@@ -35,9 +35,9 @@ front_words version rows feeders limit notes kinds schema behind =
 -- Notes, a text of kinds and a schema that a segment of a version may have.
 pub record AreTexts (version : Version) (notes kinds : Bytes) (schema : Declared) : Type 0 where
   pub notes_are : AreBytes notes
-  pub few : length notes ≤ notes_limit version
+  pub few : length notes ≤ most_notes version
   pub kinds_are : AreBytes kinds
-  pub few_kinds : length kinds ≤ kinds_limit version
+  pub few_kinds : length kinds ≤ most_kinds version
   pub declared : IsDeclared schema
   pub some : 0 < length schema.columns
 

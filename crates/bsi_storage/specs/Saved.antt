@@ -24,14 +24,14 @@ abbrev pub max_kinds : ℕ
 max_kinds = 2 ^ 26
 
 -- The most bytes of notes in a segment of a version.
-abbrev pub notes_limit : Version → ℕ
-notes_limit One = 2 ^ 16
-notes_limit Two = max_notes
+abbrev pub most_notes : Version → ℕ
+most_notes One = 2 ^ 16
+most_notes Two = max_notes
 
 -- The most bytes of a text of kinds in a segment of a version. Version 1 has no such text.
-abbrev pub kinds_limit : Version → ℕ
-kinds_limit One = 0
-kinds_limit Two = max_kinds
+abbrev pub most_kinds : Version → ℕ
+most_kinds One = 0
+most_kinds Two = max_kinds
 
 -- The words of the bitmaps of `count` columns, from column c on.
 abbrev pub columns_words : Declared → List FedRow → ℕ → ℕ → List ℕ
@@ -57,14 +57,14 @@ unfoldable pub table_segment : Table → List ℕ → List ℕ
 table_segment t notes = bytes_of (counted One (body t notes))
 
 -- The bytes of a table's segment of version 2: its head, and the words of its rows.
-unfoldable pub head_segment : Table → Bytes → Bytes → Bytes
-head_segment t notes kinds =
+unfoldable pub segment_with_head : Table → Bytes → Bytes → Bytes
+segment_with_head t notes kinds =
     bytes_of (counted Two (head t notes kinds)) ++ bytes_of (rows_words t.schema t.feeders t.rows)
 
 -- The bytes of a table's segment.
 abbrev pub segment : Version → Table → Bytes → Bytes → Bytes
 segment One t notes kinds = table_segment t notes
-segment Two t notes kinds = head_segment t notes kinds
+segment Two t notes kinds = segment_with_head t notes kinds
 
 -- Rows that an index of this schema may have, each of one of its feeders.
 pub record AreRows (schema : Declared) (feeders : ℕ) (rows : List FedRow) : Type 0 where
@@ -86,11 +86,11 @@ pub record MayBeSaved (version : Version) (t : Table) (notes kinds : Bytes) : Ty
   -- The notes are bytes.
   pub bytes : AreBytes notes
   -- The notes are at most as many bytes as the version has place for.
-  pub few : length notes ≤ notes_limit version
+  pub few : length notes ≤ most_notes version
   -- The text of kinds is bytes.
   pub kinds_are : AreBytes kinds
   -- The text of kinds is at most as many bytes as the version has place for.
-  pub few_kinds : length kinds ≤ kinds_limit version
+  pub few_kinds : length kinds ≤ most_kinds version
 
 -- A part of the file: the version, the rows and the notes of one segment.
 pub record Part : Type 0 where

@@ -4,7 +4,7 @@ ghost use Rattle.std.specs.Prelude.{◌≡◌, ◌^◌, ◌≤◌, ◌++◌, ℕ
 ghost use Rattle.bsi_schema.specs.Columns.{IsDeclared};
 ghost use Rattle.bsi_rows.specs.Table.{Table};
 ghost use Rattle.bsi_segments.specs.Bytes.{text_words, AreBytes};
-ghost use Rattle.bsi_storage.specs.Saved.{kinds_limit, notes_limit, MayBeSaved};
+ghost use Rattle.bsi_storage.specs.Saved.{most_kinds, most_notes, MayBeSaved};
 ghost use Rattle.bsi_storage.specs.Decoding.{bitmaps_in, feeder_word_count, front_words, kinds_words, rows_word_count, AreSizes, AreTexts};
 
 use crate::NoMemory;
@@ -98,7 +98,7 @@ fn read_sizes(rows: u64, feeders: u64, limit: u64) -> Option<Sizes>
 
 /// Returns the most bytes of notes in a segment of a version.
 fn most_notes(version: Version) -> usize
-    ensures { result ≡ notes_limit version }
+    ensures { result ≡ most_notes version }
 {
     match version {
         Version::One => MAX_NOTES_ONE,
@@ -117,9 +117,9 @@ fn decode_kinds<'a>(
         words.now ≡ kinds_words version pair.0.items pair.1.now)) }
     ensures fits { IfOk result (λ decoded. IfSome decoded (λ pair. AreBytes pair.0.items)) }
     ensures few { IfOk result (λ decoded. IfSome decoded (λ pair.
-        length pair.0.items ≤ kinds_limit version)) }
+        length pair.0.items ≤ most_kinds version)) }
     ensures none { IfOk result (λ decoded. IfNone decoded ((text rest : List ℕ) → AreBytes text →
-        length text ≤ kinds_limit version → words.now ≡ kinds_words version text rest → ⊥)) }
+        length text ≤ most_kinds version → words.now ≡ kinds_words version text rest → ⊥)) }
 {
     match version {
         Version::One => Ok(Some((Vec::new(alloc), words))),

@@ -4,7 +4,7 @@ ghost use Rattle.std.specs.Prelude.{◌≡◌, ◌≤◌, IfErr, OnErr, OnOk, le
 ghost use Rattle.std.specs.Io.KnownBytes.{Appends};
 ghost use Rattle.bsi_table.specs.Index.{table_of};
 ghost use Rattle.bsi_input.specs.BufferedOutput.{AppendsPrefix};
-ghost use Rattle.bsi_storage.specs.Saved.{head_segment, max_kinds, max_notes, MayBeSaved};
+ghost use Rattle.bsi_storage.specs.Saved.{segment_with_head, max_kinds, max_notes, MayBeSaved};
 
 use crate::SaveFault;
 use crate::heads::encode_head;
@@ -39,9 +39,9 @@ pub fn write_index<W: Write>(
     requires notes { length notes.now ≤ max_notes }
     requires kinds { length kinds.now ≤ max_kinds }
     ensures ok { OnOk result (Appends (W.contents writer.old) (W.contents writer.new)
-        (head_segment (table_of index.now) notes.now kinds.now)) }
+        (segment_with_head (table_of index.now) notes.now kinds.now)) }
     ensures prefix { OnErr result (AppendsPrefix (W.contents writer.old) (W.contents writer.new)
-        (head_segment (table_of index.now) notes.now kinds.now)) }
+        (segment_with_head (table_of index.now) notes.now kinds.now)) }
     ensures valid { OnOk result
         (MayBeSaved Version.Two (table_of index.now) notes.now kinds.now) }
     ensures none { IfErr result (λ fault. fault ≡ SaveFault.NoMemory →

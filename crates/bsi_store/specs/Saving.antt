@@ -24,7 +24,7 @@ use Rattle.bsi_answers.specs.declared.faults.Which.TheVariants.{SchemaFile}
 use Rattle.bsi_files.specs.RunFaults.{IsFaultOver}
 use Rattle.bsi_input.specs.BufferedOutput.{AppendsPrefix}
 use Rattle.bsi_segments.specs.declared.version.Version.TheVariants.{Two}
-use Rattle.bsi_storage.specs.Saved.{head_segment, MayBeSaved}
+use Rattle.bsi_storage.specs.Saved.{segment_with_head, MayBeSaved}
 use Rattle.bsi_storage.specs.declared.fault.OpenFault.TheVariants.{OtherVersion}
 use Rattle.bsi_store.specs.Asked.{IsSavedIn}
 use Rattle.bsi_store.specs.Faults.{IsFileFault}
@@ -66,7 +66,7 @@ pub record WroteSegment {S : Type 0} (rem put : S → KnownBytes) (count : ℕ) 
   -- An index may have this table, with these notes and this text of kinds.
   pub valid : MayBeSaved Two table notes kinds
   -- The index file is the old one, followed by the segment of the table.
-  pub appended : Appends (put old) (put new) (head_segment table notes kinds)
+  pub appended : Appends (put old) (put new) (segment_with_head table notes kinds)
   -- The summary was written to the output.
   pub lines : Appends before after (loaded_lines word counts (length table.rows))
 

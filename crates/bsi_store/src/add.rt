@@ -7,7 +7,7 @@ ghost use Rattle.bsi_answers.specs.Runs.{HasLoaded};
 ghost use Rattle.bsi_logical.specs.TableSchemas.{format_of};
 ghost use Rattle.bsi_rows.specs.Table.{max_feeders, no_rows, with_rows};
 ghost use Rattle.bsi_storage.specs.Faults.{AcceptsRowsOf};
-ghost use Rattle.bsi_storage.specs.Saved.{head_segment, max_kinds, max_notes, MayBeSaved};
+ghost use Rattle.bsi_storage.specs.Saved.{segment_with_head, max_kinds, max_notes, MayBeSaved};
 ghost use Rattle.bsi_store.specs.Saving.{HasAdded, HasAddedBeside, IsAddFault, IsMet, IsNotAboutBytes, IsReadOf, IsRunFaultOver, LeavesReported, ReportsOn};
 ghost use Rattle.std.specs.List.{Contains};
 ghost use Rattle.bsi_store.specs.Faults.{IsFileFault, NamesPath};
@@ -272,7 +272,7 @@ fn append_segment<'a, S: Write + OpenFile>(
 ) -> Result<(), StoreFault<'a>>
     requires { (length saved.now.notes.items ≤ max_notes) × (length saved.now.kinds.items ≤ max_kinds) }
     ensures appended { OnOk result (Appends (S.contents file.old) (S.contents file.new)
-        (head_segment (table_of more.now) saved.now.notes.items saved.now.kinds.items)) }
+        (segment_with_head (table_of more.now) saved.now.notes.items saved.now.kinds.items)) }
     ensures valid { OnOk result (MayBeSaved Version.Two (table_of more.now)
         saved.now.notes.items saved.now.kinds.items) }
     ensures fault { IfErr result IsNotAboutBytes }

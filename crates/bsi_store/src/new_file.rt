@@ -3,7 +3,7 @@
 ghost use Rattle.std.specs.Prelude.{◌≡◌, ◌≤◌, [], IfErr, IfOk, OnOk, length};
 ghost use Rattle.std.specs.Io.KnownBytes.{Appends};
 ghost use Rattle.bsi_table.specs.Index.{table_of};
-ghost use Rattle.bsi_storage.specs.Saved.{head_segment, max_kinds, MayBeSaved};
+ghost use Rattle.bsi_storage.specs.Saved.{segment_with_head, max_kinds, MayBeSaved};
 ghost use Rattle.bsi_store.specs.Saving.{IsNotAboutBytes};
 ghost use Rattle.bsi_store.specs.Faults.{NamesPath};
 
@@ -61,7 +61,7 @@ impl<'a, S: Read + Write + OpenFile + LockFile + Drop> NewFile<'a, S> {
     ) -> Result<(), StoreFault<'a>>
         requires few { length kinds.now ≤ max_kinds }
         ensures written { OnOk result (Appends (S.contents self.old.file) (S.contents self.new.file)
-            (head_segment (table_of index.now) [] kinds.now)) }
+            (segment_with_head (table_of index.now) [] kinds.now)) }
         ensures valid { OnOk result (MayBeSaved Version.Two (table_of index.now) [] kinds.now) }
         ensures fault { IfErr result IsNotAboutBytes }
         ensures named { IfErr result (NamesPath (λ named. named ≡ self.old.target.path)) }

@@ -6,7 +6,7 @@ ghost use Rattle.std.specs.List.{Contains};
 ghost use Rattle.bsi_logical.specs.LogicalTexts.{IsLogicalText};
 ghost use Rattle.bsi_logical.specs.SchemaFiles.{DeclaresSchema};
 ghost use Rattle.bsi_rows.specs.Table.{max_feeders};
-ghost use Rattle.bsi_storage.specs.Saved.{head_segment, max_kinds, MayBeSaved};
+ghost use Rattle.bsi_storage.specs.Saved.{segment_with_head, max_kinds, MayBeSaved};
 ghost use Rattle.bsi_store.specs.Faults.{NamesPath};
 ghost use Rattle.bsi_store.specs.Saving.{declaration_fault, HasSaved, HasSavedBeside, HasSavedFiles, HasSavedKinds, HasSavedKindsBeside, IsDeclarationFault, IsNotAboutBytes, IsSaveFault, IsSaveFilesFault, IsSaveKindsFault, LeavesReported, ReportsOn, SaysKinds};
 ghost use Rattle.bsi_table.specs.Index.{table_of};
@@ -297,7 +297,7 @@ pub(crate) fn write_or_remove<
 >(rt: &R, table: &Index, kinds: &[u8], new: &mut NewFile<'a, S>) -> Result<(), StoreFault<'a>>
     requires few { length kinds.now ≤ max_kinds }
     ensures appended { OnOk result (Appends (S.contents new.old.file) (S.contents new.new.file)
-        (head_segment (table_of table.now) [] kinds.now)) }
+        (segment_with_head (table_of table.now) [] kinds.now)) }
     ensures valid { OnOk result (MayBeSaved Version.Two (table_of table.now) [] kinds.now) }
     ensures fault { IfErr result IsNotAboutBytes }
     ensures named { IfErr result (NamesPath (λ named. named ≡ new.old.target.path)) }
@@ -320,7 +320,7 @@ fn write_and_replace<
 >(rt: &R, table: &Index, kinds: &[u8], new: &mut NewFile<'a, S>) -> Result<(), StoreFault<'a>>
     requires few { length kinds.now ≤ max_kinds }
     ensures appended { OnOk result (Appends (S.contents new.old.file) (S.contents new.new.file)
-        (head_segment (table_of table.now) [] kinds.now)) }
+        (segment_with_head (table_of table.now) [] kinds.now)) }
     ensures valid { OnOk result (MayBeSaved Version.Two (table_of table.now) [] kinds.now) }
     ensures fault { IfErr result IsNotAboutBytes }
     ensures named { IfErr result (NamesPath (λ named. named ≡ new.old.target.path)) }

@@ -3,7 +3,7 @@
 ghost use Rattle.std.specs.Prelude.{◌≡◌, ◌≤◌, IfErr, OnOk, length};
 ghost use Rattle.std.specs.Io.KnownBytes.{Appends};
 ghost use Rattle.bsi_segments.specs.declared.version.Version.{Version};
-ghost use Rattle.bsi_storage.specs.Saved.{head_segment, max_kinds, max_notes, MayBeSaved};
+ghost use Rattle.bsi_storage.specs.Saved.{segment_with_head, max_kinds, max_notes, MayBeSaved};
 ghost use Rattle.bsi_store.specs.Faults.{NamesPath};
 ghost use Rattle.bsi_store.specs.Saving.{IsNotAboutBytes};
 ghost use Rattle.bsi_table.specs.Index.{table_of};
@@ -26,7 +26,7 @@ pub(crate) fn append_to_file<'a, S: Write>(
 ) -> Result<(), StoreFault<'a>>
     requires { (length notes.now ≤ max_notes) × (length kinds.now ≤ max_kinds) }
     ensures appended { OnOk result (Appends (S.contents file.old) (S.contents file.new)
-        (head_segment (table_of index.now) notes.now kinds.now)) }
+        (segment_with_head (table_of index.now) notes.now kinds.now)) }
     ensures valid { OnOk result
         (MayBeSaved Version.Two (table_of index.now) notes.now kinds.now) }
     ensures fault { IfErr result IsNotAboutBytes }

@@ -5,7 +5,7 @@ use Rattle.bsi_table.specs.Index.{table_of}
 use Rattle.bsi_segments.specs.Segments.{bytes_of, counted}
 use Rattle.bsi_segments.specs.declared.version.Version.TheVariants.{Two}
 use Rattle.bsi_segments.proofs.ChunkBytes.{cut_first, cut_later}
-use Rattle.bsi_storage.specs.Saved.{head_segment}
+use Rattle.bsi_storage.specs.Saved.{segment_with_head}
 use Rattle.bsi_storage.proofs.Files.{appends_none, so_err}
 use Rattle.bsi_storage.proofs.SegmentParts.{rows_segment}
 use Rattle.bsi_storage.proofs.writing.write_index.Goals as goal
@@ -26,7 +26,7 @@ returns-in_err-write_words-clause-prefix g c =
     let rows = c.deref-3.ensures.value ∙ c.in_ok-rows.ensures in
     so_err c.from_residual-in_err-write_words.result
     (cut_later (g.W.Write.contents c.args.writer.now) (g.W.Write.contents c.write_counted.new.writer) (g.W.Write.contents c.write_words.new.writer)
-    (bytes_of (counted Two c.deref-2.result.now)) (bytes_of c.deref-3.result.now) (head_segment t c.args.notes.now c.args.kinds.now)
+    (bytes_of (counted Two c.deref-2.result.now)) (bytes_of c.deref-3.result.now) (segment_with_head t c.args.notes.now c.args.kinds.now)
     (sym (rows_segment c.deref-2.result.now c.deref-3.result.now t c.args.notes.now c.args.kinds.now head rows))
     c.in_ok-write_counted.ensures.ok c.in_err-write_words.ensures.prefix)
 
@@ -36,7 +36,7 @@ returns-in_err-write_counted-clause-prefix g c =
     let head = c.deref-2.ensures.value ∙ c.in_ok-head.ensures.head in
     so_err c.from_residual-in_err-write_counted.result
     (cut_first (g.W.Write.contents c.args.writer.now) (g.W.Write.contents c.write_counted.new.writer)
-    (bytes_of (counted Two c.deref-2.result.now)) (bytes_of c.in_ok-rows.rows.items) (head_segment t c.args.notes.now c.args.kinds.now)
+    (bytes_of (counted Two c.deref-2.result.now)) (bytes_of c.in_ok-rows.rows.items) (segment_with_head t c.args.notes.now c.args.kinds.now)
     (sym (rows_segment c.deref-2.result.now c.in_ok-rows.rows.items t c.args.notes.now c.args.kinds.now head c.in_ok-rows.ensures))
     c.in_err-write_counted.ensures.prefix)
 

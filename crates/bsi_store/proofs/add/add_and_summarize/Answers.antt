@@ -8,7 +8,7 @@ use Rattle.bsi_answers.specs.RowFiles.{fed_counts}
 use Rattle.bsi_answers.specs.Runs.{HasLoaded}
 use Rattle.bsi_storage.specs.Faults.{AcceptsRowsOf}
 use Rattle.bsi_segments.specs.declared.version.Version.TheVariants.{Two}
-use Rattle.bsi_storage.specs.Saved.{head_segment, MayBeSaved}
+use Rattle.bsi_storage.specs.Saved.{segment_with_head, MayBeSaved}
 use Rattle.bsi_logical.specs.TableSchemas.{format_of}
 use Rattle.bsi_store.specs.Kinds.{SaysSchema}
 use Rattle.bsi_store.specs.Faults.{NamesPath}
@@ -55,9 +55,9 @@ returns-clause-added g c = λ before after reported.
           new = c.append_segment.new.file;
           valid = subst (λ (notes : List ℕ). MayBeSaved Two table notes read.saved.kinds) (sym read.notes_are)
               (subst (λ (kinds : List ℕ). MayBeSaved Two table saved.notes.items kinds) (sym read.kinds_are) c.in_ok-append_segment.ensures.valid);
-          appended = subst (λ (notes : List ℕ). Appends (g.S.Write.contents c.reread_if_changed.new.file) (g.S.Write.contents c.append_segment.new.file) (head_segment table notes read.saved.kinds))
+          appended = subst (λ (notes : List ℕ). Appends (g.S.Write.contents c.reread_if_changed.new.file) (g.S.Write.contents c.append_segment.new.file) (segment_with_head table notes read.saved.kinds))
               (sym read.notes_are)
-              (subst (λ (kinds : List ℕ). Appends (g.S.Write.contents c.reread_if_changed.new.file) (g.S.Write.contents c.append_segment.new.file) (head_segment table saved.notes.items kinds))
+              (subst (λ (kinds : List ℕ). Appends (g.S.Write.contents c.reread_if_changed.new.file) (g.S.Write.contents c.append_segment.new.file) (segment_with_head table saved.notes.items kinds))
               (sym read.kinds_are) c.in_ok-append_segment.ensures.appended);
           lines = subst (λ (bytes : List ℕ). Appends before after bytes) c.in_ok-summary.ensures.text reported;
         };
