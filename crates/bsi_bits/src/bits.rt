@@ -66,7 +66,7 @@ impl Bits {
         Ok(Bits::from_words(words, n))
     }
 
-    /// Makes a vector of the first `n` bits of `words`, which are as few as hold them. It clears the places past the
+    /// Makes a vector of the first `n` bits of `words`, which are as few as hold them. It clears the bits past the
     /// last bit.
     pub fn from_words(mut words: Vec<u64>, n: u64) -> Bits
         requires within { n ≤ max_len }
@@ -112,7 +112,7 @@ impl Bits {
         self.len == 0
     }
 
-    /// Returns the bit at place `i`.
+    /// Returns the bit at position `i`.
     pub fn get(&self, i: u64) -> bool
         requires { i < length self.now.bits }
         ensures { slice_get self.now.bits i ≡ Some result }
@@ -129,7 +129,7 @@ impl Bits {
         &self.words
     }
 
-    /// Returns an iterator over the places of the bits that are set, in rising order.
+    /// Returns an iterator over the positions of the bits that are set, in rising order.
     pub fn ones(&self) -> Ones<'_>
         ensures { result ≡ set_positions self.now.bits }
     {

@@ -1,7 +1,7 @@
 //! The iterator over the positions of the bits that are set, in rising order (`Ones`).
 //!
-//! The next place is read from the words as they are, so no half-used word is saved. Words with no bit are passed over,
-//! a cache line at a time where it has none.
+//! The next position is read from the words as they are, so no half-used word is saved. Words with no bit are passed
+//! over, a cache line at a time where it has none.
 
 ghost use Rattle.std.specs.Prelude.{◌≡◌, ◌≢◌, ℕ, ◌≤◌, ◌<◌, ◌+◌, List, length, slice_index, IsTrue};
 ghost use Rattle.std.specs.Iterator.{YieldsFirst, item_count};
@@ -12,7 +12,7 @@ use crate::lanes::{LINE_WORDS, is_clear};
 use crate::packing::know_fits;
 use std::marker::Model;
 
-/// Yields the places of the bits that are set, in rising order.
+/// Yields the positions of the bits that are set, in rising order.
 #[derive(Drop)]
 pub struct Ones<'a> {
     words: &'a [u64],
@@ -20,7 +20,7 @@ pub struct Ones<'a> {
     at: u64,
 }
 
-// Clauses see the places that are left.
+// Clauses see the positions that are left.
 impl<'a> Model for Ones<'a> {
     ghost Value = { List ℕ };
 
@@ -64,7 +64,7 @@ fn is_line_clear(words: &[u64], at: usize) -> bool
 }
 
 impl<'a> Ones<'a> {
-    /// Makes the iterator over the set places among the first `len` bits of packed words.
+    /// Makes the iterator over the positions that are set among the first `len` bits of packed words.
     pub(crate) fn new(words: &'a [u64], len: u64) -> Ones<'a>
         requires { IsPacked len words.now }
         ensures { result ≡ positions_from 0 len words.now }
@@ -85,9 +85,9 @@ impl<'a> Iterator for Ones<'a> {
             know_fits(self.words);
             let left = self.words[(self.at / 64) as usize] >> (self.at % 64);
             if left != 0 {
-                let place = self.at + left.trailing_zeros() as u64;
-                self.at = place + 1;
-                return Some(place);
+                let position = self.at + left.trailing_zeros() as u64;
+                self.at = position + 1;
+                return Some(position);
             }
             let next = (self.at / 64) as usize + 1;
             self.at = 64 * skip_clear(self.words, next) as u64;

@@ -54,8 +54,8 @@ impl NumberRange {
         NumberRange::new(self.least.min(number), self.greatest.max(number))
     }
 
-    /// Returns the range with so many digits 0 behind each number, or none if 64 bits do not hold them, or 63 bit slices do
-    /// not tell them apart.
+    /// Returns the range with so many digits 0 behind each number, or none if 64 bits do not hold them, or 63 bit
+    /// slices do not tell them apart.
     pub(crate) fn scaled(self, digits: u32) -> Option<NumberRange>
         requires { digits ≤ 18 }
         ensures least { IfSome result (λ range. range.least ≡ self.least *ℤ pos (10 ^ digits)) }

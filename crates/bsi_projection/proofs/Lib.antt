@@ -1,4 +1,4 @@
 pub mod Both
 pub mod Joining
-pub mod Places
+pub mod Positions
 pub mod Shown

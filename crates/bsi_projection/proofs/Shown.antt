@@ -13,7 +13,7 @@ use Rattle.bsi_rows.proofs.BlockRows.{map_twice}
 use Rattle.bsi_rows.specs.Answers.{IsAnswer, IsRows, IsTotal, IsValue}
 use Rattle.bsi_rows.specs.Numbering.{numbered_at, Origin}
 use Rattle.bsi_projection.proofs.Both.{along}
-use Rattle.bsi_projection.specs.Chosen.{chosen_entries, chosen_rows, place_in, renumbered, renumbered_query, renumbered_total, Shows}
+use Rattle.bsi_projection.specs.Chosen.{chosen_entries, chosen_rows, position_in, renumbered, renumbered_query, renumbered_total, Shows}
 use Rattle.bsi_rows.specs.Rows.{column_of, feeders_of, holds, row_at, row_entries, selected, values, FedRow}
 use Rattle.bsi_rows.specs.Table.{AreFitting}
 use Rattle.bsi_rows.specs.declared.query.Answer.{Answer}
@@ -72,8 +72,8 @@ module _ (by : ℕ → ℕ) (rows narrow : List FedRow) (show : Shows by rows na
       (λ r. entry-shown r c) (selected pred narrow)
       ∙ ap (λ rs. filter_map (λ r. entry_at (row_entries (row_at rows r)) (by c)) rs) (selected-shown pred)
 
-  pub places-shown : (pred : Pred) → numbered_at (feeders_of narrow) (selected pred narrow) ≡ numbered_at (feeders_of rows) (selected (renumbered by pred) rows)
-  places-shown pred = ap₂ numbered_at show.feeders (selected-shown pred)
+  pub origins-shown : (pred : Pred) → numbered_at (feeders_of narrow) (selected pred narrow) ≡ numbered_at (feeders_of rows) (selected (renumbered by pred) rows)
+  origins-shown pred = ap₂ numbered_at show.feeders (selected-shown pred)
 
   -- a query has the answers that the renumbered one has over the rows that are shown
   total-shown : (total : Total) (pred : Pred) (answer : Answer) → IsTotal total pred narrow answer ↔ IsTotal (renumbered_total by total) (renumbered by pred) rows answer
@@ -83,14 +83,14 @@ module _ (by : ℕ → ℕ) (rows narrow : List FedRow) (show : Shows by rows na
   total-shown (Greatest c) pred answer = along (λ (ns : List ℤ). IsValue (IsSignedGreatestOf ns) answer) (values-shown c pred)
   total-shown (Median c) pred answer = along (λ (ns : List ℤ). IsValue (IsSignedMedianOf ns) answer) (values-shown c pred)
   total-shown (Rank c rank) pred answer = along (λ (ns : List ℤ). IsValue (IsSignedRankOf rank ns) answer) (values-shown c pred)
-  total-shown Rows pred answer = along (λ (ps : List Origin). IsRows ps answer) (places-shown pred)
+  total-shown Rows pred answer = along (λ (ps : List Origin). IsRows ps answer) (origins-shown pred)
 
   pub answer-shown : (query : Query) (answer : Answer) → IsAnswer query narrow answer ↔ IsAnswer (renumbered_query by query) rows answer
   answer-shown query answer = total-shown query.total query.pred answer
 
 -- the entry of a row in a chosen column
 module _ (chosen : List ℕ) (count : ℕ) (es : Entries) (few : length es ≤ count) where
-  entry-chosen : (c : ℕ) → entry_at (chosen_entries chosen es) c ≡ entry_at es (place_in chosen count c)
+  entry-chosen : (c : ℕ) → entry_at (chosen_entries chosen es) c ≡ entry_at es (position_in chosen count c)
   entry-chosen c = elim (cases_lt c (length chosen)) [
     | inl below ↦ get_or-map (λ d. entry_at es d) chosen c count None below
     | inr past ↦
@@ -101,13 +101,13 @@ module _ (chosen : List ℕ) (count : ℕ) (es : Entries) (few : length es ≤ c
 -- the chosen columns of rows are shown
 module _ (chosen : List ℕ) (count : ℕ) where
   column-chosen : (rows : List FedRow) → All (λ row. length (row_entries row) ≤ count) rows → (c : ℕ)
-      → column_of (chosen_rows chosen rows) c ≡ column_of rows (place_in chosen count c)
+      → column_of (chosen_rows chosen rows) c ≡ column_of rows (position_in chosen count c)
   column-chosen [] wide c = refl
   column-chosen (row ∷ rows) wide c =
       ap₂ (λ e es. e ∷ es) (entry-chosen chosen count row.1 (wide 0 row (omega arith)) c)
       (column-chosen rows (λ k d below. wide (suc k) d (omega arith)) c)
 
-  pub chosen-show : (rows : List FedRow) → All (λ row. length (row_entries row) ≤ count) rows → Shows (place_in chosen count) rows (chosen_rows chosen rows)
+  pub chosen-show : (rows : List FedRow) → All (λ row. length (row_entries row) ≤ count) rows → Shows (position_in chosen count) rows (chosen_rows chosen rows)
   chosen-show rows wide = record {
     feeders = map_twice (λ row. row.0) (λ row. (row.0, chosen_entries chosen row.1)) rows;
     columns = column-chosen rows wide;

@@ -37,14 +37,14 @@ renumbered_query by query = record { total = renumbered_total by query.total; pr
 
 -- ---- rows
 
--- Rows show others by places: each column c is column `by c` of the others, and the feeders are the same.
+-- Rows show others by positions: each column c is column `by c` of the others, and the feeders are the same.
 pub record Shows (by : ℕ → ℕ) (rows narrow : List FedRow) : Type 0 where
   pub feeders : feeders_of narrow ≡ feeders_of rows
   pub columns : (c : ℕ) → column_of narrow c ≡ column_of rows (by c)
 
--- The place of the chosen column c among all. Past the last chosen column it is `count`, which is past all.
-abbrev pub place_in : List ℕ → ℕ → ℕ → ℕ
-place_in chosen count c = slice_index_or chosen c count
+-- The position of the chosen column c among all. Past the last chosen column it is `count`, which is past all.
+abbrev pub position_in : List ℕ → ℕ → ℕ → ℕ
+position_in chosen count c = slice_index_or chosen c count
 
 -- The entries of a row in the chosen columns.
 abbrev pub chosen_entries : List ℕ → Entries → Entries

@@ -7,7 +7,7 @@ ghost use Rattle.bsi_rows.specs.Rows.{FedRow};
 ghost use Rattle.bsi_rows.specs.Table.{AreFitting, Table};
 ghost use Rattle.bsi_rows.specs.declared.query.Answer.{Answer};
 ghost use Rattle.bsi_rows.specs.declared.query.Query.{Query};
-ghost use Rattle.bsi_projection.specs.Chosen.{chosen_table, place_in, renumbered_query, Shows};
+ghost use Rattle.bsi_projection.specs.Chosen.{chosen_table, position_in, renumbered_query, Shows};
 ghost use Rattle.bsi_projection.specs.Joined.{joined, IsJoined};
 
 /// States that rows that show columns of others answer a query just as these answer the renumbered query; and that the
@@ -17,7 +17,7 @@ pub fn chosen_columns_answer_alike()
         (answer : Answer) → Shows by rows narrow →
         IsAnswer query narrow answer ↔ IsAnswer (renumbered_query by query) rows answer }
     ensures shown { (t : Table) → (chosen : List ℕ) → AreFitting t.schema.columns t.rows →
-        Shows (place_in chosen (length t.schema.columns)) t.rows (chosen_table chosen t).rows }
+        Shows (position_in chosen (length t.schema.columns)) t.rows (chosen_table chosen t).rows }
     ensures fitting { (t : Table) → (chosen : List ℕ) →
         All (λ c. c < length t.schema.columns) chosen → AreFitting t.schema.columns t.rows →
         AreFitting (chosen_table chosen t).schema.columns (chosen_table chosen t).rows }

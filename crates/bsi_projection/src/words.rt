@@ -2,8 +2,8 @@
 //! (`ChosenWords`).
 
 ghost use Rattle.std.specs.Prelude.{◌≡◌, ◌<◌, ◌^◌, length};
-ghost use Rattle.bsi_projection.specs.Chosen.{place_in};
-ghost use Rattle.bsi_projection.specs.Words.{chosen_texts, chosen_words, place_among};
+ghost use Rattle.bsi_projection.specs.Chosen.{position_in};
+ghost use Rattle.bsi_projection.specs.Words.{chosen_texts, chosen_words, position_among};
 
 use bsi_rows::Op;
 use bsi_syntax::{Notation, Vocabulary};
@@ -35,20 +35,20 @@ impl<'a, V> ChosenWords<'a, V> {
 
     /// Returns the number of the chosen column c among all columns.
     fn column_at(&self, c: u32) -> u32
-        ensures { result ≡ place_in self.now.chosen.now self.now.count c }
+        ensures { result ≡ position_in self.now.chosen.now self.now.count c }
     {
         self.chosen.get(c as usize).copied().unwrap_or(self.count)
     }
 }
 
-/// Returns the place of a column among the chosen ones, or none.
-fn find_place(chosen: &[u32], c: u32) -> Option<u32>
+/// Returns the position of a column among the chosen ones, or none.
+fn find_position(chosen: &[u32], c: u32) -> Option<u32>
     requires { length chosen.now < 2 ^ 32 }
-    ensures { result ≡ place_among chosen.now c }
+    ensures { result ≡ position_among chosen.now c }
 {
-    'columns: for place in 0..chosen.len() as u32 {
-        if chosen[place as usize] == c {
-            return Some(place);
+    'columns: for position in 0..chosen.len() as u32 {
+        if chosen[position as usize] == c {
+            return Some(position);
         }
     }
     None
@@ -59,7 +59,7 @@ impl<'a, V: Vocabulary> Vocabulary for ChosenWords<'a, V> {
 
     fn find_column(&self, name: &[u8]) -> Option<u32> {
         let column = self.words.find_column(name)?;
-        find_place(self.chosen, column)
+        find_position(self.chosen, column)
     }
 
     fn read_comparison(&self, c: u32, op: Op, constant: &[u8]) -> Option<(Op, i128)> {

@@ -27,11 +27,11 @@ use Rattle.bsi_aggregates.specs.declared.answering.QuestionReply.{QuestionReply}
 use Rattle.bsi_aggregates.specs.declared.answering.QuestionReply.TheVariants as reply
 use Rattle.bsi_answers.specs.AskLines.{IsAskLineBy, IsQuestionLine}
 use Rattle.bsi_answers.specs.ReplyLines.{total_column, IsGroupsLine, IsReplyLine}
-use Rattle.bsi_projection.specs.Chosen.{chosen_rows, chosen_schema, place_in, renumbered, renumbered_query, renumbered_total, Shows}
-use Rattle.bsi_projection.specs.Words.{chosen_texts, chosen_words, place_among, AreChosen}
+use Rattle.bsi_projection.specs.Chosen.{chosen_rows, chosen_schema, position_in, renumbered, renumbered_query, renumbered_total, Shows}
+use Rattle.bsi_projection.specs.Words.{chosen_texts, chosen_words, position_among, AreChosen}
 use Rattle.bsi_pruning.proofs.Asked.{asked-by, columns_of_query, columns_of_question, renumbered_question, IsNamed, StandIn}
 use Rattle.bsi_pruning.proofs.Lines.{line-shown}
-use Rattle.bsi_projection.proofs.Places.{among-chosen, place_back, there-again, there-among}
+use Rattle.bsi_projection.proofs.Positions.{among-chosen, position_back, there-again, there-among}
 use Rattle.bsi_pruning.proofs.Replies.{reply-shown}
 use Rattle.bsi_projection.proofs.Shown.{chosen-show, wide-fitting}
 
@@ -130,10 +130,10 @@ module _ (by back : ℕ → ℕ) where
 
 module _ (words : Words) (fields : List Field) (chosen : List ℕ) (count : ℕ) where
   -- what the chosen words name stands among all
-  stand-by : StandIn (place_in chosen count) fields (chosen_words chosen count words) words
+  stand-by : StandIn (position_in chosen count) fields (chosen_words chosen count words) words
   stand-by = record {
     named = λ name has i at.
-        option_and_then_some (place_among chosen) (words.column name) i at λ c index place.
+        option_and_then_some (position_among chosen) (words.column name) i at λ c index place.
         index ∙ ap Some (sym (there-among chosen count c i place));
     compared = λ c is. refl;
     summed = λ c is. refl;
@@ -141,9 +141,9 @@ module _ (words : Words) (fields : List Field) (chosen : List ℕ) (count : ℕ)
   }
 
   -- and what all words name, among the chosen
-  stand-back : AreChosen words fields chosen → StandIn (place_back chosen) fields words (chosen_words chosen count words)
+  stand-back : AreChosen words fields chosen → StandIn (position_back chosen) fields words (chosen_words chosen count words)
   stand-back are = record {
-    named = λ name has c at. ap (option_and_then (place_among chosen)) at ∙ among-chosen chosen count c (are name has c at);
+    named = λ name has c at. ap (option_and_then (position_among chosen)) at ∙ among-chosen chosen count c (are name has c at);
     compared = λ c is. ap words.comparison (there-again chosen count c (are is.0 is.1 c is.2));
     summed = λ c is. ap words.sums (there-again chosen count c (are is.0 is.1 c is.2));
     alike = λ c d one two.
@@ -153,7 +153,7 @@ module _ (words : Words) (fields : List Field) (chosen : List ℕ) (count : ℕ)
   -- a column that the chosen words name is one of the chosen
   below-chosen : (i : ℕ) → IsNamed (chosen_words chosen count words) fields i → i < length chosen
   below-chosen i is =
-      option_and_then_some (place_among chosen) (words.column is.0) i is.2 λ c index place.
+      option_and_then_some (position_among chosen) (words.column is.0) i is.2 λ c index place.
       (position-Some (λ k. nat_eq c k) chosen i 0 place).0
 
 -- ---- lines
@@ -164,10 +164,10 @@ module _ (grammar : Grammar) (words : Words) (Of : NumberTexts) (schema : Declar
   count = length schema.columns
 
   abbrev by : ℕ → ℕ
-  by = place_in chosen count
+  by = position_in chosen count
 
   abbrev back : ℕ → ℕ
-  back = place_back chosen
+  back = position_back chosen
 
   abbrev own : Words
   own = chosen_words chosen count words

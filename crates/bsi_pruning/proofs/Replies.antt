@@ -43,7 +43,7 @@ use Rattle.bsi_aggregates.specs.declared.tops.TopRow.{TopRow}
 use Rattle.bsi_projection.specs.Chosen.{renumbered, renumbered_query, renumbered_total, Shows}
 use Rattle.bsi_pruning.proofs.Asked.{columns_of_question, renumbered_question}
 use Rattle.bsi_projection.proofs.Both.{alike, along, beside, neither_holds, pairs, then}
-use Rattle.bsi_projection.proofs.Shown.{answer-shown, entry-shown, holds-renumbered, long-shown, places-shown}
+use Rattle.bsi_projection.proofs.Shown.{answer-shown, entry-shown, holds-renumbered, long-shown, origins-shown}
 
 none-there : (c : ℕ) (o : Option ℕ) → o ≡ None → o ≡ Some c → ⊥
 none-there c o none some = cc
@@ -169,7 +169,7 @@ module _ (by : ℕ → ℕ) (rows shown : List FedRow) (show : Shows by rows sho
   arranged query (value_answer n) = answer-shown by rows shown show query (value_answer n)
   arranged query (rows_answer listed) =
       let first = lists by query.total in
-      let second = along (λ (places : List Origin). IsPermutation places listed.items) (places-shown by rows shown show query.pred) in (
+      let second = along (λ (places : List Origin). IsPermutation places listed.items) (origins-shown by rows shown show query.pred) in (
         λ is. (first.0 is.0, second.0 is.1, is.2),
         λ is. (first.1 is.0, second.1 is.1, is.2),
       )

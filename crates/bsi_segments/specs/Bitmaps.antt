@@ -12,7 +12,7 @@ value (suc n) f = (if f 0 then 1 else 0) + 2 * value n (λ i. f (suc i))
 abbrev pub word_of_bits : List Bool → ℕ → ℕ
 word_of_bits bits w = value 64 (λ i. slice_index_or bits (64 * w + i) false)
 
--- The words of a list of bits, as few as have place for all bits.
+-- The words of a list of bits, as few as have room for all bits.
 abbrev pub packed : List Bool → List ℕ
 packed bits = map (word_of_bits bits) (range_with_len 0 (word_count (length bits)))
 

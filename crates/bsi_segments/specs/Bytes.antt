@@ -8,7 +8,7 @@ use Rattle.bsi_syntax.specs.Bytes.{Bytes}
 pub record AreBytes (bytes : Bytes) : Type 0 where
   pub each : (i : ℕ) → slice_index bytes i < 256
 
--- The words of bytes, as few as have place for all. The lowest byte of a word is the first; past the last byte is 0.
+-- The words of bytes, as few as have room for all. The lowest byte of a word is the first; past the last byte is 0.
 abbrev pub packed_bytes : List ℕ → List ℕ
 packed_bytes bytes = words_of (div_ceil (length bytes) 8) bytes
 

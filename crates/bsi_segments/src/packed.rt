@@ -1,4 +1,4 @@
-//! Encodes a bitmap as its words, as many as have its bits, and decodes it: past the last bit each place is clear.
+//! Encodes a bitmap as its words, as many as have its bits, and decodes it: past the last bit each position is clear.
 
 ghost use Rattle.std.specs.Prelude.{◌≡◌, ℕ, Bool, List, ◌<◌, ◌≤◌, ◌++◌, length, false, IfNone, IfSome, IsFalse, IsTrue, OnErr, OnOk};
 ghost use Rattle.bsi_bits.specs.BitList.{max_len, word_count};
@@ -18,8 +18,8 @@ pub fn encode_bits(bits: &Bits, out: &mut Vec<u64>) -> Result<(), NoMemory>
     out.extend_from_slice(words)
 }
 
-/// Makes the bitmap of n bits whose words these are, or none if they are those of no bitmap, as a place past the last
-/// bit is 1.
+/// Makes the bitmap of n bits whose words these are, or none if they are those of no bitmap, as a position past the
+/// last bit is 1.
 pub fn decode_bits(words: Vec<u64>, n: u64) -> Option<Bits>
     requires within { n ≤ max_len }
     requires few { length words.items ≡ word_count n }
@@ -35,7 +35,7 @@ pub fn decode_bits(words: Vec<u64>, n: u64) -> Option<Bits>
     Some(Bits::from_words(words, n))
 }
 
-/// Returns whether each place from n on is 0.
+/// Returns whether each position from n on is 0.
 fn are_clear_past(words: &[u64], n: u64) -> bool
     requires { length words.now ≡ word_count n }
     ensures clear { IsTrue result → (i : ℕ) → n ≤ i → bit_of words.now i ≡ false }

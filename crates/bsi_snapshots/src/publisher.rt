@@ -49,7 +49,7 @@ impl<B: SystemTag> Model for Publisher<B> {
 }
 
 impl<B: SystemTag> Publisher<B> {
-    /// Makes both copies of an index with no row, and places for `analysts` analysts, at most 8.
+    /// Makes both copies of an index with no row, and slots for `analysts` analysts, at most 8.
     pub fn new(
         alloc: Global,
         history: History,
@@ -67,7 +67,7 @@ impl<B: SystemTag> Publisher<B> {
         let buffer = WriteBuffer::new(&index)?;
         let first = Version::new(index, history.token());
         let second = first.copy()?;
-        // The writer asks for a reader's place, also where there is no analyst.
+        // The writer asks for a reader's slot, also where there is no analyst.
         let readers = (analysts as usize).max(1);
         let copies = Writer::new(alloc, first, second, readers)?;
         Ok(Publisher {
@@ -159,7 +159,7 @@ impl<B: SystemTag> Publisher<B> {
         Told::new(self.copies.published().token().again())
     }
 
-    /// Makes an analyst, who knows what is published. It returns an error if there is no place for the analyst.
+    /// Makes an analyst, who knows what is published. It returns an error if there is no slot for the analyst.
     pub fn analyst(&self) -> Result<Analyst<B>, NoMemory>
         ensures { IfOk result (λ analyst. analyst ≡ self.now.table.rows) }
     {

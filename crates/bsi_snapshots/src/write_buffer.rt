@@ -62,7 +62,7 @@ impl WriteBuffer {
         if self.block.len() == MAX_BLOCK_ROWS {
             flush_block(&mut self.batch, &mut self.block)?;
         }
-        // The row fits the block, which has a place for it.
+        // The row fits the block, which has room for it.
         let _ = self.block.push(feeder, row);
         Ok(())
     }

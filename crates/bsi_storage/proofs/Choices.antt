@@ -8,7 +8,7 @@ use Rattle.std.proofs.lemmas.Bool.Decides.{nat_tests}
 use Rattle.std.proofs.lemmas.List.{get_or-take, length-map}
 use Rattle.std.proofs.lemmas.List.Elements.{All-from_get_or, All-head, All-tail}
 use Rattle.std.proofs.lemmas.Slice.Eq.{bytes_eq-Decides}
-use Rattle.bsi_projection.proofs.Places.{position-there}
+use Rattle.bsi_projection.proofs.Positions.{position-there}
 use Rattle.bsi_schema.specs.Columns.{column_at, no_column, position_of, Declared, IsDeclared, MayFollow, NamedColumn}
 use Rattle.bsi_schema.proofs.Naming.{position-map}
 use Rattle.bsi_storage.specs.Choices.{IsChoice}

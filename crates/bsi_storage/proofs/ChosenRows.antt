@@ -3,7 +3,7 @@ use Rattle.std.proofs.Common.{◌≡◌, ℕ, ◌<◌, All, Bool, List, length, 
 use Rattle.std.specs.List.{flat_map}
 use Rattle.std.proofs.lemmas.List.{get_or-map, get_or_default, length-map}
 use Rattle.std.proofs.lemmas.List.Elements.{All-from_get_or}
-use Rattle.bsi_projection.specs.Chosen.{chosen_rows, chosen_schema, chosen_table, place_in, Shows}
+use Rattle.bsi_projection.specs.Chosen.{chosen_rows, chosen_schema, chosen_table, position_in, Shows}
 use Rattle.bsi_projection.proofs.Shown.{chosen-show, fitting-chosen, wide-fitting}
 use Rattle.bsi_rows.specs.Rows.{column_of, feeders_of, FedRow}
 use Rattle.bsi_rows.specs.Table.{table, AreFitting, Table}
@@ -12,7 +12,7 @@ use Rattle.bsi_shift.specs.Shifted.{shifted_entries, OffsetColumn}
 use Rattle.bsi_table.specs.Bitmaps.{bitmaps_of, entries_bitmaps}
 use Rattle.bsi_table.specs.Encoded.{encoded_at, fed_rows, AreEncoded, Encodes}
 use Rattle.bsi_table.proofs.RowBitmaps.{fed-bitmaps, fed-feeders, fed-fitting, same_rows}
-use Rattle.bsi_storage.specs.ChosenColumns.{column_place, feeders_place, feeders_in_head, AreChosenColumns, BeginsAt, IsHeadOf, SaysChosen, HasZones}
+use Rattle.bsi_storage.specs.ChosenColumns.{column_position, feeders_position, feeders_in_head, AreChosenColumns, BeginsAt, IsHeadOf, SaysChosen, HasZones}
 use Rattle.bsi_storage.specs.Heads.{feeder_checksum, numbers_of, zone_words}
 use Rattle.bsi_storage.specs.Saved.{feeder_words}
 use Rattle.bsi_storage.specs.declared.segment_head.SegmentHead.{SegmentHead}
@@ -48,7 +48,7 @@ module _ (known : KnownBytes) (first : SegmentHead) (chosen : List ℕ) (narrow 
 
   module _ (at : ℕ) (t : Table) (notes kinds : List ℕ) (begins : BeginsAt known at t notes kinds) (is : IsHeadOf first at t notes kinds) (declared : IsDeclared first.front.schema)
       (row_feeders : List ℕ) (long : length row_feeders ≡ first.front.sizes.rows) (from : All (λ feeder. feeder < first.front.sizes.feeders) row_feeders)
-      (stands : StandAt known (feeders_place first) (feeder_words first.front.sizes.feeders row_feeders)) where
+      (stands : StandAt known (feeders_position first) (feeder_words first.front.sizes.feeders row_feeders)) where
     abbrev xs : List FedRow
     xs = fed_rows row_feeders columns
 
@@ -69,7 +69,7 @@ module _ (known : KnownBytes) (first : SegmentHead) (chosen : List ℕ) (narrow 
         let below : k < length chosen = omega (arith, within, columns_long) in
         subst IsColumn (sym (column_is k below)) (declared.each (get_or chosen k 0) (there k 0 below)).valid)
 
-    show : Shows (place_in chosen (length t.schema.columns)) t.rows ys
+    show : Shows (position_in chosen (length t.schema.columns)) t.rows ys
     show = chosen-show chosen (length t.schema.columns) t.rows (wide-fitting t.schema.columns t.rows begins.valid.rows.fits)
 
     fit_ys : AreFitting narrow.columns ys
@@ -110,7 +110,7 @@ module _ (known : KnownBytes) (first : SegmentHead) (chosen : List ℕ) (narrow 
 
   -- what was read stands in the file, as the head says
   module _ (row_feeders : List ℕ) (long : length row_feeders ≡ first.front.sizes.rows)
-      (stands : StandAt known (feeders_place first) (feeder_words first.front.sizes.feeders row_feeders))
+      (stands : StandAt known (feeders_position first) (feeder_words first.front.sizes.feeders row_feeders))
       (said : feeders_in_head first ≡ feeder_checksum first.front.sizes.feeders row_feeders)
       (u : Table) (schema : u.schema ≡ narrow) (rows : u.rows ≡ fed_rows row_feeders columns) where
     fed_columns : AreEncoded narrow.columns columns (length row_feeders)
@@ -130,9 +130,9 @@ module _ (known : KnownBytes) (first : SegmentHead) (chosen : List ℕ) (narrow 
     says_chosen zones = record {
       narrow = schema ∙ made;
       many = sym (feeders_long u.rows) ∙ ap (λ (fs : List ℕ). length fs) (sym feeders_are) ∙ long;
-      stands = λ k below. subst (λ bs. StandAt known (column_place first (get_or chosen k 0)) (flat_map packed bs)) (bitmaps_are k below) (each.stands k below);
+      stands = λ k below. subst (λ bs. StandAt known (column_position first (get_or chosen k 0)) (flat_map packed bs)) (bitmaps_are k below) (each.stands k below);
       sums = λ k below. each.sums k below ∙ ap (map (λ (bits : List Bool). lanes_of (packed bits))) (bitmaps_are k below);
       zones = zones;
-      feeders = subst (λ fs. StandAt known (feeders_place first) (feeder_words first.front.sizes.feeders fs)) feeders_are stands;
+      feeders = subst (λ fs. StandAt known (feeders_position first) (feeder_words first.front.sizes.feeders fs)) feeders_are stands;
       feeder_sum = said ∙ ap (feeder_checksum first.front.sizes.feeders) feeders_are;
     }

@@ -26,7 +26,7 @@ use Rattle.bsi_segments.proofs.Unique.{same_words}
 use Rattle.bsi_shift.specs.Shifted.{shifted_entries, OffsetColumn}
 use Rattle.bsi_table.specs.Bitmaps.{bitmap_count, bitmaps_of, entries_bitmaps}
 use Rattle.bsi_table.specs.Encoded.{encoded_at, no_entries, Encodes}
-use Rattle.bsi_storage.specs.ChosenColumns.{column_place, feeders_place, said_sums, AreChosenColumns, BeginsAt, IsHeadOf}
+use Rattle.bsi_storage.specs.ChosenColumns.{column_position, feeders_position, said_sums, AreChosenColumns, BeginsAt, IsHeadOf}
 use Rattle.bsi_storage.specs.Decoding.{bitmaps_in}
 use Rattle.bsi_storage.specs.Heads.{head}
 use Rattle.bsi_storage.specs.Saved.{columns_words, feeder_words, rows_words}
@@ -51,7 +51,7 @@ module _ (known : KnownBytes) (first : SegmentHead) (chosen : List ℕ) (old new
   abbrev Of : ℕ → OffsetColumn → Type 0
   Of k encoded =
       Encodes (column_at first.front.schema.columns (get_or chosen k 0)) encoded first.front.sizes.rows
-      × StandAt known (column_place first (get_or chosen k 0))
+      × StandAt known (column_position first (get_or chosen k 0))
       (flat_map packed (entries_bitmaps (column_at first.front.schema.columns (get_or chosen k 0)) (shifted_entries encoded)))
       × (said_sums first (get_or chosen k 0)
       ≡ map (λ bits. lanes_of (packed bits)) (entries_bitmaps (column_at first.front.schema.columns (get_or chosen k 0)) (shifted_entries encoded)))
@@ -67,7 +67,7 @@ module _ (known : KnownBytes) (first : SegmentHead) (chosen : List ℕ) (old new
   ]
 
   pub chosen_more : Encodes (column_at first.front.schema.columns (get_or chosen i 0)) column first.front.sizes.rows
-      → StandAt known (column_place first (get_or chosen i 0))
+      → StandAt known (column_position first (get_or chosen i 0))
       (flat_map packed (entries_bitmaps (column_at first.front.schema.columns (get_or chosen i 0)) (shifted_entries column)))
       → said_sums first (get_or chosen i 0)
       ≡ map (λ bits. lanes_of (packed bits)) (entries_bitmaps (column_at first.front.schema.columns (get_or chosen i 0)) (shifted_entries column))
@@ -249,7 +249,7 @@ module _ (known : KnownBytes) (at : ℕ) (t : Table) (notes kinds : List ℕ) (b
 
     -- by what the head says
     pub bits_there : (bits : List (List Bool)) → AreBitmaps (bitmap_count (column_at first.front.schema.columns c).form) first.front.sizes.rows bits
-        → StandAt known (column_place first c) (flat_map packed bits) → bits ≡ bitmaps_of t.schema t.rows c
+        → StandAt known (column_position first c) (flat_map packed bits) → bits ≡ bitmaps_of t.schema t.rows c
     bits_there bits all stands =
         let Placed : Declared → ℕ → Type 0 = λ schema n.
         AreBitmaps (bitmap_count (column_at schema.columns c).form) n bits
@@ -259,7 +259,7 @@ module _ (known : KnownBytes) (at : ℕ) (t : Table) (notes kinds : List ℕ) (b
         bits_of_table bits two.0 two.1
 
     pub column_there : (entries : Entries) → length entries ≡ first.front.sizes.rows
-        → StandAt known (column_place first c) (flat_map packed (entries_bitmaps (column_at first.front.schema.columns c) entries))
+        → StandAt known (column_position first c) (flat_map packed (entries_bitmaps (column_at first.front.schema.columns c) entries))
         → entries_bitmaps column entries ≡ bitmaps_of t.schema t.rows c
     column_there entries long stands =
         let read = column_at first.front.schema.columns c in
@@ -268,7 +268,7 @@ module _ (known : KnownBytes) (at : ℕ) (t : Table) (notes kinds : List ℕ) (b
 
   -- feeders that stand in their place are those of the rows
   pub feeders_there : (row_feeders : List ℕ) → length row_feeders ≡ first.front.sizes.rows → All (λ feeder. feeder < first.front.sizes.feeders) row_feeders
-      → StandAt known (feeders_place first) (feeder_words first.front.sizes.feeders row_feeders) → row_feeders ≡ feeders_of t.rows
+      → StandAt known (feeders_position first) (feeder_words first.front.sizes.feeders row_feeders) → row_feeders ≡ feeders_of t.rows
   feeders_there row_feeders long from stands =
       let last = feeder_words t.feeders (feeders_of t.rows) in
       let all = columns_words t.schema t.rows 0 (length t.schema.columns) in

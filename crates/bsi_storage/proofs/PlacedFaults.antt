@@ -23,7 +23,7 @@ use Rattle.bsi_segments.proofs.Chunks.{length-all, length-packed}
 use Rattle.bsi_segments.proofs.Eights.{length-bytes_of}
 use Rattle.bsi_segments.proofs.Unique.{no_fault}
 use Rattle.bsi_table.specs.Bitmaps.{bitmap_count, bitmaps_of}
-use Rattle.bsi_storage.specs.ChosenColumns.{column_place, feeders_place, feeders_in_head, zone_in_head, BeginsAt, BeginsBy, IsHeadOf}
+use Rattle.bsi_storage.specs.ChosenColumns.{column_position, feeders_position, feeders_in_head, zone_in_head, BeginsAt, BeginsBy, IsHeadOf}
 use Rattle.bsi_storage.specs.Decoding.{bitmaps_in, feeder_word_count}
 use Rattle.bsi_storage.specs.Faults.{open_fault}
 use Rattle.bsi_storage.specs.Heads.{column_head, column_heads, feeder_checksum, head, numbers_of, zone_words}
@@ -242,7 +242,7 @@ module _ (known : KnownBytes) (at : ℕ) (t : Table) (notes kinds : List ℕ) (b
 
     -- no fault of the bitmaps of a column
     pub column_fault : (sums : List ℕ) → sums ≡ checksums (bitmaps_of t.schema t.rows c) → (fault : SegmentFault)
-        → AreNoBitmaps known (column_place first c) first.front.sizes.rows sums fault → IsReadOrNoMemory (open_fault fault)
+        → AreNoBitmaps known (column_position first c) first.front.sizes.rows sums fault → IsReadOrNoMemory (open_fault fault)
     column_fault sums sums_are fault none =
         let Of : Declared → ℕ → Type 0 = λ schema n. AreNoBitmaps known (first.rows_at + 8 * (bitmaps_in (take c schema.columns) * word_count n)) n sums fault in
         let one : Of t.schema first.front.sizes.rows = subst (λ (schema : Declared). Of schema first.front.sizes.rows) is.schema none in
@@ -262,7 +262,7 @@ module _ (known : KnownBytes) (at : ℕ) (t : Table) (notes kinds : List ℕ) (b
       ∙ zone_there t first.behind.items c within is.behind
 
   -- no fault of the words of the feeders
-  pub feeders_at : feeders_place first ≡ first.rows_at + 8 * length (columns_words t.schema t.rows 0 (length t.schema.columns))
+  pub feeders_at : feeders_position first ≡ first.rows_at + 8 * length (columns_words t.schema t.rows 0 (length t.schema.columns))
   feeders_at =
       let all : length (columns_words t.schema t.rows 0 (length t.schema.columns)) ≡ bitmaps_in t.schema.columns * word_count (length t.rows) =
       length-columns_words t.schema t.feeders t.rows begins.valid.rows (length t.schema.columns) (omega arith)
@@ -271,7 +271,7 @@ module _ (known : KnownBytes) (at : ℕ) (t : Table) (notes kinds : List ℕ) (b
       ∙ ap (λ n. first.rows_at + 8 * (bitmaps_in t.schema.columns * word_count n)) is.rows
       ∙ ap (λ n. first.rows_at + 8 * n) (sym all)
 
-  module _ (seen after : KnownBytes) (from count : ℕ) (same : seen ≡ known) (here : from ≡ feeders_place first)
+  module _ (seen after : KnownBytes) (from count : ℕ) (same : seen ≡ known) (here : from ≡ feeders_position first)
       (many : count ≡ feeder_word_count first.front.sizes.feeders first.front.sizes.rows) where
     pub words_fault : (fault : SegmentFault) → FailsBefore (known_from from seen) after count fault → IsReadOrNoMemory (open_fault fault)
     words_fault NotASegment stops = absurd stops
@@ -279,19 +279,19 @@ module _ (known : KnownBytes) (at : ℕ) (t : Table) (notes kinds : List ℕ) (b
     words_fault CutShort stops =
         let all = columns_words t.schema t.rows 0 (length t.schema.columns) in
         let last = feeder_words t.feeders (feeders_of t.rows) in
-        let there : EndsWithin (known_from (feeders_place first) known) after (8 * count) =
+        let there : EndsWithin (known_from (feeders_position first) known) after (8 * count) =
         subst (λ (k : KnownBytes). EndsWithin k after (8 * count)) (ap (known_from from) same ∙ ap (λ n. known_from n known) here) stops in
         let long : count ≡ length last =
         many ∙ ap (λ n. feeder_word_count n first.front.sizes.rows) is.feeders ∙ ap (feeder_word_count t.feeders) is.rows
         ∙ sym (length-feeder_words t.schema t.feeders t.rows begins.valid.rows) in
-        absurd (long_enough all last [] (feeders_place first) count (ap (λ ws. all ++ ws) (sym (append-nil last))) feeders_at (omega (arith, long))
-        (ends_before known after (feeders_place first) (8 * count) there))
+        absurd (long_enough all last [] (feeders_position first) count (ap (λ ws. all ++ ws) (sym (append-nil last))) feeders_at (omega (arith, long))
+        (ends_before known after (feeders_position first) (8 * count) there))
     words_fault Damaged stops = absurd stops
     words_fault Read stops = inl refl
     words_fault NoMemory stops = inr refl
 
   -- the words that stand there are those of the feeders
-  pub feeders_words : (words : List ℕ) → StandAt known (feeders_place first) words → length words ≡ feeder_word_count first.front.sizes.feeders first.front.sizes.rows → AreWords words
+  pub feeders_words : (words : List ℕ) → StandAt known (feeders_position first) words → length words ≡ feeder_word_count first.front.sizes.feeders first.front.sizes.rows → AreWords words
       → words ≡ feeder_words first.front.sizes.feeders (feeders_of t.rows)
   feeders_words words stands many are =
       let all = columns_words t.schema t.rows 0 (length t.schema.columns) in
@@ -299,7 +299,7 @@ module _ (known : KnownBytes) (at : ℕ) (t : Table) (notes kinds : List ℕ) (b
       let long : length words ≡ length last =
       many ∙ ap (λ n. feeder_word_count n first.front.sizes.rows) is.feeders ∙ ap (feeder_word_count t.feeders) is.rows
       ∙ sym (length-feeder_words t.schema t.feeders t.rows begins.valid.rows) in
-      words_there known at t notes kinds begins first is all last [] words (feeders_place first) (ap (λ ws. all ++ ws) (sym (append-nil last))) feeders_at stands long are
+      words_there known at t notes kinds begins first is all last [] words (feeders_position first) (ap (λ ws. all ++ ws) (sym (append-nil last))) feeders_at stands long are
       (feeder_fit t.feeders (feeders_of t.rows) begins.valid.feeders.1 (omega (arith, feeders_long t.rows, short known at t notes kinds begins first is))
       (feeders_below t.feeders t.rows begins.valid.rows.from))
       ∙ ap (λ n. feeder_words n (feeders_of t.rows)) (sym is.feeders)

@@ -20,7 +20,7 @@ use Rattle.bsi_storage.specs.Saved.{feeder_words, segment, MayBeSaved}
 use Rattle.bsi_storage.specs.declared.segment_head.SegmentHead.{SegmentHead}
 use Rattle.bsi_syntax.specs.Bytes.{Bytes, KnownBytes}
 
--- The bytes from a place on begin with the segment of some version of a table.
+-- The bytes from a position on begin with the segment of some version of a table.
 pub record BeginsBy (version : Version) (known : KnownBytes) (at : ℕ) (t : Table) (notes kinds : Bytes) : Type 0 where
   -- An index may have this table, with these notes and this text of kinds.
   pub valid : MayBeSaved version t notes kinds
@@ -32,7 +32,7 @@ pub record BeginsBy (version : Version) (known : KnownBytes) (at : ℕ) (t : Tab
 abbrev pub BeginsAt : KnownBytes → ℕ → Table → Bytes → Bytes → Type 0
 BeginsAt known at t notes kinds = BeginsBy Two known at t notes kinds
 
--- The head is that of the segment of a table at a place.
+-- The head is that of the segment of a table at a position.
 pub record IsHeadOf (first : SegmentHead) (at : ℕ) (t : Table) (notes kinds : Bytes) : Type 0 where
   pub rows : first.front.sizes.rows ≡ length t.rows
   pub feeders : first.front.sizes.feeders ≡ t.feeders
@@ -45,13 +45,13 @@ pub record IsHeadOf (first : SegmentHead) (at : ℕ) (t : Table) (notes kinds : 
   -- The rows stand behind the counted words of the head.
   pub rows_at : first.rows_at ≡ at + 8 * (length (head t notes kinds) + 3)
 
--- The place of the bitmaps of column c: behind those of the columns before it.
-abbrev pub column_place : SegmentHead → ℕ → ℕ
-column_place first c = first.rows_at + 8 * (bitmaps_in (take c first.front.schema.columns) * word_count first.front.sizes.rows)
+-- The position of the bitmaps of column c: behind those of the columns before it.
+abbrev pub column_position : SegmentHead → ℕ → ℕ
+column_position first c = first.rows_at + 8 * (bitmaps_in (take c first.front.schema.columns) * word_count first.front.sizes.rows)
 
--- The place of the feeders of the rows: behind the bitmaps of all columns.
-abbrev pub feeders_place : SegmentHead → ℕ
-feeders_place first = first.rows_at + 8 * (bitmaps_in first.front.schema.columns * word_count first.front.sizes.rows)
+-- The position of the feeders of the rows: behind the bitmaps of all columns.
+abbrev pub feeders_position : SegmentHead → ℕ
+feeders_position first = first.rows_at + 8 * (bitmaps_in first.front.schema.columns * word_count first.front.sizes.rows)
 
 -- What the head says of the zone of column c.
 abbrev pub zone_in_head : SegmentHead → ℕ → List ℕ
@@ -80,7 +80,7 @@ pub record AreChosenColumns (known : KnownBytes) (first : SegmentHead) (chosen :
       → Encodes (column_at first.front.schema.columns (slice_index chosen k)) (encoded_at encoded k) first.front.sizes.rows
   -- Its bitmaps stand in their place.
   pub stands : (k : ℕ) → k < count
-      → StandAt known (column_place first (slice_index chosen k))
+      → StandAt known (column_position first (slice_index chosen k))
       (flat_map packed (entries_bitmaps (column_at first.front.schema.columns (slice_index chosen k)) (shifted_entries (encoded_at encoded k))))
   -- They have the checksums that the head says.
   pub sums : (k : ℕ) → k < count
@@ -95,11 +95,11 @@ pub record SaysChosen (known : KnownBytes) (first : SegmentHead) (chosen : List 
   pub many : length rows ≡ first.front.sizes.rows
   -- The bitmaps of each column stand in their place.
   pub stands : (k : ℕ) → k < length chosen
-      → StandAt known (column_place first (slice_index chosen k)) (flat_map packed (bitmaps_of schema rows k))
+      → StandAt known (column_position first (slice_index chosen k)) (flat_map packed (bitmaps_of schema rows k))
   -- They have the checksums that the head says.
   pub sums : (k : ℕ) → k < length chosen
       → said_sums first (slice_index chosen k) ≡ map (λ bits. lanes_of (packed bits)) (bitmaps_of schema rows k)
   pub zones : HasZones first chosen rows (length chosen)
   -- The feeders of the rows stand in their place, with the checksum that the head says.
-  pub feeders : StandAt known (feeders_place first) (feeder_words first.front.sizes.feeders (feeders_of rows))
+  pub feeders : StandAt known (feeders_position first) (feeder_words first.front.sizes.feeders (feeders_of rows))
   pub feeder_sum : feeders_in_head first ≡ feeder_checksum first.front.sizes.feeders (feeders_of rows)

@@ -26,7 +26,7 @@ parts_in keeps = keeps.file.before ++ keeps.file.last ∷ []
 abbrev pub AreTwo : {known : KnownBytes} {t : Table} {notes kinds : Bytes} → KeepsTable known t notes kinds → Type 0
 AreTwo keeps = All (λ p. p.version ≡ Two) (parts_in keeps)
 
--- A head is that of a part of a file, whose segment stands at some place.
+-- A head is that of a part of a file, whose segment stands at some position.
 pub record IsHeadAt (known : KnownBytes) (t : Table) (kinds : Bytes) (first : SegmentHead) (p : Part) : Type 0 where
   pub at : ℕ
   pub begins : BeginsAt known at (with_only t p.rows) p.notes kinds

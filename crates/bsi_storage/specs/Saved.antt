@@ -85,11 +85,11 @@ pub record MayBeSaved (version : Version) (t : Table) (notes kinds : Bytes) : Ty
   pub rows : AreRows t.schema t.feeders t.rows
   -- The notes are bytes.
   pub bytes : AreBytes notes
-  -- The notes are at most as many bytes as the version has place for.
+  -- The notes are at most as many bytes as the version has room for.
   pub few : length notes ≤ most_notes version
   -- The text of kinds is bytes.
   pub kinds_are : AreBytes kinds
-  -- The text of kinds is at most as many bytes as the version has place for.
+  -- The text of kinds is at most as many bytes as the version has room for.
   pub few_kinds : length kinds ≤ most_kinds version
 
 -- A part of the file: the version, the rows and the notes of one segment.

@@ -11,7 +11,7 @@ ghost use Rattle.bsi_segments.specs.Bitmaps.{packed};
 ghost use Rattle.bsi_segments.specs.Lanes.{lanes_of};
 ghost use Rattle.bsi_shift.specs.Shifted.{shifted_entries};
 ghost use Rattle.bsi_storage.specs.Choices.{IsChoice};
-ghost use Rattle.bsi_storage.specs.ChosenColumns.{column_place, feeders_place, feeders_in_head, said_sums, AreChosenColumns, BeginsAt, IsHeadOf, SaysChosen};
+ghost use Rattle.bsi_storage.specs.ChosenColumns.{column_position, feeders_position, feeders_in_head, said_sums, AreChosenColumns, BeginsAt, IsHeadOf, SaysChosen};
 ghost use Rattle.bsi_storage.specs.Decoding.{AreSizes};
 ghost use Rattle.bsi_storage.specs.Heads.{feeder_checksum};
 ghost use Rattle.bsi_storage.specs.Opens.{IsReadOrNoMemory};
@@ -26,7 +26,7 @@ use crate::chosen_schema::choose_columns;
 use crate::decoding::decode_origins;
 use crate::fronts::{count_all_bitmaps, count_feeder_words};
 use crate::head_checks::{matches_feeders, matches_zones};
-use crate::segment_head::{SegmentHead, count_bitmaps_before, find_place, find_sums};
+use crate::segment_head::{SegmentHead, count_bitmaps_before, find_position, find_sums};
 use bsi_origins::Origins;
 use bsi_pread::{At, ReadAt, read_bitmaps};
 use bsi_segments::read_words;
@@ -47,7 +47,7 @@ fn read_column<R: ReadAt>(
     ensures encodes { IfOk result (λ column. Encodes (column_at head.now.front.schema.columns c)
         column head.now.front.sizes.rows) }
     ensures stands { IfOk result (λ column. StandAt (R.all_bytes reader.now)
-        (column_place head.now c) (flat_map packed (entries_bitmaps
+        (column_position head.now c) (flat_map packed (entries_bitmaps
         (column_at head.now.front.schema.columns c) (shifted_entries column)))) }
     ensures sums { IfOk result (λ column. said_sums head.now c
         ≡ map (λ bits. lanes_of (packed bits)) (entries_bitmaps
@@ -63,10 +63,10 @@ fn read_column<R: ReadAt>(
     let Some(sums) = find_sums(&head.behind, c, before, count) else {
         return Err(OpenFault::Damaged);
     };
-    let Some(place) = find_place(head.rows_at, before, count as u64, rows) else {
+    let Some(position) = find_position(head.rows_at, before, count as u64, rows) else {
         return Err(OpenFault::Read);
     };
-    let bitmaps = read_bitmaps(alloc, reader, place, rows, sums)?;
+    let bitmaps = read_bitmaps(alloc, reader, position, rows, sums)?;
     match column_from_bitmaps(schema, c, bitmaps)? {
         Some(column) => Ok(column),
         None => Err(OpenFault::Damaged),
@@ -112,7 +112,7 @@ fn read_origins<R: ReadAt>(
     ensures from { IfOk result (λ origins.
         All (λ feeder. feeder < head.now.front.sizes.feeders) origins.rows) }
     ensures stands { IfOk result (λ origins. StandAt (R.all_bytes reader.now)
-        (feeders_place head.now) (feeder_words head.now.front.sizes.feeders origins.rows)) }
+        (feeders_position head.now) (feeder_words head.now.front.sizes.feeders origins.rows)) }
     ensures said { IfOk result (λ origins. feeders_in_head head.now
         ≡ feeder_checksum head.now.front.sizes.feeders origins.rows) }
     ensures fault { IfErr result (λ fault. (at : ℕ) → (t : Table) → (notes kinds : Bytes) →
@@ -122,12 +122,12 @@ fn read_origins<R: ReadAt>(
     let sizes = head.front.sizes;
     let before = count_all_bitmaps(&head.front.schema);
     let count = count_feeder_words(sizes);
-    let Some(at) = find_place(head.rows_at, before, 0, sizes.rows) else {
+    let Some(at) = find_position(head.rows_at, before, 0, sizes.rows) else {
         return Err(OpenFault::Read);
     };
     let mut words = Vec::new(alloc);
-    let mut place = At::new(reader, at);
-    read_words(&mut place, count, &mut words)?;
+    let mut position = At::new(reader, at);
+    read_words(&mut position, count, &mut words)?;
     if !matches_feeders(head, &words) {
         return Err(OpenFault::Damaged);
     }

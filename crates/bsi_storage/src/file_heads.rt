@@ -95,7 +95,7 @@ fn are_alike(first: &SegmentHead, head: &SegmentHead) -> bool
         && first.front.kinds.as_slice() == head.front.kinds.as_slice()
 }
 
-/// Returns whether no byte stands at a place or behind it.
+/// Returns whether no byte stands at a position or behind it.
 fn has_ended<R: ReadAt>(reader: &R, at: u64) -> Result<bool, OpenFault>
     ensures yes { IfOk result (λ ended. ended ≡ true → IsAtEnd (known_from at (R.all_bytes reader.now))) }
     ensures no { IfOk result (λ ended. ended ≡ false →
@@ -109,7 +109,7 @@ fn has_ended<R: ReadAt>(reader: &R, at: u64) -> Result<bool, OpenFault>
     }
 }
 
-/// Returns the place behind the segment that has this head, or none if no place is so far.
+/// Returns the position behind the segment that has this head, or none if no position is so far.
 fn find_end(head: &SegmentHead) -> Option<u64>
     requires { HasSizes head.now }
     ensures { IfSome result (λ end. end ≡ head.now.rows_at + 8 * rows_word_count

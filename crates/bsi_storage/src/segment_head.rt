@@ -1,5 +1,5 @@
-//! Reads the head of a segment of version 2 at a place (`read_head`), and finds in it where the bitmaps of a column stand,
-//! and their checksums.
+//! Reads the head of a segment of version 2 at a position (`read_head`), and finds in it where the bitmaps of a column
+//! stand, and their checksums.
 
 ghost use Rattle.std.specs.Prelude.{◌≡◌, ◌+◌, ◌*◌, ◌^◌, ◌<◌, ◌≤◌, drop, take, IfErr, IfNone, IfOk, IfSome, length};
 ghost use Rattle.bsi_bits.specs.BitList.{word_count};
@@ -26,11 +26,11 @@ pub(crate) struct SegmentHead {
     pub(crate) front: Front,
     /// The words after that: for each column its zone and the checksums of its bitmaps, and the checksum of the feeders.
     pub(crate) behind: Vec<u64>,
-    /// The place of the words of the rows.
+    /// The position of the words of the rows.
     pub(crate) rows_at: u64,
 }
 
-/// Reads the head of the segment at place `at`, or none if no segment of version 2 begins there.
+/// Reads the head of the segment at position `at`, or none if no segment of version 2 begins there.
 pub(crate) fn read_head<R: ReadAt>(
     alloc: Global,
     reader: &R,
@@ -48,8 +48,8 @@ pub(crate) fn read_head<R: ReadAt>(
     ensures fault { IfErr result (λ fault. (version : Version) → (t : Table) → (notes kinds : Bytes) →
         BeginsBy version (R.all_bytes reader.now) at t notes kinds → IsReadOrNoMemory fault) }
 {
-    let mut place = At::new(reader, at);
-    let Some(first) = read_counted(alloc, &mut place)? else {
+    let mut position = At::new(reader, at);
+    let Some(first) = read_counted(alloc, &mut position)? else {
         return Ok(None);
     };
     let Version::Two = first.version else {
@@ -85,20 +85,21 @@ pub(crate) fn count_bitmaps_before(schema: &Schema, c: u32) -> u64
     count
 }
 
-/// Returns the place of the words of bitmaps after `before` others of so many rows, or none if no place is so far.
-pub(crate) fn find_place(rows_at: u64, before: u64, count: u64, rows: u64) -> Option<u64>
+/// Returns the position of the words of bitmaps after `before` others of so many rows, or none if no position is so
+/// far.
+pub(crate) fn find_position(rows_at: u64, before: u64, count: u64, rows: u64) -> Option<u64>
     requires before { before ≤ 2 ^ 17 }
     requires count { count ≤ 2 ^ 17 }
     requires rows { rows ≤ 2 ^ 32 }
-    ensures place { IfSome result (λ place. place ≡ rows_at + 8 * (before * word_count rows)) }
-    ensures fits { IfSome result (λ place. place + 8 * (count * word_count rows) < 2 ^ 64) }
+    ensures position { IfSome result (λ position. position ≡ rows_at + 8 * (before * word_count rows)) }
+    ensures fits { IfSome result (λ position. position + 8 * (count * word_count rows) < 2 ^ 64) }
 {
     let long = rows.div_ceil(64);
     let skipped = before * long;
     let size = count * long;
-    let place = rows_at.checked_add(8 * skipped)?;
-    let _end = place.checked_add(8 * size)?;
-    Some(place)
+    let position = rows_at.checked_add(8 * skipped)?;
+    let _end = position.checked_add(8 * size)?;
+    Some(position)
 }
 
 /// Lends the checksums of the bitmaps of column `c` from the words behind the schema, or none if these are too few.

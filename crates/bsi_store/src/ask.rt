@@ -9,7 +9,7 @@ ghost use Rattle.bsi_store.specs.Kinds.{SaysSchema};
 ghost use Rattle.bsi_syntax.specs.Bytes.{Bytes};
 
 use crate::heads::{NamedHeads, open_heads};
-use crate::lock::{LockFile, PlacedFile};
+use crate::lock::{LockFile, PositionedFile};
 use crate::opening::{open_file, open_index};
 use crate::{FileFault, StoreFault};
 use bsi_answers::{FilesFault, Grammar, answer_asks};
@@ -51,7 +51,7 @@ pub fn ask_over<
 }
 
 /// Answers the questions of a reader over a saved index, those that were read before more of it is asked for. Of a file
-/// that can be read at places it reads the columns that the questions name, when they are first named.
+/// that can be read at positions it reads the columns that the questions name, when they are first named.
 pub fn ask_input<
     'a,
     R: AllocGlobal + Files<File = S> + Threads + Sync,
@@ -132,10 +132,10 @@ fn ask_named<
     ensures named { IfErr result (NamesPath (λ named. named ≡ path.entry)) }
     ensures fault { IfErr result (IsOfFile S.remaining) }
 {
-    let placed = PlacedFile { file };
+    let positioned = PositionedFile { file };
     let answered = answer_named_asks(
         rt,
-        &placed,
+        &positioned,
         &named.heads,
         &named.schema,
         Grammar::Index,

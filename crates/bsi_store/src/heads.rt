@@ -1,4 +1,4 @@
-//! Reads the heads of a file that is read at places, and the schema that they say (`open_heads`).
+//! Reads the heads of a file that is read at positions, and the schema that they say (`open_heads`).
 
 ghost use Rattle.std.specs.Prelude.{◌≡◌, false, IfSome};
 ghost use Rattle.bsi_rows.specs.Table.{Table};
@@ -6,7 +6,7 @@ ghost use Rattle.bsi_storage.specs.ChosenFiles.{AreFileHeads, KeepsTable};
 ghost use Rattle.bsi_store.specs.Kinds.{SaysSchema};
 ghost use Rattle.bsi_syntax.specs.Bytes.{Bytes};
 
-use crate::lock::{LockFile, PlacedFile};
+use crate::lock::{LockFile, PositionedFile};
 use bsi_logical::{LogicalFormat, TableSchema, read_logical};
 use bsi_storage::{FileHeads, read_heads};
 use bsi_table::Schema;
@@ -20,7 +20,7 @@ pub(crate) struct NamedHeads {
 }
 
 /// Reads the heads of a file, and the schema that they say. It is none where the file is to be opened as a whole: if only
-/// the rows before a fault may be asked, if it can't be read at places, has a segment of version 1 or a fault, or if
+/// the rows before a fault may be asked, if it can't be read at positions, has a segment of version 1 or a fault, or if
 /// memory is refused.
 pub(crate) fn open_heads<S: LockFile>(alloc: Global, file: &S, so_far: bool) -> Option<NamedHeads>
     ensures heads { IfSome result (λ named. (t : Table) → (notes kinds : Bytes) →
@@ -33,8 +33,8 @@ pub(crate) fn open_heads<S: LockFile>(alloc: Global, file: &S, so_far: bool) -> 
     if so_far {
         return None;
     }
-    let placed = PlacedFile { file };
-    let Ok(Some(heads)) = read_heads(alloc, &placed) else {
+    let positioned = PositionedFile { file };
+    let Ok(Some(heads)) = read_heads(alloc, &positioned) else {
         return None;
     };
     let schema = say_schema(alloc, heads.kinds(), heads.schema())?;

@@ -1,4 +1,5 @@
-//! The lock on a file: one command writes it, and then none reads it. A locked file may be read at places (`PlacedFile`).
+//! The lock on a file: one command writes it, and then none reads it. A locked file may be read at positions
+//! (`PositionedFile`).
 
 ghost use Rattle.std.specs.Io.{ReadsAtMost};
 ghost use Rattle.bsi_pread.specs.Offsets.{ReadsFrom};
@@ -8,7 +9,8 @@ use std::fs::{File, TryLockError};
 use std::io;
 use std::io::{Read, Seek};
 
-/// A file that can be locked, read anew, and read at places. A lock ends where the file is dropped, or the program ends.
+/// A file that can be locked, read anew, and read at positions. A lock ends where the file is dropped, or the program
+/// ends.
 pub trait LockFile: Seek + Read {
     /// Locks the file for one writer. It returns false where another command has a lock.
     fn try_lock_exclusive(&self) -> io::Result<bool>;
@@ -22,9 +24,9 @@ pub trait LockFile: Seek + Read {
     /// Ends the lock.
     fn unlock(&self) -> io::Result<()>;
 
-    /// Reads some of the bytes from place `at` on of a file of which none was read, and returns how many: none only if no
-    /// more stand there, or if there is no room for one. It fails for a file that has no places, as a pipe.
-    fn read_place(&self, bytes: &mut [u8], at: u64) -> io::Result<usize>
+    /// Reads some of the bytes from position `at` on of a file of which none was read, and returns how many: none only
+    /// if no more stand there, or if there is no room for one. It fails for a file that has no positions, as a pipe.
+    fn read_position(&self, bytes: &mut [u8], at: u64) -> io::Result<usize>
         ensures bound { ReadsAtMost result bytes.new }
         ensures bytes { ReadsFrom (Self.remaining self.now) at result bytes.new };
 }
@@ -46,22 +48,22 @@ impl LockFile for File {
         File::unlock(self)
     }
 
-    fn read_place(&self, bytes: &mut [u8], at: u64) -> io::Result<usize> {
+    fn read_position(&self, bytes: &mut [u8], at: u64) -> io::Result<usize> {
         ReadAt::read_at(self, bytes, at)
     }
 }
 
-/// A file that is read at places.
+/// A file that is read at positions.
 #[derive(Drop)]
-pub(crate) struct PlacedFile<'a, S> {
+pub(crate) struct PositionedFile<'a, S> {
     pub(crate) file: &'a S,
 }
 
-impl<S: LockFile> ReadAt for PlacedFile<'_, S> {
-    ghost all_bytes = { λ placed. S.remaining placed.file.now };
+impl<S: LockFile> ReadAt for PositionedFile<'_, S> {
+    ghost all_bytes = { λ positioned. S.remaining positioned.file.now };
 
     fn read_at(&self, bytes: &mut [u8], at: u64) -> io::Result<usize> {
-        self.file.read_place(bytes, at)
+        self.file.read_position(bytes, at)
     }
 }
 

@@ -8,7 +8,7 @@ use Rattle.bsi_system.specs.LoaderSteps.{new_loader_state}
 use Rattle.bsi_system.specs.declared.system.OpenRefused.{OpenRefused}
 use Rattle.bsi_system.specs.declared.system.OpenRefused.TheVariants.{Make, Readers}
 
--- Why `open` is refused: the refusal of the sizes, else of memory; or of a place for an analyst, which gives the
+-- Why `open` is refused: the refusal of the sizes, else of memory; or of a slot for an analyst, which gives the
 -- loader back.
 abbrev pub IsOpenRefusal : {B : Type 0} → Option MakeError → Declared → ℕ → ℕ → OpenRefused B → Type 0
 IsOpenRefusal sizes schema limit analysts (Make refused) = IsFirstOr made.NoMemory sizes refused

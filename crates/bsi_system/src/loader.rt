@@ -121,7 +121,7 @@ impl<B: SystemTag> Loader<B> {
         self.publisher.tell()
     }
 
-    /// Makes an analyst, who knows what is published. It returns an error if there is no place for the analyst.
+    /// Makes an analyst, who knows what is published. It returns an error if there is no slot for the analyst.
     pub(crate) fn analyst(&self) -> Result<Analyst<B>, NoMemory>
         ensures { IfOk result (λ analyst. analyst ≡ self.now.published) }
     {

@@ -29,7 +29,7 @@ pub struct System<B: SystemTag> {
 pub enum OpenRefused<B: SystemTag> {
     /// The sizes are refused, or memory was refused.
     Make(MakeError),
-    /// There is no place for an analyst. The loader that was made is handed back, to be ended.
+    /// There is no slot for an analyst. The loader that was made is handed back, to be ended.
     Readers(Loader<B>),
 }
 

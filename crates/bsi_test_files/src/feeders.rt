@@ -133,7 +133,7 @@ fn broken_reader<B: SystemTag, R: Wait>(
     Some(accepted && failed && settled && loads_two(loader))
 }
 
-/// Feeds a file whose third row finds no place in the ring. It returns whether the gate stops the feeder there.
+/// Feeds a file whose third row finds no slot in the ring. It returns whether the gate stops the feeder there.
 fn stopped_by_the_gate<R: Wait>(rt: &R, alloc: Global, feeder: Feeder) -> Option<bool> {
     let gate = Patience::new(3);
     let end = fed(rt, alloc, feeder, 3, text("qty\n1\n2\n3\n"), &gate)?;

@@ -127,7 +127,7 @@ fn two_files_are_fed_side_by_side(rt: HostRuntime) {
     assert!(rt; met == Some(true));
 }
 
-// Whether a file of more rows than its ring has places is fed. It gives none where memory was refused.
+// Whether a file of more rows than its ring has slots is fed. It gives none where memory was refused.
 fn goes_on<R: Threads + Wait + AllocGlobal + Sync>(rt: &R) -> Option<bool> {
     let files = RunInputs {
         schema: text(QUANTITIES),

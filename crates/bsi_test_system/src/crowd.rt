@@ -83,11 +83,11 @@ impl Promise<Option<Closing>> for OfFeeder {
 /// A feeder's thread.
 type Sender = PromisedHandle<Option<Closing>, OfFeeder>;
 
-/// Makes a row that tells its feeder and its place among that feeder's rows.
-fn make_row(alloc: Global, feeder: u32, place: u32) -> Result<Row, NoMemory> {
+/// Makes a row that tells its feeder and its number among that feeder's rows.
+fn make_row(alloc: Global, feeder: u32, number: u32) -> Result<Row, NoMemory> {
     let mut values = Vec::with_capacity(alloc, 2)?;
     values.push(Some(i128::from(feeder)))?;
-    values.push(Some(i128::from(place)))?;
+    values.push(Some(i128::from(number)))?;
     Ok(Row::new(values))
 }
 
@@ -113,14 +113,14 @@ fn send(feeder: &mut Feeder, row: Row, over: &AtomicBool) -> bool
 }
 
 /// Makes a row and sends it. If memory is refused for the row, it makes the row again.
-fn make_and_send(alloc: Global, feeder: &mut Feeder, place: u32, over: &AtomicBool) -> bool
+fn make_and_send(alloc: Global, feeder: &mut Feeder, row: u32, over: &AtomicBool) -> bool
     ensures number { feeder.new.number ≡ feeder.old.number }
     ensures channel { feeder.new.channel ≡ feeder.old.channel }
 {
     let number = feeder.number();
-    let row = match make_row(alloc, number, place) {
+    let row = match make_row(alloc, number, row) {
         Ok(row) => row,
-        Err(_) => match make_row(alloc, number, place) {
+        Err(_) => match make_row(alloc, number, row) {
             Ok(row) => row,
             Err(_) => return false,
         },
@@ -133,8 +133,8 @@ fn feed<B: SystemTag>(alloc: Global, feeder: Feeder, rows: u32, board: &Board<B>
     ensures { IfSome result (λ c. (c.number ≡ feeder.number) × (c.channel ≡ feeder.channel)) }
 {
     let mut feeder = feeder;
-    'rows: for place in 0..rows {
-        if !make_and_send(alloc, &mut feeder, place, &board.over) {
+    'rows: for row in 0..rows {
+        if !make_and_send(alloc, &mut feeder, row, &board.over) {
             break;
         }
     }
@@ -308,8 +308,8 @@ struct WatchEnd<B: SystemTag> {
     grew: bool,
 }
 
-fn pop_letter<B: SystemTag>(board: &Board<B>, place: usize) -> Option<Letter<B>> {
-    board.letters.get(place)?.try_lock()?.take()
+fn pop_letter<B: SystemTag>(board: &Board<B>, slot: usize) -> Option<Letter<B>> {
+    board.letters.get(slot)?.try_lock()?.take()
 }
 
 /// Asks and learns, and asks again. It returns none if a list is shorter than one that the analyst knew.
@@ -325,13 +325,13 @@ fn look<B: SystemTag>(analyst: &mut Analyst<B>, letter: Letter<B>, known: u64) -
 }
 
 /// Looks whenever a letter has come, until all threads are to stop and no letter is left.
-fn watch<B: SystemTag>(analyst: Analyst<B>, place: usize, board: &Board<B>) -> WatchEnd<B> {
+fn watch<B: SystemTag>(analyst: Analyst<B>, slot: usize, board: &Board<B>) -> WatchEnd<B> {
     let mut analyst = analyst;
     let mut known = 0;
     let mut grew = true;
     for _ in 0..u64::MAX {
         let over = board.over.load(Ordering::SeqCst);
-        match pop_letter(board, place) {
+        match pop_letter(board, slot) {
             Some(letter) => match look(&mut analyst, letter, known) {
                 Some(count) => known = count,
                 None => grew = false,
@@ -346,11 +346,11 @@ fn watch<B: SystemTag>(analyst: Analyst<B>, place: usize, board: &Board<B>) -> W
 fn start_analyst<B: SystemTag + Send + Sync + 'static, R: Threads>(
     rt: &R,
     analyst: Analyst<B>,
-    place: usize,
+    slot: usize,
     board: &Arc<Board<B>, Global>,
 ) -> Option<JoinHandle<WatchEnd<B>>> {
     let board = Arc::try_clone(board).ok()?;
-    thread::spawn(rt, move || watch(analyst, place, &board)).ok()
+    thread::spawn(rt, move || watch(analyst, slot, &board)).ok()
 }
 
 /// Starts the threads of all analysts. If one is not made, it tells all threads to stop.
@@ -361,8 +361,8 @@ fn start_analysts<B: SystemTag + Send + Sync + 'static, R: Threads>(
     board: &Arc<Board<B>, Global>,
 ) -> Option<Vec<JoinHandle<WatchEnd<B>>>> {
     let mut watchers = Vec::with_capacity(alloc, analysts.len()).ok()?;
-    for (place, analyst) in analysts.into_iter().enumerate() {
-        let started = match start_analyst(rt, analyst, place, board) {
+    for (slot, analyst) in analysts.into_iter().enumerate() {
+        let started = match start_analyst(rt, analyst, slot, board) {
             Some(watcher) => watchers.push(watcher).is_ok(),
             None => false,
         };
@@ -393,7 +393,7 @@ fn rows_at<B: SystemTag>(
     }
 }
 
-/// Returns whether a row is of a feeder, in the first column, or is at a place among its feeder's rows, in the second.
+/// Returns whether a row is of a feeder, in the first column, or has a number among its feeder's rows, in the second.
 fn is_at(row: (u32, u64), column: u32, value: u32) -> bool {
     let (feeder, number) = row;
     if column == 0 {
@@ -588,10 +588,10 @@ fn run_in<B: SystemTag + Send + Sync + 'static, R: Threads + Wait>(
 }
 
 /// Makes the schema of a crowd: which feeder a row is of, and which of that feeder's rows it is.
-fn senders_and_places(alloc: Global) -> Option<Schema> {
+fn senders_and_origins(alloc: Global) -> Option<Schema> {
     let mut schema = Schema::new(alloc);
     schema.add("feeder", ColumnSpec::Slices(6)).ok()?;
-    schema.add("place", ColumnSpec::Slices(6)).ok()?;
+    schema.add("number", ColumnSpec::Slices(6)).ok()?;
     Some(schema)
 }
 
@@ -607,7 +607,7 @@ fn small_rings(alloc: Global, feeders: u32) -> Option<Vec<u32>> {
 fn run_once<R: Threads + Wait>(rt: &R, alloc: Global, crowd: Crowd) -> Option<bool>
     requires { crowd.analysts ≤ max_analysts }
 {
-    let schema = senders_and_places(alloc)?;
+    let schema = senders_and_origins(alloc)?;
     let capacities = small_rings(alloc, crowd.feeders)?;
     run_in::<Brand, R>(rt, alloc, crowd, History::new(), schema, capacities)
 }

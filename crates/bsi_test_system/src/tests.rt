@@ -313,8 +313,8 @@ fn sizes(worked: Worked) -> (&'static [u32], u64) {
 
 fn work<R: Wait>(rt: &R, alloc: Global, worked: Worked) -> Option<bool> {
     let schema = quantities(alloc)?;
-    let (places, limit) = sizes(worked);
-    let capacities = Vec::from_slice(alloc, places).ok()?;
+    let (slots, limit) = sizes(worked);
+    let capacities = Vec::from_slice(alloc, slots).ok()?;
     work_in::<Brand, R>(rt, alloc, worked, History::new(), schema, capacities, limit)
 }
 

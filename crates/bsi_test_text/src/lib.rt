@@ -1,5 +1,5 @@
-//! Tests of calls on texts, schemas, row files, kinds and their inference, checks, surveys, scripts in pieces, faults and
-//! moves between threads. No crate uses it.
+//! Tests of calls on texts, schemas, row files, kinds and their inference, checks, surveys, scripts in pieces, faults
+//! and moves between threads. No crate uses it.
 #![tactic(auto)]
 
 #[cfg(test)]

@@ -42,8 +42,8 @@ const TEXTS: [&[Piece]; 4] = [
     ],
 ];
 
-// Gives one piece after the other. It counts as wrong each time that more is asked for where another number of lines was
-// written than is expected.
+// Gives one piece after the other. It counts as wrong each time that more is asked for where another number of lines
+// was written than is expected.
 #[derive(Drop)]
 struct PieceReader<'a> {
     pieces: &'static [Piece],

@@ -11,7 +11,7 @@ use Rattle.bsi_segments.specs.Bitmaps.{packed, AreBitmaps}
 use Rattle.bsi_syntax.specs.Bytes.{Bytes}
 use Rattle.bsi_table.specs.Bitmaps.{bitmap_count, bitmaps_of, HaveNoEntries}
 use Rattle.bsi_table.specs.Encoded.{Encodes}
-use Rattle.bsi_storage.specs.ChosenColumns.{column_place, BeginsAt, IsHeadOf}
+use Rattle.bsi_storage.specs.ChosenColumns.{column_position, BeginsAt, IsHeadOf}
 use Rattle.bsi_storage.specs.Decoding.{bitmaps_in}
 use Rattle.bsi_storage.specs.Faults.{open_fault}
 use Rattle.bsi_storage.specs.Opens.{IsReadOrNoMemory}
@@ -28,8 +28,8 @@ use Rattle.bsi_storage.proofs.chosen.read_column.Goals as goal
 pub find_sums-requires-clause-count : goal.find_sums-requires-clause-count
 find_sums-requires-clause-count g c = omega (arith, c.count_bitmaps-count.ensures, few_bitmaps c.form.result.now c.form.ensures.valid)
 
-pub find_place-requires-clause-count : goal.find_place-requires-clause-count
-find_place-requires-clause-count g c = omega (arith, c.count_bitmaps-count.ensures, few_bitmaps c.form.result.now c.form.ensures.valid)
+pub find_position-requires-clause-count : goal.find_position-requires-clause-count
+find_position-requires-clause-count g c = omega (arith, c.count_bitmaps-count.ensures, few_bitmaps c.form.result.now c.form.ensures.valid)
 
 pub column_from_bitmaps-requires-clause-even : goal.column_from_bitmaps-requires-clause-even
 column_from_bitmaps-requires-clause-even g c =
@@ -63,9 +63,9 @@ returns-in_err-bitmaps-clause-fault g c =
     let known = g.R.ReadAt.all_bytes c.args.reader.now in
     let reported = c.in_err-bitmaps.field-0.0 in
     let sums = c.in-Some.sums.now in
-    let place : c.in-Some-find_place.place ≡ column_place head c.args.c =
-    c.in-Some-find_place.ensures.place ∙ ap (λ n. head.rows_at + 8 * (n * word_count head.front.sizes.rows)) c.count_bitmaps_before-before.ensures.count in
-    let none = subst (λ n. AreNoBitmaps known n head.front.sizes.rows sums reported) place c.in_err-bitmaps.ensures.fault in
+    let position : c.in-Some-find_position.position ≡ column_position head c.args.c =
+    c.in-Some-find_position.ensures.position ∙ ap (λ n. head.rows_at + 8 * (n * word_count head.front.sizes.rows)) c.count_bitmaps_before-before.ensures.count in
+    let none = subst (λ n. AreNoBitmaps known n head.front.sizes.rows sums reported) position c.in_err-bitmaps.ensures.fault in
     let met : IfErr c.from_residual.result (λ (fault : OpenFault). fault ≡ open_fault reported) = search rules in
     err_as c.from_residual.result (open_fault reported)
     (λ (fault : OpenFault). (at : ℕ) → (t : Table) → (notes kinds : Bytes) → BeginsAt known at t notes kinds → IsHeadOf head at t notes kinds → IsReadOrNoMemory fault) met
@@ -91,9 +91,9 @@ returns-in-None-clause-fault g c = λ at t notes kinds begins is.
     let within : c.args.c < length t.schema.columns = omega (arith, c.requires.there, ap (λ (s : Declared). length s.columns) is.schema) in
     let maps = c.in_ok-bitmaps.bitmaps.items in
     let bits = bits_each maps in
-    let place : c.in-Some-find_place.place ≡ column_place head c.args.c =
-    c.in-Some-find_place.ensures.place ∙ ap (λ n. head.rows_at + 8 * (n * word_count head.front.sizes.rows)) c.count_bitmaps_before-before.ensures.count in
-    let stands = subst (λ n. StandAt known n (flat_map packed bits)) place c.in_ok-bitmaps.ensures.words in
+    let position : c.in-Some-find_position.position ≡ column_position head c.args.c =
+    c.in-Some-find_position.ensures.position ∙ ap (λ n. head.rows_at + 8 * (n * word_count head.front.sizes.rows)) c.count_bitmaps_before-before.ensures.count in
+    let stands = subst (λ n. StandAt known n (flat_map packed bits)) position c.in_ok-bitmaps.ensures.words in
     let many : length c.in-Some.sums.now ≡ bitmap_count (column_at head.front.schema.columns c.args.c).form =
     c.in-Some.ensures.long ∙ c.count_bitmaps-count.ensures ∙ ap bitmap_count c.form.ensures.form in
     let all = subst (λ m. AreBitmaps m head.front.sizes.rows bits) many c.in_ok-bitmaps.ensures.long in
