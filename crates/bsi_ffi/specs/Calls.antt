@@ -21,7 +21,7 @@ use Rattle.bsi_rows.specs.declared.query.Query.{Query}
 use Rattle.bsi_input.specs.SchemaTexts.{DeclaresNoColumn, DeclaresTooLong, IsBadDeclaration, IsSchemaText}
 use Rattle.bsi_storage.specs.Faults.{IsFirstSegmentFault, IsOpened}
 use Rattle.bsi_logical.specs.Logical.{Logical}
-use Rattle.bsi_segments.specs.declared.version.Version.TheVariants.{Two}
+use Rattle.bsi_segments.specs.declared.format_version.FormatVersion.TheVariants.{Two}
 use Rattle.bsi_storage.specs.Saved.{segment_with_head, max_kinds, max_notes, IsFileOf, MayBeSaved}
 use Rattle.bsi_storage.specs.declared.fault.OpenFault.{OpenFault}
 use Rattle.bsi_storage.specs.declared.fault.OpenFault.TheVariants as open_fault

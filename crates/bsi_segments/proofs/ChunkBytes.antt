@@ -12,7 +12,7 @@ use Rattle.bsi_input.proofs.Waiting.{cut_front, cut_whole}
 use Rattle.bsi_segments.specs.declared.fault.SegmentFault.{SegmentFault}
 use Rattle.bsi_segments.specs.declared.fault.SegmentFault.TheVariants.{CutShort, Damaged, NoMemory, NotASegment, OtherVersion, Read}
 use Rattle.bsi_segments.specs.Segments.{bytes_of, checksum_of, counted_rest, magic, AreWords, EndsWithin, IsRestFault, MeetsFault, ReadsToEnd, ReadsWords, FailsBefore}
-use Rattle.bsi_segments.specs.declared.version.Version.{Version}
+use Rattle.bsi_segments.specs.declared.format_version.FormatVersion.{FormatVersion}
 use Rattle.bsi_segments.proofs.Eights.{length-bytes_of}
 use Rattle.bsi_syntax.specs.Bytes.{KnownBytes}
 
@@ -108,7 +108,7 @@ fails_in_sum a b c d count old new Read fits consumed reads stops = tt
 fails_in_sum a b c d count old new NoMemory fits consumed reads stops = tt
 
 -- the first word was read, and then a fault was met
-pub faults_behind : (version : Version) (a b c : KnownBytes) (fault : SegmentFault) → Consumes a b (bytes_of (magic version ∷ [])) → IsRestFault b c fault → MeetsFault a c fault
+pub faults_behind : (version : FormatVersion) (a b c : KnownBytes) (fault : SegmentFault) → Consumes a b (bytes_of (magic version ∷ [])) → IsRestFault b c fault → MeetsFault a c fault
 faults_behind version a b c NotASegment consumed meets = absurd meets
 faults_behind version a b c OtherVersion consumed meets = absurd meets
 faults_behind version a b c CutShort consumed meets =

@@ -4,8 +4,8 @@ use Rattle.std.specs.Prelude.{◌⊎◌}
 use Rattle.std.specs.Io.KnownBytes.{Consumes}
 use Rattle.bsi_segments.specs.declared.fault.SegmentFault.{SegmentFault}
 use Rattle.bsi_segments.specs.declared.fault.SegmentFault.TheVariants.{CutShort, Damaged, NoMemory, NotASegment, OtherVersion, Read}
-use Rattle.bsi_segments.specs.declared.version.Version.{Version}
-use Rattle.bsi_segments.specs.declared.version.Version.TheVariants.{One, Two}
+use Rattle.bsi_segments.specs.declared.format_version.FormatVersion.{FormatVersion}
+use Rattle.bsi_segments.specs.declared.format_version.FormatVersion.TheVariants.{One, Two}
 use Rattle.std.proofs.lemmas.List.{take-append-le, take_at}
 use Rattle.bsi_segments.specs.Segments.{bytes_of, checksum_of, counted, counted_rest, magic, signature, AreWords, MeetsFault}
 use Rattle.bsi_segments.proofs.Eights.{length-bytes_of}
@@ -16,11 +16,11 @@ use Rattle.bsi_syntax.specs.Bytes.{KnownBytes}
 abbrev named : List ℕ
 named = 0x62 ∷ 0x73 ∷ 0x69 ∷ 0x6b ∷ 0x65 ∷ 0x70 ∷ 0x74 ∷ []
 
-magic_prefix : (version : Version) (n : ℕ) → n < 8 → take n (bytes_of (magic version ∷ [])) ≡ take n (bytes_of (signature ∷ []))
+magic_prefix : (version : FormatVersion) (n : ℕ) → n < 8 → take n (bytes_of (magic version ∷ [])) ≡ take n (bytes_of (signature ∷ []))
 magic_prefix One n few = take-append-le n named (1 ∷ []) (omega arith) ∙ sym (take-append-le n named (0 ∷ []) (omega arith))
 magic_prefix Two n few = take-append-le n named (2 ∷ []) (omega arith) ∙ sym (take-append-le n named (0 ∷ []) (omega arith))
 
-module _ (version : Version) (words tail cut rest : List ℕ) (are : AreWords words) (whole : bytes_of (counted version words) ++ tail ≡ cut ++ rest) where
+module _ (version : FormatVersion) (words tail cut rest : List ℕ) (are : AreWords words) (whole : bytes_of (counted version words) ++ tail ≡ cut ++ rest) where
   -- what is consumed of the first part is consumed of the whole
   consumed_of_all : (bytes more : List ℕ) → Consumes (Some cut) (Some more) bytes → Consumes (Some (bytes_of (counted version words) ++ tail)) (Some (more ++ rest)) bytes
   consumed_of_all bytes more consumed = whole ∙ ap (λ bs. bs ++ rest) consumed ∙ append_assoc bytes more rest

@@ -7,8 +7,8 @@ use Rattle.std.proofs.lemmas.Grind.{flat_map-append}
 use Rattle.std.proofs.lemmas.Nat.{from_le_bytes-to_le_bytes_8, mod_below, or_lt}
 use Rattle.bsi_segments.specs.declared.fault.SegmentFault.{SegmentFault}
 use Rattle.bsi_segments.specs.declared.fault.SegmentFault.TheVariants.{CutShort, Damaged, NoMemory, NotASegment, OtherVersion, Read}
-use Rattle.bsi_segments.specs.declared.version.Version.{Version}
-use Rattle.bsi_segments.specs.declared.version.Version.TheVariants.{One, Two}
+use Rattle.bsi_segments.specs.declared.format_version.FormatVersion.{FormatVersion}
+use Rattle.bsi_segments.specs.declared.format_version.FormatVersion.TheVariants.{One, Two}
 use Rattle.bsi_segments.specs.Segments.{bytes_of, checksum_from, checksum_of, checksum_step, counted, counted_rest, magic, multiplier, signature, AreWords, IsTruncated, IsTruncatedRest, MeetsFault, ReadsToEnd}
 use Rattle.bsi_segments.proofs.Eights.{length-bytes_of}
 use Rattle.bsi_syntax.specs.Bytes.{KnownBytes}
@@ -48,15 +48,15 @@ sum_fits sum (word ∷ words) small = sum_fits (checksum_step sum word) words (s
 
 -- ---- first words
 
-pub magic_fits : (version : Version) → magic version < 2 ^ 64
+pub magic_fits : (version : FormatVersion) → magic version < 2 ^ 64
 magic_fits One = omega arith
 magic_fits Two = omega arith
 
-pub magic_signature : (version : Version) → magic version % 2 ^ 56 ≡ signature
+pub magic_signature : (version : FormatVersion) → magic version % 2 ^ 56 ≡ signature
 magic_signature One = omega arith
 magic_signature Two = omega arith
 
-pub same_version : (version other : Version) → magic version ≡ magic other → version ≡ other
+pub same_version : (version other : FormatVersion) → magic version ≡ magic other → version ≡ other
 same_version One One same = refl
 same_version One Two same = absurd (omega (arith, same))
 same_version Two One same = absurd (omega (arith, same))
@@ -70,12 +70,12 @@ rest_is sum words rest =
     ap (λ bs. bytes_of (length words ∷ []) ++ (bs ++ rest)) (flat_map-append (to_le_bytes w64) words (sum ∷ []))
     ∙ ap (λ bs. bytes_of (length words ∷ []) ++ bs) (append_assoc (bytes_of words) (bytes_of (sum ∷ [])) rest)
 
-module _ (version : Version) (words rest : List ℕ) (are : AreWords words) where
+module _ (version : FormatVersion) (words rest : List ℕ) (are : AreWords words) where
   few : length words < 2 ^ 64
   few = are.few
 
   -- two that begin the same bytes
-  same_counted : (other : Version) (sum other_sum : ℕ) (others more : List ℕ) → sum < 2 ^ 64 → other_sum < 2 ^ 64 → AreWords others
+  same_counted : (other : FormatVersion) (sum other_sum : ℕ) (others more : List ℕ) → sum < 2 ^ 64 → other_sum < 2 ^ 64 → AreWords others
       → bytes_of (magic version ∷ counted_rest sum words) ++ rest ≡ bytes_of (magic other ∷ counted_rest other_sum others) ++ more
       → (version ≡ other) × (words ≡ others) × (sum ≡ other_sum) × (rest ≡ more)
   same_counted other sum other_sum others more fits other_fits others_are same =
@@ -87,13 +87,13 @@ module _ (version : Version) (words rest : List ℕ) (are : AreWords words) wher
       (same_version version other behind.0, parts.0, last.0, last.1)
 
   -- the same bytes are those of the same counted words
-  pub same_all : (other : Version) (others more : List ℕ) → AreWords others → bytes_of (counted version words) ++ rest ≡ bytes_of (counted other others) ++ more
+  pub same_all : (other : FormatVersion) (others more : List ℕ) → AreWords others → bytes_of (counted version words) ++ rest ≡ bytes_of (counted other others) ++ more
       → (version ≡ other) × (words ≡ others) × (rest ≡ more)
   same_all other others more others_are same =
       let all = same_counted other (checksum_of words) (checksum_of others) others more (sum_fits (length words) words few) (sum_fits (length others) others others_are.few) others_are same in
       (all.0, all.1, all.3)
 
-  pub only_these : (other : Version) (others : List ℕ) (after : KnownBytes) → AreWords others → Consumes (Some (bytes_of (counted version words) ++ rest)) after (bytes_of (counted other others))
+  pub only_these : (other : FormatVersion) (others : List ℕ) (after : KnownBytes) → AreWords others → Consumes (Some (bytes_of (counted version words) ++ rest)) after (bytes_of (counted other others))
       → (other ≡ version) × (others ≡ words) × (after ≡ Some rest)
   only_these other others None others_are consumed = absurd consumed
   only_these other others (Some more) others_are consumed =
@@ -156,7 +156,7 @@ module _ (version : Version) (words rest : List ℕ) (are : AreWords words) wher
   no_fault after NoMemory meets = inr refl
 
 -- there are bytes
-pub some_bytes : (version : Version) (words rest : List ℕ) (after : KnownBytes) → ReadsToEnd (Some (bytes_of (counted version words) ++ rest)) after [] → ⊥
+pub some_bytes : (version : FormatVersion) (words rest : List ℕ) (after : KnownBytes) → ReadsToEnd (Some (bytes_of (counted version words) ++ rest)) after [] → ⊥
 some_bytes version words rest None only = absurd only.consumed
 some_bytes version words rest (Some more) only =
     let none : length (bytes_of (counted version words) ++ rest) ≡ 0 = ap length (only.consumed ∙ only.ended) in

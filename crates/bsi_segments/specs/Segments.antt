@@ -6,8 +6,8 @@ use Rattle.std.specs.List.{flat_map, range_with_len}
 use Rattle.std.specs.Io.KnownBytes.{Consumes, IsAtEnd}
 use Rattle.bsi_segments.specs.declared.fault.SegmentFault.{SegmentFault}
 use Rattle.bsi_segments.specs.declared.fault.SegmentFault.TheVariants.{CutShort, Damaged, NoMemory, NotASegment, OtherVersion, Read}
-use Rattle.bsi_segments.specs.declared.version.Version.{Version}
-use Rattle.bsi_segments.specs.declared.version.Version.TheVariants.{One, Two}
+use Rattle.bsi_segments.specs.declared.format_version.FormatVersion.{FormatVersion}
+use Rattle.bsi_segments.specs.declared.format_version.FormatVersion.TheVariants.{One, Two}
 use Rattle.bsi_syntax.specs.Bytes.{Bytes, KnownBytes}
 
 -- ---- bytes
@@ -50,7 +50,7 @@ abbrev pub signature : ℕ
 signature = 0x74_70_65_6b_69_73_62
 
 -- The first word of a segment: the bytes `bsikept`, and the version of the format.
-abbrev pub magic : Version → ℕ
+abbrev pub magic : FormatVersion → ℕ
 magic One = 0x01_74_70_65_6b_69_73_62
 magic Two = 0x02_74_70_65_6b_69_73_62
 
@@ -60,7 +60,7 @@ counted_rest sum words = length words ∷ words ++ sum ∷ []
 
 -- Counted words: the first word of a segment, the number of the words, these, and their checksum. In version 1 they are
 -- the whole segment, and the words are its body. In version 2 the words are its head, and its rows follow.
-abbrev pub counted : Version → List ℕ → List ℕ
+abbrev pub counted : FormatVersion → List ℕ → List ℕ
 counted version words = magic version ∷ counted_rest (checksum_of words) words
 
 -- ---- reading
@@ -102,7 +102,7 @@ IsForeign first = (first < 2 ^ 64) × (first % 2 ^ 56 ≢ signature)
 
 -- The first word of a segment of a version that is not known.
 abbrev pub IsOtherVersion : ℕ → Type 0
-IsOtherVersion first = (first < 2 ^ 64) × (first % 2 ^ 56 ≡ signature) × ((version : Version) → first ≢ magic version)
+IsOtherVersion first = (first < 2 ^ 64) × (first % 2 ^ 56 ≡ signature) × ((version : FormatVersion) → first ≢ magic version)
 
 -- A proper prefix of the first word of a segment.
 abbrev pub IsMagicPrefix : List ℕ → Type 0
@@ -167,7 +167,7 @@ MayBegin before after =
 -- A proper prefix of counted words, of at least one byte or of none.
 abbrev pub IsTruncated : List ℕ → Type 0
 IsTruncated bytes =
-    IsMagicPrefix bytes ⊎ ((version : Version) × (rest : List ℕ) × (bytes ≡ bytes_of (magic version ∷ []) ++ rest) × IsTruncatedRest rest)
+    IsMagicPrefix bytes ⊎ ((version : FormatVersion) × (rest : List ℕ) × (bytes ≡ bytes_of (magic version ∷ []) ++ rest) × IsTruncatedRest rest)
 
 -- The first fault in the bytes that a reader gave, from left to right.
 abbrev pub MeetsFault : KnownBytes → KnownBytes → SegmentFault → Type 0
@@ -177,6 +177,6 @@ MeetsFault before after NotASegment =
 MeetsFault before after OtherVersion = (first : ℕ) × IsOtherVersion first × Consumes before after (bytes_of (first ∷ []))
 MeetsFault before after CutShort = (bytes : Bytes) × (0 < length bytes) × IsTruncated bytes × ReadsToEnd before after bytes
 MeetsFault before after Damaged =
-    (version : Version) × (words : List ℕ) × (sum : ℕ) × IsDamaged words sum × Consumes before after (bytes_of (magic version ∷ counted_rest sum words))
+    (version : FormatVersion) × (words : List ℕ) × (sum : ℕ) × IsDamaged words sum × Consumes before after (bytes_of (magic version ∷ counted_rest sum words))
 MeetsFault before after Read = Unit {0}
 MeetsFault before after NoMemory = Unit {0}

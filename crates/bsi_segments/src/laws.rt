@@ -8,18 +8,18 @@ ghost use Rattle.bsi_segments.specs.Lanes.{lanes_of};
 ghost use Rattle.bsi_segments.specs.Schemas.{encoded_schema};
 ghost use Rattle.bsi_segments.specs.Segments.{bytes_of, checksum_of, counted, AreWords, MeetsFault, ReadsToEnd};
 ghost use Rattle.bsi_segments.specs.declared.fault.SegmentFault.{SegmentFault};
-ghost use Rattle.bsi_segments.specs.declared.version.Version.{Version};
+ghost use Rattle.bsi_segments.specs.declared.format_version.FormatVersion.{FormatVersion};
 
 /// States that from bytes that begin with counted words, these are read and no others, and that no fault is met but of
 /// the reader or of memory.
 pub fn counted_words_are_read()
-    ensures words { (version other : Version) → (words others rest : List ℕ) →
+    ensures words { (version other : FormatVersion) → (words others rest : List ℕ) →
         (after : Option (List ℕ)) → AreWords words → AreWords others →
         Consumes (Some (bytes_of (counted version words) ++ rest)) after (bytes_of (counted other others)) →
         (other ≡ version) × (others ≡ words) × (after ≡ Some rest) }
-    ensures some { (version : Version) → (words rest : List ℕ) → (after : Option (List ℕ)) →
+    ensures some { (version : FormatVersion) → (words rest : List ℕ) → (after : Option (List ℕ)) →
         ReadsToEnd (Some (bytes_of (counted version words) ++ rest)) after [] → ⊥ }
-    ensures fault { (version : Version) → (words rest : List ℕ) → (after : Option (List ℕ)) →
+    ensures fault { (version : FormatVersion) → (words rest : List ℕ) → (after : Option (List ℕ)) →
         (fault : SegmentFault) → AreWords words →
         MeetsFault (Some (bytes_of (counted version words) ++ rest)) after fault →
         (fault ≡ SegmentFault.Read) ⊎ (fault ≡ SegmentFault.NoMemory) }

@@ -6,12 +6,12 @@ mod bytes;
 mod checksums;
 mod columns;
 mod fault;
+mod format_version;
 mod laws;
 mod packed;
 mod reading;
 mod schemas;
 mod texts;
-mod version;
 mod words;
 mod writing;
 
@@ -20,6 +20,7 @@ pub use bsi_input::WriteFault;
 pub use bytes::{decode_bytes, encode_bytes};
 pub use checksums::{checksum, lanes_checksum};
 pub use fault::SegmentFault;
+pub use format_version::FormatVersion;
 pub use laws::{
     checksum_tells_one_changed_word, counted_words_are_read, lanes_tell_one_changed_word,
     schema_is_read,
@@ -28,5 +29,4 @@ pub use packed::{decode_bits, encode_bits};
 pub use reading::{CountedWords, may_begin, read_counted, read_words};
 pub use schemas::{decode_schema, encode_schema};
 pub use texts::{decode_text, encode_text};
-pub use version::Version;
 pub use writing::{write_counted, write_words};

@@ -3,12 +3,12 @@
 
 ghost use Rattle.std.specs.Prelude.{◌≡◌, ◌≢◌, ◌+◌, ◌*◌, ◌^◌, ◌<◌, ◌≤◌, ◌∷◌, [], true, false, length, take, IfErr, IfNone, IfOk, IfSome, OnOk};
 ghost use Rattle.std.specs.Io.KnownBytes.{Consumes, IsAtEnd};
-ghost use Rattle.bsi_segments.specs.declared.version.Version.{Version};
+ghost use Rattle.bsi_segments.specs.declared.format_version.FormatVersion.{FormatVersion};
 ghost use Rattle.bsi_segments.specs.Segments.{bytes_of, checksum_of, counted, counted_rest, magic, signature, AreWords, IsFirstWordFault, IsRestFault, IsShortWordFault, MayBegin, MeetsFault, ReadsToEnd, ReadsWords, FailsBefore, FailsInFirstWord};
 
 use crate::checksums::checksum;
 use crate::fault::SegmentFault;
-use crate::version::{SIGNATURE, Version, version_of};
+use crate::format_version::{FormatVersion, SIGNATURE, version_of};
 use crate::words::{decode_words, know_words, word_of};
 use crate::writing::CHUNK_WORDS;
 use std::alloc::Global;
@@ -18,7 +18,7 @@ use std::io::Read;
 #[derive(Debug, Drop)]
 pub struct CountedWords {
     /// The version of the segment's format.
-    pub version: Version,
+    pub version: FormatVersion,
     /// The body in version 1, the head in version 2.
     pub words: Vec<u64>,
 }
@@ -130,7 +130,7 @@ fn read_word<R: Read>(reader: &mut R) -> Result<u64, SegmentFault>
 
 /// Returns the fault of a first word that is of no version that is known.
 fn first_fault(first: u64) -> SegmentFault
-    requires { (version : Version) → first ≢ magic version }
+    requires { (version : FormatVersion) → first ≢ magic version }
     ensures { IsFirstWordFault first result }
 {
     if first % (1 << 56) == SIGNATURE {

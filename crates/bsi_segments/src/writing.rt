@@ -6,7 +6,7 @@ ghost use Rattle.bsi_input.specs.BufferedOutput.{AppendsPrefix};
 ghost use Rattle.bsi_segments.specs.Segments.{bytes_of, counted};
 
 use crate::checksums::checksum;
-use crate::version::{Version, first_word};
+use crate::format_version::{FormatVersion, first_word};
 use crate::words::encode_words;
 use bsi_input::{WriteFault, write_bytes};
 use std::io::Write;
@@ -37,7 +37,7 @@ pub fn write_words<W: Write>(writer: &mut W, words: &[u64]) -> Result<(), WriteF
 /// out is a prefix of that. It takes no memory.
 pub fn write_counted<W: Write>(
     writer: &mut W,
-    version: Version,
+    version: FormatVersion,
     words: &[u64],
 ) -> Result<(), WriteFault>
     ensures ok { OnOk result (Appends (W.contents writer.old) (W.contents writer.new)

@@ -12,8 +12,8 @@ use Rattle.bsi_pread.specs.Offsets.{known_from}
 use Rattle.bsi_rows.specs.Rows.{row_entries, FedRow}
 use Rattle.bsi_rows.specs.Table.{with_rows, AreFitting, Table}
 use Rattle.bsi_schema.specs.Columns.{fits, Declared}
-use Rattle.bsi_segments.specs.declared.version.Version.{Version}
-use Rattle.bsi_segments.specs.declared.version.Version.TheVariants.{One, Two}
+use Rattle.bsi_segments.specs.declared.format_version.FormatVersion.{FormatVersion}
+use Rattle.bsi_segments.specs.declared.format_version.FormatVersion.TheVariants.{One, Two}
 use Rattle.bsi_storage.specs.ChosenColumns.{BeginsAt, BeginsBy, IsHeadOf, SaysChosen}
 use Rattle.bsi_storage.specs.ChosenFiles.{parts_in, AreFileHeads, AreTwo, IsHeadAt, KeepsTable, SaysAllChosen}
 use Rattle.bsi_storage.specs.Decoding.{rows_word_count}
@@ -132,7 +132,7 @@ module _ (known : KnownBytes) (t : Table) (notes kinds : List ℕ) (keeps : Keep
     begins_two n two = subst (λ v. BeginsBy v known at (with_only t n.p.rows) n.p.notes kinds) two n.begins
 
     -- or where no segment of version 1 begins
-    not_one : (version : Version) (u : Table) (others : List ℕ) → BeginsBy version known at u others kinds → ((v : Table) → (next more : List ℕ) → BeginsBy One known at v next more → ⊥) → version ≡ Two
+    not_one : (version : FormatVersion) (u : Table) (others : List ℕ) → BeginsBy version known at u others kinds → ((v : Table) → (next more : List ℕ) → BeginsBy One known at v next more → ⊥) → version ≡ Two
     not_one One u others begins none = absurd (none u others kinds begins)
     not_one Two u others begins none = refl
 

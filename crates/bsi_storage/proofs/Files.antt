@@ -8,8 +8,8 @@ use Rattle.std.proofs.lemmas.List.Elements.{All-append, All-cons, All-nil}
 use Rattle.bsi_rows.specs.Rows.{FedRow}
 use Rattle.bsi_rows.specs.Table.{with_rows, Table}
 use Rattle.bsi_segments.specs.Segments.{bytes_of, counted, AreWords, MeetsFault, FailsBefore}
-use Rattle.bsi_segments.specs.declared.version.Version.{Version}
-use Rattle.bsi_segments.specs.declared.version.Version.TheVariants.{Two}
+use Rattle.bsi_segments.specs.declared.format_version.FormatVersion.{FormatVersion}
+use Rattle.bsi_segments.specs.declared.format_version.FormatVersion.TheVariants.{Two}
 use Rattle.bsi_segments.proofs.ChunkBytes.{only_more}
 use Rattle.bsi_segments.specs.declared.fault.SegmentFault.{SegmentFault}
 use Rattle.bsi_segments.specs.declared.fault.SegmentFault.TheVariants as segment_fault
@@ -43,7 +43,7 @@ consumes_more (Some us) (Some vs) (Some ws) xs ys first second =
 -- ---- what was read
 
 -- one segment is a file of its table
-pub first_saved : (version : Version) (t : Table) (notes kinds : List ℕ) → MayBeSaved version t notes kinds → IsFileOf (segment version t notes kinds) t notes kinds
+pub first_saved : (version : FormatVersion) (t : Table) (notes kinds : List ℕ) → MayBeSaved version t notes kinds → IsFileOf (segment version t notes kinds) t notes kinds
 first_saved version t notes kinds valid = record {
   before = [];
   last = part version t.rows notes;
@@ -54,7 +54,7 @@ first_saved version t notes kinds valid = record {
   within = valid.within;
 }
 
-pub first_read : (version : Version) (a b : KnownBytes) (t : Table) (notes kinds : List ℕ) (size : ℕ) → Consumes a b (segment version t notes kinds) → MayBeSaved version t notes kinds
+pub first_read : (version : FormatVersion) (a b : KnownBytes) (t : Table) (notes kinds : List ℕ) (size : ℕ) → Consumes a b (segment version t notes kinds) → MayBeSaved version t notes kinds
     → size ≡ length (segment version t notes kinds) → HasReadTable a b t notes kinds size
 first_read version a b t notes kinds size consumed valid is = record {
   bytes = segment version t notes kinds;
@@ -68,7 +68,7 @@ follows_as : (t more : Table) (kinds others : List ℕ) → AcceptsRowsOf t kind
 follows_as t more kinds others may = λ i. record { schema = may.schema i; feeders = may.feeders i; limit = may.limit i; rows = more.rows }
 
 -- and so do more segments
-module _ (version : Version) (bytes : List ℕ) (t more : Table) (notes next kinds others : List ℕ) (file : IsFileOf bytes t notes kinds) (valid : MayBeSaved version more next others)
+module _ (version : FormatVersion) (bytes : List ℕ) (t more : Table) (notes next kinds others : List ℕ) (file : IsFileOf bytes t notes kinds) (valid : MayBeSaved version more next others)
     (may : AcceptsRowsOf t kinds more others) where
   parts : List Part
   parts = file.before ++ file.last ∷ []
@@ -113,7 +113,7 @@ module _ (version : Version) (bytes : List ℕ) (t more : Table) (notes next kin
     within = omega (arith, may.within, length-append t.rows more.rows);
   }
 
-pub more_read : (version : Version) (a b c : KnownBytes) (t more : Table) (notes next kinds others : List ℕ) (size : ℕ) → HasReadTable a b t notes kinds size
+pub more_read : (version : FormatVersion) (a b c : KnownBytes) (t more : Table) (notes next kinds others : List ℕ) (size : ℕ) → HasReadTable a b t notes kinds size
     → Consumes b c (segment version more next others) → MayBeSaved version more next others → AcceptsRowsOf t kinds more others
     → (joined : Table) (whole : ℕ) → joined ≡ with_rows t more.rows → whole ≡ size + length (segment version more next others) → HasReadTable a c joined next kinds whole
 more_read version a b c t more notes next kinds others size read consumed valid may joined whole is long = subst (λ u. HasReadTable a c u next kinds whole) (sym is) (record {

@@ -8,8 +8,8 @@ use Rattle.bsi_schema.specs.Columns.{IsDeclared}
 use Rattle.bsi_table.proofs.Refusing.{not_refused, some_columns}
 use Rattle.bsi_segments.specs.Bytes.{text_words, AreBytes}
 use Rattle.bsi_segments.specs.Schemas.{encoded_schema}
-use Rattle.bsi_segments.specs.declared.version.Version.{Version}
-use Rattle.bsi_segments.specs.declared.version.Version.TheVariants.{One, Two}
+use Rattle.bsi_segments.specs.declared.format_version.FormatVersion.{FormatVersion}
+use Rattle.bsi_segments.specs.declared.format_version.FormatVersion.TheVariants.{One, Two}
 use Rattle.bsi_segments.proofs.Coding.{behind, same_schema, same_text}
 use Rattle.bsi_storage.specs.Saved.{most_kinds, rows_words, AreRows, MayBeSaved}
 use Rattle.bsi_storage.specs.Decoding.{front_words, kinds_words, AreSizes, AreTexts, HasRowsOf}
@@ -19,7 +19,7 @@ none_left [] few = refl
 none_left (byte ∷ text) few = absurd (omega (arith, few))
 
 -- words that begin with a text of kinds begin with no other
-pub same_kinds : (version : Version) (kinds others xs ys : List ℕ) → AreBytes kinds → AreBytes others → length kinds ≤ most_kinds version → length others ≤ most_kinds version
+pub same_kinds : (version : FormatVersion) (kinds others xs ys : List ℕ) → AreBytes kinds → AreBytes others → length kinds ≤ most_kinds version → length others ≤ most_kinds version
     → kinds_words version kinds xs ≡ kinds_words version others ys → (kinds ≡ others) × (xs ≡ ys)
 same_kinds One kinds others xs ys are others_are few others_few same = (none_left kinds few ∙ sym (none_left others others_few), same)
 same_kinds Two kinds others xs ys are others_are few others_few same = same_text kinds others xs ys are others_are same
@@ -34,7 +34,7 @@ pub record AreSameFronts (rows feeders limit : ℕ) (notes kinds : List ℕ) (sc
   pub schema_same : schema ≡ schema'
   pub behind_same : behind ≡ behind'
 
-module _ (version : Version) (rows feeders limit : ℕ) (notes kinds : List ℕ) (schema : Declared) (behind : List ℕ) (rows' feeders' limit' : ℕ) (notes' kinds' : List ℕ) (schema' : Declared) (behind' : List ℕ)
+module _ (version : FormatVersion) (rows feeders limit : ℕ) (notes kinds : List ℕ) (schema : Declared) (behind : List ℕ) (rows' feeders' limit' : ℕ) (notes' kinds' : List ℕ) (schema' : Declared) (behind' : List ℕ)
     (texts : AreTexts version notes kinds schema) (texts' : AreTexts version notes' kinds' schema')
     (same : front_words version rows feeders limit notes kinds schema behind ≡ front_words version rows' feeders' limit' notes' kinds' schema' behind') where
   by_notes : (notes ≡ notes') × (kinds_words version kinds (encoded_schema schema ++ behind) ≡ kinds_words version kinds' (encoded_schema schema' ++ behind'))
@@ -62,7 +62,7 @@ module _ (version : Version) (rows feeders limit : ℕ) (notes kinds : List ℕ)
   }
 
 -- the texts of what may be saved
-pub texts_of : (version : Version) (t : Table) (notes kinds : List ℕ) → MayBeSaved version t notes kinds → AreTexts version notes kinds t.schema
+pub texts_of : (version : FormatVersion) (t : Table) (notes kinds : List ℕ) → MayBeSaved version t notes kinds → AreTexts version notes kinds t.schema
 texts_of version t notes kinds valid = record {
   notes_are = valid.bytes;
   few = valid.few;
@@ -74,7 +74,7 @@ texts_of version t notes kinds valid = record {
 
 -- ---- decoding, word after word
 
-module _ (version : Version) (words : List ℕ) (t : Table) (notes kinds rest : List ℕ) (valid : MayBeSaved version t notes kinds)
+module _ (version : FormatVersion) (words : List ℕ) (t : Table) (notes kinds rest : List ℕ) (valid : MayBeSaved version t notes kinds)
     (is : words ≡ front_words version (length t.rows) t.feeders t.limit notes kinds t.schema rest) where
   pub after_sizes : take (length words - 3) (drop 3 words) ≡ text_words notes ++ kinds_words version kinds (encoded_schema t.schema ++ rest)
   after_sizes = behind 3 words ∙ ap (drop 3) is
@@ -92,13 +92,13 @@ module _ (version : Version) (words : List ℕ) (t : Table) (notes kinds rest : 
 
 -- what was decoded, as a table
 module _ (schema : Declared) (rows feeders limit : ℕ) (words : List ℕ) (t : Table) (holds : HasRowsOf schema rows feeders limit words t) where
-  pub front_of_table : (version : Version) (notes kinds behind : List ℕ) → front_words version rows feeders limit notes kinds schema behind ≡ front_words version (length t.rows) t.feeders t.limit notes kinds t.schema behind
+  pub front_of_table : (version : FormatVersion) (notes kinds behind : List ℕ) → front_words version rows feeders limit notes kinds schema behind ≡ front_words version (length t.rows) t.feeders t.limit notes kinds t.schema behind
   front_of_table version notes kinds behind = λ i. front_words version (sym holds.many i) (sym holds.feeders_are i) (sym holds.limit_is i) notes kinds (sym holds.schema_is i) behind
 
   pub rows_of_table : words ≡ rows_words t.schema t.feeders t.rows
   rows_of_table = holds.words_are ∙ (λ i. rows_words (sym holds.schema_is i) (sym holds.feeders_are i) t.rows)
 
-  pub may_be_saved : (version : Version) (notes kinds : List ℕ) → AreSizes rows feeders limit → AreTexts version notes kinds schema → MayBeSaved version t notes kinds
+  pub may_be_saved : (version : FormatVersion) (notes kinds : List ℕ) → AreSizes rows feeders limit → AreTexts version notes kinds schema → MayBeSaved version t notes kinds
   may_be_saved version notes kinds sizes texts = record {
     declared = subst IsDeclared (sym holds.schema_is) texts.declared;
     accepted = subst (λ s. index_refusal s t.limit ≡ None) (sym holds.schema_is)
@@ -113,7 +113,7 @@ module _ (schema : Declared) (rows feeders limit : ℕ) (words : List ℕ) (t : 
   }
 
 -- a table whose words begin so has these rows
-module _ (version : Version) (rows feeders limit : ℕ) (notes kinds : List ℕ) (schema : Declared) (behind' : List ℕ) (t : Table) (notes' kinds' rest : List ℕ)
+module _ (version : FormatVersion) (rows feeders limit : ℕ) (notes kinds : List ℕ) (schema : Declared) (behind' : List ℕ) (t : Table) (notes' kinds' rest : List ℕ)
     (texts : AreTexts version notes kinds schema) (valid : MayBeSaved version t notes' kinds')
     (same : front_words version rows feeders limit notes kinds schema behind' ≡ front_words version (length t.rows) t.feeders t.limit notes' kinds' t.schema rest) where
   pub fronts : AreSameFronts rows feeders limit notes kinds schema behind' (length t.rows) t.feeders t.limit notes' kinds' t.schema rest

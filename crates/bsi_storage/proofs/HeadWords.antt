@@ -13,8 +13,8 @@ use Rattle.bsi_segments.specs.Bytes.{packed_bytes, text_words}
 use Rattle.bsi_segments.specs.Lanes.{lanes_of}
 use Rattle.bsi_segments.specs.Schemas.{encoded_schema}
 use Rattle.bsi_segments.specs.Segments.{AreWords}
-use Rattle.bsi_segments.specs.declared.version.Version.{Version}
-use Rattle.bsi_segments.specs.declared.version.Version.TheVariants.{One, Two}
+use Rattle.bsi_segments.specs.declared.format_version.FormatVersion.{FormatVersion}
+use Rattle.bsi_segments.specs.declared.format_version.FormatVersion.TheVariants.{One, Two}
 use Rattle.bsi_segments.proofs.Chunks.{length-packed}
 use Rattle.bsi_segments.proofs.Lanes.{lanes_of-fits}
 use Rattle.bsi_storage.specs.Decoding.{HasEntries}
@@ -77,13 +77,13 @@ module _ (schema : Declared) (feeders : ℕ) (rows : List FedRow) (declared : Is
 are_words : (n : ℕ) (words : List ℕ) → n < 2 ^ 64 → Fit n words → AreWords words
 are_words n words small fit = record { each = fit.each; few = omega (arith, small, fit.few) }
 
-pub last_are : (version : Version) (t : Table) (notes kinds : List ℕ) → MayBeSaved version t notes kinds → AreWords (last_words version t)
+pub last_are : (version : FormatVersion) (t : Table) (notes kinds : List ℕ) → MayBeSaved version t notes kinds → AreWords (last_words version t)
 last_are One t notes kinds valid = are_words 0 [] (omega arith) none
 last_are Two t notes kinds valid =
     are_words (2 ^ 44 + 2 ^ 30) (rows_words t.schema t.feeders t.rows) (omega arith)
     (rows_fit t valid.declared valid.accepted valid.within valid.feeders.1 valid.rows)
 
-pub first_are : (version : Version) (t : Table) (notes kinds : List ℕ) → MayBeSaved version t notes kinds → AreWords (first_words version t notes kinds)
+pub first_are : (version : FormatVersion) (t : Table) (notes kinds : List ℕ) → MayBeSaved version t notes kinds → AreWords (first_words version t notes kinds)
 first_are One t notes kinds valid =
     let rows = rows_fit t valid.declared valid.accepted valid.within valid.feeders.1 valid.rows in
     let behind = both (2 ^ 34) (2 ^ 44 + 2 ^ 30) (encoded_schema t.schema) (rows_words t.schema t.feeders t.rows) (schema_fit t.schema valid.declared) rows in

@@ -6,8 +6,8 @@ use Rattle.std.proofs.lemmas.Grind.{flat_map-append}
 use Rattle.bsi_schema.specs.Columns.{Declared}
 use Rattle.bsi_rows.specs.Table.{Table}
 use Rattle.bsi_segments.specs.Segments.{bytes_of, checksum_of, counted, counted_rest, AreWords}
-use Rattle.bsi_segments.specs.declared.version.Version.{Version}
-use Rattle.bsi_segments.specs.declared.version.Version.TheVariants.{Two}
+use Rattle.bsi_segments.specs.declared.format_version.FormatVersion.{FormatVersion}
+use Rattle.bsi_segments.specs.declared.format_version.FormatVersion.TheVariants.{Two}
 use Rattle.bsi_segments.proofs.Unique.{same_words}
 use Rattle.bsi_storage.specs.Decoding.{front_words, rows_word_count, AreTexts}
 use Rattle.bsi_storage.specs.Faults.{ReadsNoTable}
@@ -22,9 +22,9 @@ use Rattle.bsi_storage.proofs.SegmentParts.{first_words, last_words}
 use Rattle.bsi_syntax.specs.Bytes.{KnownBytes}
 
 -- counted words that are the first ones of no segment
-module _ (version : Version) (words : List ℕ) (are : AreWords words)
+module _ (version : FormatVersion) (words : List ℕ) (are : AreWords words)
     (none : (t : Table) → (notes kinds : List ℕ) → MayBeSaved version t notes kinds → words ≡ first_words version t notes kinds → ⊥) where
-  none_begins : (any : Version) (t : Table) (notes kinds more rest : List ℕ) → MayBeSaved any t notes kinds → bytes_of (counted version words) ++ more ≡ segment any t notes kinds ++ rest → ⊥
+  none_begins : (any : FormatVersion) (t : Table) (notes kinds more rest : List ℕ) → MayBeSaved any t notes kinds → bytes_of (counted version words) ++ more ≡ segment any t notes kinds ++ rest → ⊥
   none_begins any t notes kinds more rest valid same =
       let begun = begun_as version words any t notes kinds are valid more rest same in
       none t notes kinds (subst (λ v. MayBeSaved v t notes kinds) (sym begun.0) valid) (subst (λ v. words ≡ first_words v t notes kinds) (sym begun.0) begun.1)
@@ -58,7 +58,7 @@ module _ (words : List ℕ) (are : AreWords words) (rows feeders limit : ℕ) (n
       none t others more_kinds valid first
       (same_words last (rows_words t.schema t.feeders t.rows) more rest last_are_words others_are long same).0
 
-  none_has_rows : (any : Version) (t : Table) (others more_kinds more rest : List ℕ) → MayBeSaved any t others more_kinds
+  none_has_rows : (any : FormatVersion) (t : Table) (others more_kinds more rest : List ℕ) → MayBeSaved any t others more_kinds
       → bytes_of (counted Two words ++ last) ++ more ≡ segment any t others more_kinds ++ rest → ⊥
   none_has_rows any t others more_kinds more rest valid same =
       let begun = begun_as Two words any t others more_kinds are valid (bytes_of last ++ more) rest (sym (whole more) ∙ same) in

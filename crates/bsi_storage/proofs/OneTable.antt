@@ -13,8 +13,8 @@ use Rattle.bsi_table.specs.Bitmaps.{bitmap_count, bitmaps_of}
 use Rattle.bsi_table.proofs.RowBitmaps.{same_rows}
 use Rattle.bsi_segments.specs.Bitmaps.{packed}
 use Rattle.bsi_segments.specs.Segments.{bytes_of, counted, magic, AreWords}
-use Rattle.bsi_segments.specs.declared.version.Version.{Version}
-use Rattle.bsi_segments.specs.declared.version.Version.TheVariants.{One, Two}
+use Rattle.bsi_segments.specs.declared.format_version.FormatVersion.{FormatVersion}
+use Rattle.bsi_segments.specs.declared.format_version.FormatVersion.TheVariants.{One, Two}
 use Rattle.bsi_segments.proofs.Padding.{same_bytes}
 use Rattle.bsi_segments.proofs.Unique.{same_all, same_words}
 use Rattle.bsi_storage.specs.Decoding.{front_words, rows_word_count}
@@ -99,7 +99,7 @@ module _ (schema : Declared) (feeders : ℕ) (xs ys : List FedRow) (declared : I
 -- ---- segments
 
 -- what begins so, and has the same rows, is one table with the same texts
-module _ (version : Version) (t u : Table) (notes others kinds more xs ys : List ℕ) (valid : MayBeSaved version t notes kinds) (other : MayBeSaved version u others more)
+module _ (version : FormatVersion) (t u : Table) (notes others kinds more xs ys : List ℕ) (valid : MayBeSaved version t notes kinds) (other : MayBeSaved version u others more)
     (same : front_words version (length t.rows) t.feeders t.limit notes kinds t.schema xs ≡ front_words version (length u.rows) u.feeders u.limit others more u.schema ys) where
   fronts : AreSameFronts (length t.rows) t.feeders t.limit notes kinds t.schema xs (length u.rows) u.feeders u.limit others more u.schema ys
   fronts =
@@ -129,7 +129,7 @@ module _ (version : Version) (t u : Table) (notes others kinds more xs ys : List
     )
 
 -- bytes that begin with counted words and with a segment
-module _ (version : Version) (words : List ℕ) (any : Version) (t : Table) (notes kinds : List ℕ) (are : AreWords words) (valid : MayBeSaved any t notes kinds) (more rest : List ℕ)
+module _ (version : FormatVersion) (words : List ℕ) (any : FormatVersion) (t : Table) (notes kinds : List ℕ) (are : AreWords words) (valid : MayBeSaved any t notes kinds) (more rest : List ℕ)
     (same : bytes_of (counted version words) ++ more ≡ segment any t notes kinds ++ rest) where
   pub begun_as : (version ≡ any) × (words ≡ first_words any t notes kinds) × (more ≡ bytes_of (last_words any t) ++ rest)
   begun_as =
@@ -137,14 +137,14 @@ module _ (version : Version) (words : List ℕ) (any : Version) (t : Table) (not
       (same ∙ parts_with any t notes kinds rest)
 
 -- two segments of one version with which the same bytes begin
-pub record AreSameSegments (version other : Version) (t u : Table) (notes others kinds more rest tail : List ℕ) : Type 0 where
+pub record AreSameSegments (version other : FormatVersion) (t u : Table) (notes others kinds more rest tail : List ℕ) : Type 0 where
   pub version_same : version ≡ other
   pub table_same : t ≡ u
   pub notes_same : notes ≡ others
   pub kinds_same : kinds ≡ more
   pub rest_same : rest ≡ tail
 
-same_by_version : (version other : Version) (t u : Table) (notes others kinds more rest tail : List ℕ) → MayBeSaved version t notes kinds → MayBeSaved other u others more
+same_by_version : (version other : FormatVersion) (t u : Table) (notes others kinds more rest tail : List ℕ) → MayBeSaved version t notes kinds → MayBeSaved other u others more
     → version ≡ other → first_words version t notes kinds ≡ first_words other u others more → bytes_of (last_words version t) ++ rest ≡ bytes_of (last_words other u) ++ tail
     → AreSameSegments version other t u notes others kinds more rest tail
 same_by_version One One t u notes others kinds more rest tail valid valid' is first last =
@@ -165,7 +165,7 @@ same_by_version Two Two t u notes others kinds more rest tail valid valid' is fi
     record { version_same = refl; table_same = content.0; notes_same = content.1; kinds_same = content.2; rest_same = words.1 }
 
 -- bytes that begin with two segments
-pub segment_same : (version other : Version) (t u : Table) (notes others kinds more rest tail : List ℕ) → MayBeSaved version t notes kinds → MayBeSaved other u others more
+pub segment_same : (version other : FormatVersion) (t u : Table) (notes others kinds more rest tail : List ℕ) → MayBeSaved version t notes kinds → MayBeSaved other u others more
     → segment version t notes kinds ++ rest ≡ segment other u others more ++ tail → AreSameSegments version other t u notes others kinds more rest tail
 segment_same version other t u notes others kinds more rest tail valid valid' same =
     let all = begun_as version (first_words version t notes kinds) other u others more (first_are version t notes kinds valid) valid' (bytes_of (last_words version t) ++ rest) tail
@@ -173,7 +173,7 @@ segment_same version other t u notes others kinds more rest tail valid valid' sa
     same_by_version version other t u notes others kinds more rest tail valid valid' all.0 all.1 all.2
 
 -- a segment has bytes
-pub some_bytes : (version : Version) (t : Table) (notes kinds : List ℕ) → 0 < length (segment version t notes kinds)
+pub some_bytes : (version : FormatVersion) (t : Table) (notes kinds : List ℕ) → 0 < length (segment version t notes kinds)
 some_bytes version t notes kinds = omega (arith, segment_long version t notes kinds)
 
 -- ---- files

@@ -11,8 +11,8 @@ use Rattle.bsi_rows.specs.Table.{with_rows, Table}
 use Rattle.bsi_segments.specs.Segments.{bytes_of, counted, magic, MeetsFault, ReadsToEnd}
 use Rattle.bsi_segments.specs.declared.fault.SegmentFault.{SegmentFault}
 use Rattle.bsi_segments.specs.declared.fault.SegmentFault.TheVariants as segment_fault
-use Rattle.bsi_segments.specs.declared.version.Version.{Version}
-use Rattle.bsi_segments.specs.declared.version.Version.TheVariants.{One, Two}
+use Rattle.bsi_segments.specs.declared.format_version.FormatVersion.{FormatVersion}
+use Rattle.bsi_segments.specs.declared.format_version.FormatVersion.TheVariants.{One, Two}
 use Rattle.bsi_segments.proofs.Cut as counted_cut
 use Rattle.bsi_segments.proofs.Eights.{length-bytes_of}
 use Rattle.bsi_segments.proofs.Unique.{no_fault}
@@ -40,7 +40,7 @@ all_read_bytes bytes all after consumed ended = sym (append-nil bytes) ∙ ap (�
 
 -- a segment whose head begins so has so many words of rows
 module _ (head : List ℕ) (rows feeders : ℕ) (schema : Declared) (front : IsFront Two head rows feeders schema) where
-  enough_rows : (v : Version) (t : Table) (notes kinds rest : List ℕ) → MayBeSaved v t notes kinds → Two ≡ v → head ≡ first_words v t notes kinds
+  enough_rows : (v : FormatVersion) (t : Table) (notes kinds rest : List ℕ) → MayBeSaved v t notes kinds → Two ≡ v → head ≡ first_words v t notes kinds
       → (last : List ℕ) → last ≡ bytes_of (last_words v t) ++ rest → length last < 8 * rows_word_count schema feeders rows → ⊥
   enough_rows One t notes kinds rest valid is first last last_is few = absurd (omega (arith, ap magic is))
   enough_rows Two t notes kinds rest valid is first last last_is few =
@@ -59,7 +59,7 @@ module _ (head : List ℕ) (rows feeders : ℕ) (schema : Declared) (front : IsF
 
 -- ---- where the segment of a table stands
 
-module _ (version : Version) (v : Table) (notes kinds rest : List ℕ) (valid : MayBeSaved version v notes kinds) where
+module _ (version : FormatVersion) (v : Table) (notes kinds rest : List ℕ) (valid : MayBeSaved version v notes kinds) where
   met_at : (after : KnownBytes) (fault : SegmentFault) → MeetsFault (Some (segment version v notes kinds ++ rest)) after fault → IsReadOrNoMemory (open_fault fault)
   met_at after fault met =
       not_about_bytes fault (no_fault version (first_words version v notes kinds) (bytes_of (last_words version v) ++ rest) (first_are version v notes kinds valid) after fault
@@ -122,7 +122,7 @@ module _ (cut : List ℕ) (is : IsCutSegment cut) where
       sym (append_assoc bytes more is.rest) ∙ ap (λ bs. bs ++ is.rest) (sym consumed) ∙ sym is.whole ∙ sym (append-nil (segment is.version is.table is.notes is.kinds))
 
   -- no table stands there
-  no_table : (version : Version) (v : Table) (notes kinds : List ℕ) (after : KnownBytes) → MayBeSaved version v notes kinds → Consumes (Some cut) after (segment version v notes kinds) → ⊥
+  no_table : (version : FormatVersion) (v : Table) (notes kinds : List ℕ) (after : KnownBytes) → MayBeSaved version v notes kinds → Consumes (Some cut) after (segment version v notes kinds) → ⊥
   no_table version v notes kinds None valid consumed = absurd consumed
   no_table version v notes kinds (Some more) valid consumed =
       let same = segment_same version is.version v is.table notes is.notes kinds is.kinds (more ++ is.rest) [] valid is.valid (whole_begins (segment version v notes kinds) more consumed) in

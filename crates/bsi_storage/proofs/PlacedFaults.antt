@@ -17,8 +17,8 @@ use Rattle.bsi_segments.specs.Lanes.{lanes_of}
 use Rattle.bsi_segments.specs.Segments.{bytes_of, counted, AreWords, EndsWithin, MeetsFault, FailsBefore}
 use Rattle.bsi_segments.specs.declared.fault.SegmentFault.{SegmentFault}
 use Rattle.bsi_segments.specs.declared.fault.SegmentFault.TheVariants.{CutShort, Damaged, NoMemory, NotASegment, OtherVersion, Read}
-use Rattle.bsi_segments.specs.declared.version.Version.{Version}
-use Rattle.bsi_segments.specs.declared.version.Version.TheVariants.{Two}
+use Rattle.bsi_segments.specs.declared.format_version.FormatVersion.{FormatVersion}
+use Rattle.bsi_segments.specs.declared.format_version.FormatVersion.TheVariants.{Two}
 use Rattle.bsi_segments.proofs.Chunks.{length-all, length-packed}
 use Rattle.bsi_segments.proofs.Eights.{length-bytes_of}
 use Rattle.bsi_segments.proofs.Unique.{no_fault}
@@ -42,7 +42,7 @@ use Rattle.bsi_syntax.specs.Bytes.{KnownBytes}
 
 -- ---- the head
 
-module _ (version : Version) (known : KnownBytes) (at : ℕ) (t : Table) (notes kinds : List ℕ) (begins : BeginsBy version known at t notes kinds)
+module _ (version : FormatVersion) (known : KnownBytes) (at : ℕ) (t : Table) (notes kinds : List ℕ) (begins : BeginsBy version known at t notes kinds)
     (seen after : KnownBytes) (from : ℕ) (same : seen ≡ known) (here : from ≡ at) where
   pub head_fault : (fault : SegmentFault) → MeetsFault (known_from from seen) after fault → IsReadOrNoMemory (open_fault fault)
   head_fault fault meets =

@@ -2,37 +2,37 @@
 use Rattle.std.proofs.Common.{◌≡◌, ℕ, ◌+◌, ◌*◌, List, [], ◌∷◌, ◌++◌, length, refl, sym, ap, ap₂, ◌∙◌, arith, length-append, append_assoc, append-nil}
 use Rattle.bsi_rows.specs.Table.{Table}
 use Rattle.bsi_segments.specs.Segments.{bytes_of, checksum_of, counted}
-use Rattle.bsi_segments.specs.declared.version.Version.{Version}
-use Rattle.bsi_segments.specs.declared.version.Version.TheVariants.{One, Two}
+use Rattle.bsi_segments.specs.declared.format_version.FormatVersion.{FormatVersion}
+use Rattle.bsi_segments.specs.declared.format_version.FormatVersion.TheVariants.{One, Two}
 use Rattle.bsi_segments.proofs.Eights.{length-bytes_of}
 use Rattle.bsi_storage.specs.Heads.{head}
 use Rattle.bsi_storage.specs.Saved.{body, segment_with_head, rows_words, segment, table_segment}
 
 -- the words that are counted
-abbrev pub first_words : Version → Table → List ℕ → List ℕ → List ℕ
+abbrev pub first_words : FormatVersion → Table → List ℕ → List ℕ → List ℕ
 first_words One t notes kinds = body t notes
 first_words Two t notes kinds = head t notes kinds
 
 -- the words after them
-abbrev pub last_words : Version → Table → List ℕ
+abbrev pub last_words : FormatVersion → Table → List ℕ
 last_words One t = []
 last_words Two t = rows_words t.schema t.feeders t.rows
 
-pub parts : (version : Version) (t : Table) (notes kinds : List ℕ) → segment version t notes kinds ≡ bytes_of (counted version (first_words version t notes kinds)) ++ bytes_of (last_words version t)
+pub parts : (version : FormatVersion) (t : Table) (notes kinds : List ℕ) → segment version t notes kinds ≡ bytes_of (counted version (first_words version t notes kinds)) ++ bytes_of (last_words version t)
 unfolding table_segment segment_with_head
 parts One t notes kinds = sym (append-nil (bytes_of (counted One (body t notes))))
 parts Two t notes kinds = refl
 
-pub parts_with : (version : Version) (t : Table) (notes kinds rest : List ℕ)
+pub parts_with : (version : FormatVersion) (t : Table) (notes kinds rest : List ℕ)
     → segment version t notes kinds ++ rest ≡ bytes_of (counted version (first_words version t notes kinds)) ++ (bytes_of (last_words version t) ++ rest)
 parts_with version t notes kinds rest =
     ap (λ bs. bs ++ rest) (parts version t notes kinds)
     ∙ append_assoc (bytes_of (counted version (first_words version t notes kinds))) (bytes_of (last_words version t)) rest
 
-counted_long : (version : Version) (words : List ℕ) → length (bytes_of (counted version words)) ≡ 8 * (length words + 3)
+counted_long : (version : FormatVersion) (words : List ℕ) → length (bytes_of (counted version words)) ≡ 8 * (length words + 3)
 counted_long version words = omega (arith, length-bytes_of (counted version words), length-append words (checksum_of words ∷ []))
 
-pub segment_long : (version : Version) (t : Table) (notes kinds : List ℕ) → length (segment version t notes kinds) ≡ 8 * (length (first_words version t notes kinds) + 3 + length (last_words version t))
+pub segment_long : (version : FormatVersion) (t : Table) (notes kinds : List ℕ) → length (segment version t notes kinds) ≡ 8 * (length (first_words version t notes kinds) + 3 + length (last_words version t))
 segment_long version t notes kinds =
     omega (
       arith,

@@ -9,8 +9,8 @@ use Rattle.bsi_rows.specs.Table.{Table}
 use Rattle.bsi_schema.specs.Columns.{column_at, Declared}
 use Rattle.bsi_segments.specs.Bitmaps.{packed}
 use Rattle.bsi_segments.specs.Lanes.{lanes_of}
-use Rattle.bsi_segments.specs.declared.version.Version.{Version}
-use Rattle.bsi_segments.specs.declared.version.Version.TheVariants.{Two}
+use Rattle.bsi_segments.specs.declared.format_version.FormatVersion.{FormatVersion}
+use Rattle.bsi_segments.specs.declared.format_version.FormatVersion.TheVariants.{Two}
 use Rattle.bsi_shift.specs.Shifted.{shifted_entries, OffsetColumn}
 use Rattle.bsi_table.specs.Bitmaps.{bitmap_count, bitmaps_of, entries_bitmaps}
 use Rattle.bsi_table.specs.Encoded.{encoded_at, Encodes}
@@ -21,7 +21,7 @@ use Rattle.bsi_storage.specs.declared.segment_head.SegmentHead.{SegmentHead}
 use Rattle.bsi_syntax.specs.Bytes.{Bytes, KnownBytes}
 
 -- The bytes from a position on begin with the segment of some version of a table.
-pub record BeginsBy (version : Version) (known : KnownBytes) (at : ℕ) (t : Table) (notes kinds : Bytes) : Type 0 where
+pub record BeginsBy (version : FormatVersion) (known : KnownBytes) (at : ℕ) (t : Table) (notes kinds : Bytes) : Type 0 where
   -- An index may have this table, with these notes and this text of kinds.
   pub valid : MayBeSaved version t notes kinds
   -- The bytes after the segment.

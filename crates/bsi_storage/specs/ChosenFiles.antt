@@ -5,7 +5,7 @@ use Rattle.std.specs.List.{flat_map, AllZip}
 use Rattle.bsi_rows.specs.Rows.{FedRow}
 use Rattle.bsi_rows.specs.Table.{Table}
 use Rattle.bsi_schema.specs.Columns.{Declared}
-use Rattle.bsi_segments.specs.declared.version.Version.TheVariants.{Two}
+use Rattle.bsi_segments.specs.declared.format_version.FormatVersion.TheVariants.{Two}
 use Rattle.bsi_storage.specs.ChosenColumns.{BeginsAt, IsHeadOf, SaysChosen}
 use Rattle.bsi_storage.specs.Decoding.{AreSizes}
 use Rattle.bsi_storage.specs.Saved.{with_only, IsFileOf, Part}

@@ -11,8 +11,8 @@ use Rattle.bsi_table.specs.Encoded.{encoded_at}
 use Rattle.bsi_segments.specs.Bitmaps.{packed}
 use Rattle.bsi_segments.specs.Bytes.{text_words, AreBytes}
 use Rattle.bsi_segments.specs.Schemas.{encoded_schema}
-use Rattle.bsi_segments.specs.declared.version.Version.{Version}
-use Rattle.bsi_segments.specs.declared.version.Version.TheVariants.{One, Two}
+use Rattle.bsi_segments.specs.declared.format_version.FormatVersion.{FormatVersion}
+use Rattle.bsi_segments.specs.declared.format_version.FormatVersion.TheVariants.{One, Two}
 use Rattle.bsi_storage.specs.Saved.{most_kinds, most_notes, rows_words, AreRows}
 use Rattle.bsi_syntax.specs.Bytes.{Bytes}
 
@@ -22,18 +22,18 @@ pub record AreSizes (rows feeders limit : ℕ) : Type 0 where
   pub limit_is : (1 ≤ limit) × (limit ≤ max_rows)
   pub within : rows ≤ limit
 
--- The words of a text of kinds, and those behind it. Version 1 has no such text.
-abbrev pub kinds_words : Version → Bytes → List ℕ → List ℕ
+-- The words of a text of kinds, and those behind it. FormatVersion 1 has no such text.
+abbrev pub kinds_words : FormatVersion → Bytes → List ℕ → List ℕ
 kinds_words One kinds behind = behind
 kinds_words Two kinds behind = text_words kinds ++ behind
 
 -- With what a body or a head begins: the sizes, the notes, in version 2 the kinds, and the schema; and the words behind.
-abbrev pub front_words : Version → ℕ → ℕ → ℕ → Bytes → Bytes → Declared → List ℕ → List ℕ
+abbrev pub front_words : FormatVersion → ℕ → ℕ → ℕ → Bytes → Bytes → Declared → List ℕ → List ℕ
 front_words version rows feeders limit notes kinds schema behind =
     rows ∷ feeders ∷ limit ∷ text_words notes ++ kinds_words version kinds (encoded_schema schema ++ behind)
 
 -- Notes, a text of kinds and a schema that a segment of a version may have.
-pub record AreTexts (version : Version) (notes kinds : Bytes) (schema : Declared) : Type 0 where
+pub record AreTexts (version : FormatVersion) (notes kinds : Bytes) (schema : Declared) : Type 0 where
   pub notes_are : AreBytes notes
   pub few : length notes ≤ most_notes version
   pub kinds_are : AreBytes kinds
@@ -42,7 +42,7 @@ pub record AreTexts (version : Version) (notes kinds : Bytes) (schema : Declared
   pub some : 0 < length schema.columns
 
 -- A body or a head begins with these numbers of rows and feeders, and has this schema.
-pub record IsFront (version : Version) (words : List ℕ) (rows feeders : ℕ) (schema : Declared) : Type 0 where
+pub record IsFront (version : FormatVersion) (words : List ℕ) (rows feeders : ℕ) (schema : Declared) : Type 0 where
   pub limit : ℕ
   pub notes : Bytes
   pub kinds : Bytes

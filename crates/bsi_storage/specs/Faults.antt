@@ -6,8 +6,8 @@ use Rattle.bsi_rows.specs.Table.{Table}
 use Rattle.bsi_segments.specs.Segments.{bytes_of, counted, magic, AreWords, MeetsFault, ReadsToEnd}
 use Rattle.bsi_segments.specs.declared.fault.SegmentFault.{SegmentFault}
 use Rattle.bsi_segments.specs.declared.fault.SegmentFault.TheVariants as segment_fault
-use Rattle.bsi_segments.specs.declared.version.Version.{Version}
-use Rattle.bsi_segments.specs.declared.version.Version.TheVariants.{Two}
+use Rattle.bsi_segments.specs.declared.format_version.FormatVersion.{FormatVersion}
+use Rattle.bsi_segments.specs.declared.format_version.FormatVersion.TheVariants.{Two}
 use Rattle.bsi_storage.specs.Decoding.{rows_word_count, IsFront}
 use Rattle.bsi_storage.specs.Saved.{segment, IsFileOf, MayBeSaved}
 use Rattle.bsi_storage.specs.declared.fault.OpenFault.{OpenFault}
@@ -26,13 +26,13 @@ open_fault segment_fault.NoMemory = NoMemory
 -- The first words of a segment were read, and perhaps more, but bytes that begin so begin with the segment of no table.
 pub record ReadsNoTable (before after : KnownBytes) : Type 0 where
   -- The version of the segment.
-  pub version : Version
+  pub version : FormatVersion
   -- The words that were read after the first one.
   pub words : List ℕ
   -- The reader gave exactly the bytes of these words.
   pub consumed : Consumes before after (bytes_of (magic version ∷ words))
   -- Whatever follows these bytes, and whatever follows a segment that may be saved, they differ.
-  pub none : (any : Version) → (t : Table) → (notes kinds more rest : Bytes) → MayBeSaved any t notes kinds
+  pub none : (any : FormatVersion) → (t : Table) → (notes kinds more rest : Bytes) → MayBeSaved any t notes kinds
       → bytes_of (magic version ∷ words) ++ more ≡ segment any t notes kinds ++ rest → ⊥
 
 -- The reader has ended within the rows of a segment of version 2.
@@ -57,7 +57,7 @@ pub record EndsInRows (before after : KnownBytes) : Type 0 where
 -- A segment was read of another table than is expected, or with another text of kinds.
 pub record ReadsOtherTable (Is : Table → Bytes → Type 0) (before after : KnownBytes) : Type 0 where
   -- The version of the segment.
-  pub version : Version
+  pub version : FormatVersion
   -- The table of the segment.
   pub other : Table
   -- The notes of the segment.

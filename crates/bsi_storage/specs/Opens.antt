@@ -2,7 +2,7 @@
 use Rattle.std.specs.Prelude.{◌≡◌, ◌⊎◌, ℕ, ◌<◌, List, [], ◌∷◌, ◌++◌, Option, Some, None, length}
 use Rattle.bsi_rows.specs.Rows.{FedRow}
 use Rattle.bsi_rows.specs.Table.{with_rows, Table}
-use Rattle.bsi_segments.specs.declared.version.Version.{Version}
+use Rattle.bsi_segments.specs.declared.format_version.FormatVersion.{FormatVersion}
 use Rattle.bsi_storage.specs.Faults.{AcceptsRowsOf}
 use Rattle.bsi_storage.specs.Saved.{segment, IsFileOf, MayBeSaved}
 use Rattle.bsi_storage.specs.declared.fault.OpenFault.{OpenFault}
@@ -12,7 +12,7 @@ use Rattle.bsi_syntax.specs.Bytes.{Bytes}
 -- A proper prefix of the segment of some table.
 pub record IsCutSegment (cut : List ℕ) : Type 0 where
   -- The version of the whole segment.
-  pub version : Version
+  pub version : FormatVersion
   -- The table of the whole segment.
   pub table : Table
   -- The notes of the whole segment.
@@ -45,7 +45,7 @@ first_cut_fault (byte ∷ bytes) = CutShort
 -- The bytes do not begin with a segment whose rows the table accepts.
 abbrev pub HasNoNextSegment : Table → Bytes → Bytes → Type 0
 HasNoNextSegment t kinds tail =
-    (version : Version) → (more : Table) → (notes others rest : Bytes) → MayBeSaved version more notes others
+    (version : FormatVersion) → (more : Table) → (notes others rest : Bytes) → MayBeSaved version more notes others
     → AcceptsRowsOf t kinds more others → tail ≡ segment version more notes others ++ rest → ⊥
 
 -- The whole table was opened, with its notes and size, and an end that satisfies `Ends`; or a prefix of its rows, because

@@ -10,8 +10,8 @@ use Rattle.bsi_segments.specs.Bitmaps.{packed}
 use Rattle.bsi_segments.specs.Bytes.{packed_bytes, text_words, AreBytes}
 use Rattle.bsi_segments.specs.Schemas.{encoded_schema}
 use Rattle.bsi_segments.specs.Segments.{bytes_of, counted}
-use Rattle.bsi_segments.specs.declared.version.Version.{Version}
-use Rattle.bsi_segments.specs.declared.version.Version.TheVariants.{One, Two}
+use Rattle.bsi_segments.specs.declared.format_version.FormatVersion.{FormatVersion}
+use Rattle.bsi_segments.specs.declared.format_version.FormatVersion.TheVariants.{One, Two}
 use Rattle.bsi_storage.specs.Heads.{head}
 use Rattle.bsi_syntax.specs.Bytes.{Bytes}
 
@@ -24,12 +24,12 @@ abbrev pub max_kinds : ℕ
 max_kinds = 2 ^ 26
 
 -- The most bytes of notes in a segment of a version.
-abbrev pub most_notes : Version → ℕ
+abbrev pub most_notes : FormatVersion → ℕ
 most_notes One = 2 ^ 16
 most_notes Two = max_notes
 
--- The most bytes of a text of kinds in a segment of a version. Version 1 has no such text.
-abbrev pub most_kinds : Version → ℕ
+-- The most bytes of a text of kinds in a segment of a version. FormatVersion 1 has no such text.
+abbrev pub most_kinds : FormatVersion → ℕ
 most_kinds One = 0
 most_kinds Two = max_kinds
 
@@ -62,7 +62,7 @@ segment_with_head t notes kinds =
     bytes_of (counted Two (head t notes kinds)) ++ bytes_of (rows_words t.schema t.feeders t.rows)
 
 -- The bytes of a table's segment.
-abbrev pub segment : Version → Table → Bytes → Bytes → Bytes
+abbrev pub segment : FormatVersion → Table → Bytes → Bytes → Bytes
 segment One t notes kinds = table_segment t notes
 segment Two t notes kinds = segment_with_head t notes kinds
 
@@ -72,7 +72,7 @@ pub record AreRows (schema : Declared) (feeders : ℕ) (rows : List FedRow) : Ty
   pub from : AreFrom feeders rows
 
 -- A table that an index may have, and notes and a text of kinds that may be saved with it in a segment of a version.
-pub record MayBeSaved (version : Version) (t : Table) (notes kinds : Bytes) : Type 0 where
+pub record MayBeSaved (version : FormatVersion) (t : Table) (notes kinds : Bytes) : Type 0 where
   -- Each column of the schema may be declared after those before.
   pub declared : IsDeclared t.schema
   -- There is at least one column, and the limit is from 1 to 2^32.
@@ -94,11 +94,11 @@ pub record MayBeSaved (version : Version) (t : Table) (notes kinds : Bytes) : Ty
 
 -- A part of the file: the version, the rows and the notes of one segment.
 pub record Part : Type 0 where
-  pub version : Version
+  pub version : FormatVersion
   pub rows : List FedRow
   pub notes : Bytes
 
-abbrev pub part : Version → List FedRow → Bytes → Part
+abbrev pub part : FormatVersion → List FedRow → Bytes → Part
 part version rows notes = record { version = version; rows = rows; notes = notes }
 
 -- The table with these rows in place of its own.

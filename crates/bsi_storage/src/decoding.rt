@@ -20,7 +20,7 @@ use crate::NoMemory;
 use crate::fronts::{Front, Sizes, decode_front};
 use crate::heads::encode_head;
 use bsi_origins::Origins;
-use bsi_segments::{Version, decode_bitmaps, decode_bytes};
+use bsi_segments::{FormatVersion, decode_bitmaps, decode_bytes};
 use bsi_shift::Shifted;
 use bsi_table::{Index, Schema, column_from_bitmaps, count_bitmaps};
 use std::alloc::Global;
@@ -28,7 +28,7 @@ use std::alloc::Global;
 /// The content of a segment: an index, notes and a text of kinds.
 #[derive(Drop)]
 pub(crate) struct Part {
-    pub(crate) version: Version,
+    pub(crate) version: FormatVersion,
     pub(crate) index: Index,
     pub(crate) notes: Vec<u8>,
     pub(crate) kinds: Vec<u8>,
@@ -38,13 +38,13 @@ pub(crate) struct Part {
 pub(crate) fn decode_body(alloc: Global, words: &[u64]) -> Result<Option<Part>, NoMemory>
     ensures made { IfOk result (λ decoded. IfSome decoded (λ part.
         words.now ≡ body (table_of part.index) part.notes.items)) }
-    ensures version { IfOk result (λ decoded. IfSome decoded (λ part. part.version ≡ Version.One)) }
+    ensures version { IfOk result (λ decoded. IfSome decoded (λ part. part.version ≡ FormatVersion.One)) }
     ensures valid { IfOk result (λ decoded. IfSome decoded (λ part.
-        MayBeSaved Version.One (table_of part.index) part.notes.items part.kinds.items)) }
+        MayBeSaved FormatVersion.One (table_of part.index) part.notes.items part.kinds.items)) }
     ensures none { IfOk result (λ decoded. IfNone decoded ((t : Table) → (notes kinds : List ℕ) →
-        MayBeSaved Version.One t notes kinds → words.now ≡ body t notes → ⊥)) }
+        MayBeSaved FormatVersion.One t notes kinds → words.now ≡ body t notes → ⊥)) }
 {
-    let version = Version::One;
+    let version = FormatVersion::One;
     let Some((front, rest)) = decode_front(alloc, version, words)? else {
         return Ok(None);
     };
@@ -74,19 +74,19 @@ pub(crate) fn decode_headed(
     rows: &[u64],
 ) -> Result<Option<Part>, NoMemory>
     requires front { (behind : List ℕ) × (first.now
-        ≡ front_words Version.Two front.sizes.rows front.sizes.feeders front.sizes.limit
+        ≡ front_words FormatVersion.Two front.sizes.rows front.sizes.feeders front.sizes.limit
         front.notes.items front.kinds.items front.schema behind) }
     requires sizes { AreSizes front.sizes.rows front.sizes.feeders front.sizes.limit }
-    requires texts { AreTexts Version.Two front.notes.items front.kinds.items front.schema }
+    requires texts { AreTexts FormatVersion.Two front.notes.items front.kinds.items front.schema }
     ensures made { IfOk result (λ decoded. IfSome decoded (λ part. first.now
         ≡ head (table_of part.index) part.notes.items part.kinds.items)) }
     ensures rows { IfOk result (λ decoded. IfSome decoded (λ part. rows.now
         ≡ rows_words part.index.schema part.index.feeders part.index.rows)) }
-    ensures version { IfOk result (λ decoded. IfSome decoded (λ part. part.version ≡ Version.Two)) }
+    ensures version { IfOk result (λ decoded. IfSome decoded (λ part. part.version ≡ FormatVersion.Two)) }
     ensures valid { IfOk result (λ decoded. IfSome decoded (λ part.
-        MayBeSaved Version.Two (table_of part.index) part.notes.items part.kinds.items)) }
+        MayBeSaved FormatVersion.Two (table_of part.index) part.notes.items part.kinds.items)) }
     ensures none { IfOk result (λ decoded. IfNone decoded ((t : Table) → (notes kinds : List ℕ) →
-        MayBeSaved Version.Two t notes kinds → first.now ≡ head t notes kinds →
+        MayBeSaved FormatVersion.Two t notes kinds → first.now ≡ head t notes kinds →
         rows.now ≡ rows_words t.schema t.feeders t.rows → ⊥)) }
     ensures fit { AreWords rows.now }
 {
@@ -104,7 +104,7 @@ pub(crate) fn decode_headed(
         return Ok(None);
     }
     Ok(Some(Part {
-        version: Version::Two,
+        version: FormatVersion::Two,
         index,
         notes,
         kinds,

@@ -9,7 +9,7 @@ ghost use Rattle.bsi_storage.specs.Decoding.{bitmaps_in, feeder_word_count, fron
 
 use crate::NoMemory;
 use crate::writing::{MAX_KINDS, MAX_NOTES};
-use bsi_segments::{Version, decode_schema, decode_text};
+use bsi_segments::{FormatVersion, decode_schema, decode_text};
 use bsi_table::{MAX_FEEDERS, MAX_ROWS, Schema, count_bitmaps};
 use std::alloc::Global;
 
@@ -37,7 +37,7 @@ pub(crate) struct Front {
 /// this version begins so. A false length takes no memory.
 pub(crate) fn decode_front<'a>(
     alloc: Global,
-    version: Version,
+    version: FormatVersion,
     words: &'a [u64],
 ) -> Result<Option<(Front, &'a [u64])>, NoMemory>
     ensures made { IfOk result (λ decoded. IfSome decoded (λ pair. words.now
@@ -97,20 +97,20 @@ fn read_sizes(rows: u64, feeders: u64, limit: u64) -> Option<Sizes>
 }
 
 /// Returns the most bytes of notes in a segment of a version.
-fn most_notes(version: Version) -> usize
+fn most_notes(version: FormatVersion) -> usize
     ensures { result ≡ most_notes version }
 {
     match version {
-        Version::One => MAX_NOTES_ONE,
-        Version::Two => MAX_NOTES,
+        FormatVersion::One => MAX_NOTES_ONE,
+        FormatVersion::Two => MAX_NOTES,
     }
 }
 
 /// Makes the text of kinds that comes first in a segment of version 2, and lends the words after it; or none if there is
-/// no such text. Version 1 has none, so no byte.
+/// no such text. FormatVersion 1 has none, so no byte.
 fn decode_kinds<'a>(
     alloc: Global,
-    version: Version,
+    version: FormatVersion,
     words: &'a [u64],
 ) -> Result<Option<(Vec<u8>, &'a [u64])>, NoMemory>
     ensures made { IfOk result (λ decoded. IfSome decoded (λ pair.
@@ -122,8 +122,8 @@ fn decode_kinds<'a>(
         length text ≤ most_kinds version → words.now ≡ kinds_words version text rest → ⊥)) }
 {
     match version {
-        Version::One => Ok(Some((Vec::new(alloc), words))),
-        Version::Two => decode_short_text(alloc, words, MAX_KINDS),
+        FormatVersion::One => Ok(Some((Vec::new(alloc), words))),
+        FormatVersion::Two => decode_short_text(alloc, words, MAX_KINDS),
     }
 }
 

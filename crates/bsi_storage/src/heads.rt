@@ -14,7 +14,7 @@ ghost use Rattle.bsi_storage.specs.Heads.{column_head, column_heads, head, numbe
 ghost use Rattle.bsi_storage.specs.Saved.{feeder_words, max_kinds, max_notes, rows_words, MayBeSaved};
 
 use crate::NoMemory;
-use bsi_segments::{Version, encode_schema, encode_text, lanes_checksum};
+use bsi_segments::{FormatVersion, encode_schema, encode_text, lanes_checksum};
 use bsi_shift::Shifted;
 use bsi_table::{Index, count_bitmaps};
 use std::alloc::Global;
@@ -34,7 +34,7 @@ pub(crate) fn encode_head(
     ensures head { IfOk result (λ words. words.items
         ≡ head (table_of index.now) notes.now kinds.now) }
     ensures valid { OnOk result
-        (MayBeSaved Version.Two (table_of index.now) notes.now kinds.now) }
+        (MayBeSaved FormatVersion.Two (table_of index.now) notes.now kinds.now) }
 {
     // Its clause says that the schema is one that was declared.
     let _ = index.schema().limits();

@@ -2,7 +2,7 @@
 
 ghost use Rattle.std.specs.Prelude.{◌≡◌, ◌⊎◌, ◌<◌, ◌++◌, ℕ, List, None, Option, Some, length};
 ghost use Rattle.bsi_rows.specs.Table.{with_rows, Table};
-ghost use Rattle.bsi_segments.specs.declared.version.Version.{Version};
+ghost use Rattle.bsi_segments.specs.declared.format_version.FormatVersion.{FormatVersion};
 ghost use Rattle.bsi_storage.specs.Faults.{AcceptsRowsOf, EndsBy, IsFirstSegmentFault, IsOpened};
 ghost use Rattle.bsi_storage.specs.Opens.{cut_fault, first_cut_fault, HasNoNextSegment, IsCutFile, IsCutSegment, IsReadOrNoMemory, IsOpenedOf};
 ghost use Rattle.bsi_storage.specs.Saved.{segment, IsFileOf, MayBeSaved};
@@ -58,9 +58,9 @@ pub fn a_cut_segment_is_not_opened()
 /// States that a segment is a file of its table, and that a further one after the file of a table adds its rows, and
 /// that its notes count. The two may be of different versions.
 pub fn a_further_segment_adds_rows()
-    ensures first { (version : Version) → (t : Table) → (notes kinds : List ℕ) →
+    ensures first { (version : FormatVersion) → (t : Table) → (notes kinds : List ℕ) →
         MayBeSaved version t notes kinds → IsFileOf (segment version t notes kinds) t notes kinds }
-    ensures further { (version : Version) → (bytes : List ℕ) → (t more : Table) →
+    ensures further { (version : FormatVersion) → (bytes : List ℕ) → (t more : Table) →
         (notes others kinds same : List ℕ) → IsFileOf bytes t notes kinds →
         MayBeSaved version more others same → AcceptsRowsOf t kinds more same →
         IsFileOf (bytes ++ segment version more others same) (with_rows t more.rows) others kinds }

@@ -16,7 +16,7 @@ mod rows;
 mod segment_head;
 mod writing;
 
-pub use bsi_segments::{Version, may_begin};
+pub use bsi_segments::{FormatVersion, may_begin};
 pub use bsi_table::NoMemory;
 pub use fault::{OpenFault, SaveFault};
 pub use file_heads::{FileHeads, read_heads};

@@ -10,7 +10,7 @@ ghost use Rattle.bsi_storage.specs.Saved.{segment, MayBeSaved};
 use crate::decoding::{Part, decode_body, decode_headed};
 use crate::fronts::{count_row_words, decode_front};
 use crate::{NoMemory, OpenFault};
-use bsi_segments::{CountedWords, Version, read_counted, read_words};
+use bsi_segments::{CountedWords, FormatVersion, read_counted, read_words};
 use bsi_table::{AppendError, Index};
 use std::alloc::Global;
 use std::io::Read;
@@ -211,22 +211,22 @@ fn read_behind<R: Read>(
         IsNextSegmentFault IsAny before (R.remaining reader.new) fault) }
 {
     match first.version {
-        Version::One => read_body(alloc, &first.words),
-        Version::Two => read_rows(alloc, reader, &first.words),
+        FormatVersion::One => read_body(alloc, &first.words),
+        FormatVersion::Two => read_rows(alloc, reader, &first.words),
     }
 }
 
 /// Decodes the body of a segment of version 1.
 fn read_body(alloc: Global, words: &[u64]) -> Result<SegmentRead, OpenFault>
     requires fit { AreWords words.now }
-    ensures read { IfOk result (λ read. bytes_of (counted Version.One words.now)
+    ensures read { IfOk result (λ read. bytes_of (counted FormatVersion.One words.now)
         ≡ segment read.part.version (table_of read.part.index) read.part.notes.items read.part.kinds.items) }
     ensures valid { IfOk result (λ read. MayBeSaved read.part.version
         (table_of read.part.index) read.part.notes.items read.part.kinds.items) }
     ensures bytes { IfOk result (λ read. read.bytes ≡ length
         (segment read.part.version (table_of read.part.index) read.part.notes.items read.part.kinds.items)) }
     ensures fault { IfErr result (λ fault. (before after : Option (List ℕ)) →
-        Consumes before after (bytes_of (counted Version.One words.now)) →
+        Consumes before after (bytes_of (counted FormatVersion.One words.now)) →
         IsNextSegmentFault IsAny before after fault) }
 {
     let Some(part) = decode_body(alloc, words)? else {
@@ -240,7 +240,7 @@ fn read_body(alloc: Global, words: &[u64]) -> Result<SegmentRead, OpenFault>
 fn read_rows<R: Read>(alloc: Global, reader: &mut R, head: &[u64]) -> Result<SegmentRead, OpenFault>
     requires fit { AreWords head.now }
     ensures read { IfOk result (λ read. (before : Option (List ℕ)) →
-        Consumes before (R.remaining reader.old) (bytes_of (counted Version.Two head.now)) →
+        Consumes before (R.remaining reader.old) (bytes_of (counted FormatVersion.Two head.now)) →
         Consumes before (R.remaining reader.new)
         (segment read.part.version (table_of read.part.index) read.part.notes.items read.part.kinds.items)) }
     ensures valid { IfOk result (λ read. MayBeSaved read.part.version
@@ -248,10 +248,10 @@ fn read_rows<R: Read>(alloc: Global, reader: &mut R, head: &[u64]) -> Result<Seg
     ensures bytes { IfOk result (λ read. read.bytes ≡ length
         (segment read.part.version (table_of read.part.index) read.part.notes.items read.part.kinds.items)) }
     ensures fault { IfErr result (λ fault. (before : Option (List ℕ)) →
-        Consumes before (R.remaining reader.old) (bytes_of (counted Version.Two head.now)) →
+        Consumes before (R.remaining reader.old) (bytes_of (counted FormatVersion.Two head.now)) →
         IsNextSegmentFault IsAny before (R.remaining reader.new) fault) }
 {
-    let Some((front, _behind)) = decode_front(alloc, Version::Two, head)? else {
+    let Some((front, _behind)) = decode_front(alloc, FormatVersion::Two, head)? else {
         return Err(OpenFault::Damaged);
     };
     let count = count_row_words(&front.schema, front.sizes);

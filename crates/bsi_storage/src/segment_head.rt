@@ -6,7 +6,7 @@ ghost use Rattle.bsi_bits.specs.BitList.{word_count};
 ghost use Rattle.bsi_pread.specs.Offsets.{known_from};
 ghost use Rattle.bsi_rows.specs.Table.{Table};
 ghost use Rattle.bsi_schema.specs.Columns.{IsDeclared};
-ghost use Rattle.bsi_segments.specs.declared.version.Version.{Version};
+ghost use Rattle.bsi_segments.specs.declared.format_version.FormatVersion.{FormatVersion};
 ghost use Rattle.bsi_storage.specs.ChosenColumns.{BeginsAt, BeginsBy, IsHeadOf};
 ghost use Rattle.bsi_storage.specs.Decoding.{bitmaps_in, AreSizes};
 ghost use Rattle.bsi_storage.specs.Opens.{IsReadOrNoMemory};
@@ -15,7 +15,7 @@ ghost use Rattle.bsi_syntax.specs.Bytes.{Bytes};
 use crate::OpenFault;
 use crate::fronts::{Front, decode_front};
 use bsi_pread::{At, ReadAt};
-use bsi_segments::{Version, read_counted};
+use bsi_segments::{FormatVersion, read_counted};
 use bsi_table::{Schema, count_bitmaps};
 use std::alloc::Global;
 
@@ -44,18 +44,18 @@ pub(crate) fn read_head<R: ReadAt>(
     ensures none { IfOk result (λ found. IfNone found ((t : Table) → (notes kinds : Bytes) →
         BeginsAt (R.all_bytes reader.now) at t notes kinds → ⊥)) }
     ensures not_one { IfOk result (λ found. IfSome found (λ head. (t : Table) → (notes kinds : Bytes) →
-        BeginsBy Version.One (R.all_bytes reader.now) at t notes kinds → ⊥)) }
-    ensures fault { IfErr result (λ fault. (version : Version) → (t : Table) → (notes kinds : Bytes) →
+        BeginsBy FormatVersion.One (R.all_bytes reader.now) at t notes kinds → ⊥)) }
+    ensures fault { IfErr result (λ fault. (version : FormatVersion) → (t : Table) → (notes kinds : Bytes) →
         BeginsBy version (R.all_bytes reader.now) at t notes kinds → IsReadOrNoMemory fault) }
 {
     let mut position = At::new(reader, at);
     let Some(first) = read_counted(alloc, &mut position)? else {
         return Ok(None);
     };
-    let Version::Two = first.version else {
+    let FormatVersion::Two = first.version else {
         return Ok(None);
     };
-    let Some((front, behind)) = decode_front(alloc, Version::Two, &first.words)? else {
+    let Some((front, behind)) = decode_front(alloc, FormatVersion::Two, &first.words)? else {
         return Err(OpenFault::Damaged);
     };
     let behind = Vec::from_slice(alloc, behind)?;

@@ -9,7 +9,7 @@ ghost use Rattle.bsi_storage.specs.Saved.{segment_with_head, max_kinds, max_note
 use crate::SaveFault;
 use crate::heads::encode_head;
 use crate::rows::encode_rows;
-use bsi_segments::{Version, write_counted, write_words};
+use bsi_segments::{FormatVersion, write_counted, write_words};
 use bsi_table::Index;
 use std::alloc::Global;
 use std::io::Write;
@@ -43,13 +43,13 @@ pub fn write_index<W: Write>(
     ensures prefix { OnErr result (AppendsPrefix (W.contents writer.old) (W.contents writer.new)
         (segment_with_head (table_of index.now) notes.now kinds.now)) }
     ensures valid { OnOk result
-        (MayBeSaved Version.Two (table_of index.now) notes.now kinds.now) }
+        (MayBeSaved FormatVersion.Two (table_of index.now) notes.now kinds.now) }
     ensures none { IfErr result (λ fault. fault ≡ SaveFault.NoMemory →
         W.contents writer.new ≡ W.contents writer.old) }
 {
     let rows = encode_rows(alloc, index)?;
     let head = encode_head(alloc, index, notes, kinds, &rows)?;
-    write_counted(writer, Version::Two, &head)?;
+    write_counted(writer, FormatVersion::Two, &head)?;
     write_words(writer, &rows)?;
     Ok(())
 }

@@ -2,8 +2,8 @@
 use Rattle.std.proofs.Common.{◌≤◌, ℕ, suc, arith, List, [], ◌∷◌, ◌++◌, length, subst, sym}
 use Rattle.std.specs.Prelude.{All}
 use Rattle.bsi_rows.specs.Table.{Table}
-use Rattle.bsi_segments.specs.declared.version.Version.{Version}
-use Rattle.bsi_segments.specs.declared.version.Version.TheVariants.{One, Two}
+use Rattle.bsi_segments.specs.declared.format_version.FormatVersion.{FormatVersion}
+use Rattle.bsi_segments.specs.declared.format_version.FormatVersion.TheVariants.{One, Two}
 use Rattle.bsi_storage.specs.Faults.{HasReadTable}
 use Rattle.bsi_storage.specs.Saved.{most_kinds, max_kinds, max_notes, most_notes, IsPartOf, Part}
 use Rattle.bsi_syntax.specs.Bytes.{KnownBytes}
@@ -13,7 +13,7 @@ last_of P [] last all = all 0 last (omega arith)
 last_of P (p ∷ before) last all = last_of P before last (λ k d lt. all (suc k) d (omega (arith, lt)))
 
 -- no version has place for more
-at_most : (version : Version) → (most_notes version ≤ max_notes) × (most_kinds version ≤ max_kinds)
+at_most : (version : FormatVersion) → (most_notes version ≤ max_notes) × (most_kinds version ≤ max_kinds)
 at_most One = (omega arith, omega arith)
 at_most Two = (omega arith, omega arith)
 

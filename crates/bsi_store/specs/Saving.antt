@@ -23,7 +23,7 @@ use Rattle.bsi_answers.specs.declared.faults.FilesFault.TheVariants.{BadSchema, 
 use Rattle.bsi_answers.specs.declared.faults.Which.TheVariants.{SchemaFile}
 use Rattle.bsi_files.specs.RunFaults.{IsFaultOver}
 use Rattle.bsi_input.specs.BufferedOutput.{AppendsPrefix}
-use Rattle.bsi_segments.specs.declared.version.Version.TheVariants.{Two}
+use Rattle.bsi_segments.specs.declared.format_version.FormatVersion.TheVariants.{Two}
 use Rattle.bsi_storage.specs.Saved.{segment_with_head, MayBeSaved}
 use Rattle.bsi_storage.specs.declared.fault.OpenFault.TheVariants.{OtherVersion}
 use Rattle.bsi_store.specs.Asked.{IsSavedIn}

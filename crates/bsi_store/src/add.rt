@@ -22,7 +22,7 @@ use crate::{FileFault, LockFile, StoreFault, read_saved};
 use bsi_files::{FilesFault, Gate, Loaded, Stopping, load_files};
 use bsi_input::write_bytes;
 use bsi_logical::TableSchema;
-use bsi_storage::{LoadedIndex, OpenFault, Version, accepts_rows_of};
+use bsi_storage::{FormatVersion, LoadedIndex, OpenFault, accepts_rows_of};
 use bsi_table::{Index, NoMemory};
 use std::alloc::Global;
 use std::fs::OpenFile;
@@ -273,7 +273,7 @@ fn append_segment<'a, S: Write + OpenFile>(
     requires { (length saved.now.notes.items ≤ max_notes) × (length saved.now.kinds.items ≤ max_kinds) }
     ensures appended { OnOk result (Appends (S.contents file.old) (S.contents file.new)
         (segment_with_head (table_of more.now) saved.now.notes.items saved.now.kinds.items)) }
-    ensures valid { OnOk result (MayBeSaved Version.Two (table_of more.now)
+    ensures valid { OnOk result (MayBeSaved FormatVersion.Two (table_of more.now)
         saved.now.notes.items saved.now.kinds.items) }
     ensures fault { IfErr result IsNotAboutBytes }
     ensures named { IfErr result (NamesPath (λ named. named ≡ path.entry)) }

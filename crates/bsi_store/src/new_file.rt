@@ -10,7 +10,7 @@ ghost use Rattle.bsi_store.specs.Faults.{NamesPath};
 use crate::target::SaveTarget;
 use crate::writing::append_to_file;
 use crate::{FileFault, LockFile, StoreFault, WriteReason};
-use bsi_storage::Version;
+use bsi_storage::FormatVersion;
 use bsi_table::{Index, NoMemory};
 use std::alloc::Global;
 use std::fs::{OpenFile, OpenOptions, Permissions};
@@ -62,7 +62,7 @@ impl<'a, S: Read + Write + OpenFile + LockFile + Drop> NewFile<'a, S> {
         requires few { length kinds.now ≤ max_kinds }
         ensures written { OnOk result (Appends (S.contents self.old.file) (S.contents self.new.file)
             (segment_with_head (table_of index.now) [] kinds.now)) }
-        ensures valid { OnOk result (MayBeSaved Version.Two (table_of index.now) [] kinds.now) }
+        ensures valid { OnOk result (MayBeSaved FormatVersion.Two (table_of index.now) [] kinds.now) }
         ensures fault { IfErr result IsNotAboutBytes }
         ensures named { IfErr result (NamesPath (λ named. named ≡ self.old.target.path)) }
         ensures path { self.new.target.path ≡ self.old.target.path }

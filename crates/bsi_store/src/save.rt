@@ -23,7 +23,7 @@ use bsi_logical::{
     DeclaredSchema, LogicalFault, LogicalFormat, LogicalSchema, TableSchema, describe_logical,
     read_schema_file,
 };
-use bsi_storage::{MAX_KINDS, Version};
+use bsi_storage::{FormatVersion, MAX_KINDS};
 use bsi_table::{Index, MAX_FEEDERS};
 use std::alloc::Global;
 use std::fs::OpenFile;
@@ -298,7 +298,7 @@ pub(crate) fn write_or_remove<
     requires few { length kinds.now ≤ max_kinds }
     ensures appended { OnOk result (Appends (S.contents new.old.file) (S.contents new.new.file)
         (segment_with_head (table_of table.now) [] kinds.now)) }
-    ensures valid { OnOk result (MayBeSaved Version.Two (table_of table.now) [] kinds.now) }
+    ensures valid { OnOk result (MayBeSaved FormatVersion.Two (table_of table.now) [] kinds.now) }
     ensures fault { IfErr result IsNotAboutBytes }
     ensures named { IfErr result (NamesPath (λ named. named ≡ new.old.target.path)) }
     ensures path { new.new.target.path ≡ new.old.target.path }
@@ -321,7 +321,7 @@ fn write_and_replace<
     requires few { length kinds.now ≤ max_kinds }
     ensures appended { OnOk result (Appends (S.contents new.old.file) (S.contents new.new.file)
         (segment_with_head (table_of table.now) [] kinds.now)) }
-    ensures valid { OnOk result (MayBeSaved Version.Two (table_of table.now) [] kinds.now) }
+    ensures valid { OnOk result (MayBeSaved FormatVersion.Two (table_of table.now) [] kinds.now) }
     ensures fault { IfErr result IsNotAboutBytes }
     ensures named { IfErr result (NamesPath (λ named. named ≡ new.old.target.path)) }
     ensures path { new.new.target.path ≡ new.old.target.path }

@@ -2,7 +2,7 @@
 
 ghost use Rattle.std.specs.Prelude.{◌≡◌, ◌≤◌, IfErr, OnOk, length};
 ghost use Rattle.std.specs.Io.KnownBytes.{Appends};
-ghost use Rattle.bsi_segments.specs.declared.version.Version.{Version};
+ghost use Rattle.bsi_segments.specs.declared.format_version.FormatVersion.{FormatVersion};
 ghost use Rattle.bsi_storage.specs.Saved.{segment_with_head, max_kinds, max_notes, MayBeSaved};
 ghost use Rattle.bsi_store.specs.Faults.{NamesPath};
 ghost use Rattle.bsi_store.specs.Saving.{IsNotAboutBytes};
@@ -28,7 +28,7 @@ pub(crate) fn append_to_file<'a, S: Write>(
     ensures appended { OnOk result (Appends (S.contents file.old) (S.contents file.new)
         (segment_with_head (table_of index.now) notes.now kinds.now)) }
     ensures valid { OnOk result
-        (MayBeSaved Version.Two (table_of index.now) notes.now kinds.now) }
+        (MayBeSaved FormatVersion.Two (table_of index.now) notes.now kinds.now) }
     ensures fault { IfErr result IsNotAboutBytes }
     ensures named { IfErr result (NamesPath (λ named. named ≡ path.entry)) }
 {

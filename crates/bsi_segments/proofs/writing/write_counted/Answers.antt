@@ -7,26 +7,26 @@ use Rattle.std.proofs.lemmas.Result.{err_from_is_err_and}
 use Rattle.bsi_input.specs.BufferedOutput.{AppendsPrefix}
 use Rattle.bsi_input.proofs.Waiting.{on_fault, on_ok}
 use Rattle.bsi_segments.specs.Segments.{bytes_of, checksum_of, counted, magic}
-use Rattle.bsi_segments.specs.declared.version.Version.{Version}
+use Rattle.bsi_segments.specs.declared.format_version.FormatVersion.{FormatVersion}
 use Rattle.bsi_segments.proofs.ChunkBytes.{cut_first, cut_later}
 use Rattle.bsi_segments.proofs.writing.write_counted.Goals as goal
 use Rattle.bsi_syntax.specs.Bytes.{KnownBytes}
 
-counted_parts : (version : Version) (words : List ℕ) → bytes_of (counted version words) ≡ bytes_of (magic version ∷ length words ∷ []) ++ (bytes_of words ++ bytes_of (checksum_of words ∷ []))
+counted_parts : (version : FormatVersion) (words : List ℕ) → bytes_of (counted version words) ≡ bytes_of (magic version ∷ length words ∷ []) ++ (bytes_of words ++ bytes_of (checksum_of words ∷ []))
 counted_parts version words = ap (λ bs. bytes_of (magic version ∷ length words ∷ []) ++ bs) (flat_map-append (to_le_bytes w64) words (checksum_of words ∷ []))
 
 -- after the words, or a first chunk of what follows
-all_written : (version : Version) (a b c d : KnownBytes) (words : List ℕ) → Appends a b (bytes_of (magic version ∷ length words ∷ [])) → Appends b c (bytes_of words) → Appends c d (bytes_of (checksum_of words ∷ [])) → Appends a d (bytes_of (counted version words))
+all_written : (version : FormatVersion) (a b c d : KnownBytes) (words : List ℕ) → Appends a b (bytes_of (magic version ∷ length words ∷ [])) → Appends b c (bytes_of words) → Appends c d (bytes_of (checksum_of words ∷ [])) → Appends a d (bytes_of (counted version words))
 all_written version a b c d words first second third =
     subst (Appends a d) (sym (counted_parts version words)) (Appends-trans a b d _ _ first (Appends-trans b c d _ _ second third))
 
-cut_in_words : (version : Version) (a b c : KnownBytes) (words : List ℕ) → Appends a b (bytes_of (magic version ∷ length words ∷ [])) → AppendsPrefix b c (bytes_of words) → AppendsPrefix a c (bytes_of (counted version words))
+cut_in_words : (version : FormatVersion) (a b c : KnownBytes) (words : List ℕ) → Appends a b (bytes_of (magic version ∷ length words ∷ [])) → AppendsPrefix b c (bytes_of words) → AppendsPrefix a c (bytes_of (counted version words))
 cut_in_words version a b c words first cut =
     let rest = bytes_of words ++ bytes_of (checksum_of words ∷ []) in
     cut_later a b c (bytes_of (magic version ∷ length words ∷ [])) rest (bytes_of (counted version words)) (counted_parts version words) first
     (cut_first b c (bytes_of words) (bytes_of (checksum_of words ∷ [])) rest refl cut)
 
-cut_in_sum : (version : Version) (a b c d : KnownBytes) (words : List ℕ) → Appends a b (bytes_of (magic version ∷ length words ∷ [])) → Appends b c (bytes_of words) → AppendsPrefix c d (bytes_of (checksum_of words ∷ [])) → AppendsPrefix a d (bytes_of (counted version words))
+cut_in_sum : (version : FormatVersion) (a b c d : KnownBytes) (words : List ℕ) → Appends a b (bytes_of (magic version ∷ length words ∷ [])) → Appends b c (bytes_of words) → AppendsPrefix c d (bytes_of (checksum_of words ∷ [])) → AppendsPrefix a d (bytes_of (counted version words))
 cut_in_sum version a b c d words first second cut =
     let rest = bytes_of words ++ bytes_of (checksum_of words ∷ []) in
     cut_later a b d (bytes_of (magic version ∷ length words ∷ [])) rest (bytes_of (counted version words)) (counted_parts version words) first

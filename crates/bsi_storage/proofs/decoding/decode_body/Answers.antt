@@ -1,6 +1,6 @@
 use Rattle.std.proofs.Common.{length, sym, ap, ◌∙◌}
 use Rattle.bsi_table.specs.Index.{table_of}
-use Rattle.bsi_segments.specs.declared.version.Version.TheVariants.{One}
+use Rattle.bsi_segments.specs.declared.format_version.FormatVersion.TheVariants.{One}
 use Rattle.bsi_storage.specs.Decoding.{front_words}
 use Rattle.bsi_storage.specs.Saved.{rows_words}
 use Rattle.bsi_storage.proofs.FrontWords.{front_of_table, fronts, may_be_saved, rows_fit, rows_of_table, rows_words_are}

@@ -5,7 +5,7 @@ use lib.Pointwise.{pointwise}
 use Rattle.bsi_rows.specs.Table.{Table}
 use Rattle.bsi_schema.specs.Columns.{Declared}
 use Rattle.bsi_table.specs.Index.{table_of}
-use Rattle.bsi_segments.specs.declared.version.Version.TheVariants.{Two}
+use Rattle.bsi_segments.specs.declared.format_version.FormatVersion.TheVariants.{Two}
 use Rattle.bsi_storage.specs.Heads.{head, rows_head}
 use Rattle.bsi_storage.specs.Decoding.{front_words, AreSizes, AreTexts, HasRowsOf}
 use Rattle.bsi_storage.specs.Saved.{rows_words, MayBeSaved}

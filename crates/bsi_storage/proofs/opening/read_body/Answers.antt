@@ -1,7 +1,7 @@
 use Rattle.std.proofs.Common.{◌≡◌, ◌+◌, ◌*◌, length, arith, ap, sym, subst, inl, inr}
 use Rattle.bsi_table.specs.Index.{table_of}
 use Rattle.bsi_segments.specs.Segments.{bytes_of, counted}
-use Rattle.bsi_segments.specs.declared.version.Version.TheVariants.{One}
+use Rattle.bsi_segments.specs.declared.format_version.FormatVersion.TheVariants.{One}
 use Rattle.bsi_storage.specs.Saved.{segment, MayBeSaved}
 use Rattle.bsi_storage.proofs.NoTables.{no_first_words}
 use Rattle.bsi_storage.proofs.SegmentParts.{body_segment, segment_long}

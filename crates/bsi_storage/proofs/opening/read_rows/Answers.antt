@@ -3,7 +3,7 @@ use Rattle.std.specs.Prelude.{IfErr}
 use Rattle.std.specs.Io.KnownBytes.{Consumes}
 use Rattle.bsi_table.specs.Index.{table_of}
 use Rattle.bsi_segments.specs.Segments.{bytes_of, counted, ReadsWords, FailsBefore}
-use Rattle.bsi_segments.specs.declared.version.Version.TheVariants.{Two}
+use Rattle.bsi_segments.specs.declared.format_version.FormatVersion.TheVariants.{Two}
 use Rattle.bsi_storage.specs.Decoding.{IsFront}
 use Rattle.bsi_storage.specs.Faults.{open_fault, IsAny, IsNextSegmentFault}
 use Rattle.bsi_storage.specs.Heads.{rows_head}

@@ -2,8 +2,8 @@ use Rattle.std.proofs.Common.{◌≡◌, ◌+◌, ◌*◌, length, arith, rules,
 use Rattle.std.specs.Prelude.{IfErr}
 use Rattle.bsi_rows.specs.Table.{Table}
 use Rattle.bsi_segments.specs.Segments.{magic}
-use Rattle.bsi_segments.specs.declared.version.Version.{Version}
-use Rattle.bsi_segments.specs.declared.version.Version.TheVariants.{One, Two}
+use Rattle.bsi_segments.specs.declared.format_version.FormatVersion.{FormatVersion}
+use Rattle.bsi_segments.specs.declared.format_version.FormatVersion.TheVariants.{One, Two}
 use Rattle.bsi_storage.specs.ChosenColumns.{BeginsAt, BeginsBy}
 use Rattle.bsi_storage.specs.Faults.{open_fault}
 use Rattle.bsi_storage.specs.Heads.{head, rows_head}
@@ -70,7 +70,7 @@ returns-in_err-first-clause-fault g c =
     let reported = c.in_err-first.field-0.0 in
     let met : IfErr c.from_residual.result (λ (fault : OpenFault). fault ≡ open_fault reported) = search rules in
     err_as c.from_residual.result (open_fault reported)
-    (λ (fault : OpenFault). (version : Version) → (t : Table) → (notes kinds : Bytes) → BeginsBy version known c.args.at t notes kinds → IsReadOrNoMemory fault) met
+    (λ (fault : OpenFault). (version : FormatVersion) → (t : Table) → (notes kinds : Bytes) → BeginsBy version known c.args.at t notes kinds → IsReadOrNoMemory fault) met
     (λ version t notes kinds begins. head_fault version known c.args.at t notes kinds begins seen _ c.new-position.result.at same c.new-position.ensures.at reported c.in_err-first.ensures.fault)
 
 pub returns-in_default-2-clause-fault : goal.returns-in_default-2-clause-fault

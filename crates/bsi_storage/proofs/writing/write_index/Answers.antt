@@ -3,7 +3,7 @@ use Rattle.std.specs.Io.KnownBytes.{Appends}
 use Rattle.std.proofs.KnownBytes.{Appends-trans}
 use Rattle.bsi_table.specs.Index.{table_of}
 use Rattle.bsi_segments.specs.Segments.{bytes_of, counted}
-use Rattle.bsi_segments.specs.declared.version.Version.TheVariants.{Two}
+use Rattle.bsi_segments.specs.declared.format_version.FormatVersion.TheVariants.{Two}
 use Rattle.bsi_segments.proofs.ChunkBytes.{cut_first, cut_later}
 use Rattle.bsi_storage.specs.Saved.{segment_with_head}
 use Rattle.bsi_storage.proofs.Files.{appends_none, so_err}

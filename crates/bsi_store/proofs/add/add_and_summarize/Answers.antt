@@ -7,7 +7,7 @@ use Rattle.bsi_answers.proofs.Passing.{if_err}
 use Rattle.bsi_answers.specs.RowFiles.{fed_counts}
 use Rattle.bsi_answers.specs.Runs.{HasLoaded}
 use Rattle.bsi_storage.specs.Faults.{AcceptsRowsOf}
-use Rattle.bsi_segments.specs.declared.version.Version.TheVariants.{Two}
+use Rattle.bsi_segments.specs.declared.format_version.FormatVersion.TheVariants.{Two}
 use Rattle.bsi_storage.specs.Saved.{segment_with_head, MayBeSaved}
 use Rattle.bsi_logical.specs.TableSchemas.{format_of}
 use Rattle.bsi_store.specs.Kinds.{SaysSchema}
