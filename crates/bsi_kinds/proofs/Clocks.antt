@@ -9,8 +9,8 @@ use Rattle.std.specs.List.{before_first, list_all}
 use Rattle.std.specs.Str.Parse.{digits_value}
 use Rattle.bsi_kinds.specs.Dates.{date_number}
 use Rattle.bsi_kinds.specs.Decimals.{mantissa_of, scanned, units_of, Digits}
-use Rattle.bsi_kinds.specs.Clocks.{clock_of, minutes_of, moved, scanned_time, seconds_behind, subsecond_behind, two_digits, zone_offset, Moment}
-use Rattle.bsi_kinds.specs.Times.{from_first, is_clock_sign, is_zone_sign, moment_behind, moment_of, moment_on}
+use Rattle.bsi_kinds.specs.Clocks.{clock_of, minutes_of, moved, scanned_time, seconds_behind, subsecond_behind, two_digits, time_zone_offset, Moment}
+use Rattle.bsi_kinds.specs.Times.{from_first, is_clock_sign, is_time_zone_sign, moment_behind, moment_of, moment_on}
 use Rattle.bsi_kinds.specs.declared.decimal.Scanned.{Scanned}
 use Rattle.bsi_kinds.specs.declared.clock.ScannedTime.{ScannedTime}
 use Rattle.bsi_kinds.specs.declared.time.TimeForm.{TimeForm}
@@ -94,14 +94,14 @@ moved_by p by (Some m) t s is sum =
     let same : t ≡ scanned_time p m = (cc) in
     ap (λ z. Some (record { seconds = z; subsecond = t.subsecond })) sum ∙ ap (λ q. Some (record { seconds = q.seconds +ℤ by; subsecond = q.subsecond })) same
 
-pub day_found : (p : ℕ) (utc : Bool) (day : ℤ) (text clock zone : List ℕ) (offset : ℤ) (t : ScannedTime) (s : ℤ)
-    → clock ≡ before_first is_zone_sign text → zone ≡ from_first is_zone_sign text → Some offset ≡ zone_offset utc zone
+pub day_found : (p : ℕ) (utc : Bool) (day : ℤ) (text clock time_zone : List ℕ) (offset : ℤ) (t : ScannedTime) (s : ℤ)
+    → clock ≡ before_first is_time_zone_sign text → time_zone ≡ from_first is_time_zone_sign text → Some offset ≡ time_zone_offset utc time_zone
     → Some t ≡ option_map (scanned_time p) (clock_of clock) → s ≡ t.seconds +ℤ (day *ℤ pos 86400 -ℤ offset)
     → Some (record { seconds = s; subsecond = t.subsecond }) ≡ option_map (scanned_time p) (moment_on utc day text)
-day_found p utc day text clock zone offset t s clock_is zone_is one two sum =
+day_found p utc day text clock time_zone offset t s clock_is time_zone_is one two sum =
     moved_by p (day *ℤ pos 86400 -ℤ offset) (clock_of clock) t s two sum
-    ∙ ap (λ o. option_map (scanned_time p) (option_and_then (λ z. option_map (moved (day *ℤ pos 86400 -ℤ z)) (clock_of clock)) o)) (one ∙ ap (zone_offset utc) zone_is)
-    ∙ ap (λ c. option_map (scanned_time p) (option_and_then (λ z. option_map (moved (day *ℤ pos 86400 -ℤ z)) (clock_of c)) (zone_offset utc (from_first is_zone_sign text)))) clock_is
+    ∙ ap (λ o. option_map (scanned_time p) (option_and_then (λ z. option_map (moved (day *ℤ pos 86400 -ℤ z)) (clock_of clock)) o)) (one ∙ ap (time_zone_offset utc) time_zone_is)
+    ∙ ap (λ c. option_map (scanned_time p) (option_and_then (λ z. option_map (moved (day *ℤ pos 86400 -ℤ z)) (clock_of c)) (time_zone_offset utc (from_first is_time_zone_sign text)))) clock_is
 
 -- a clock behind a date
 behind_is : (utc : Bool) (day : ℤ) (rest : List ℕ) → 1 ≤ length rest → moment_on utc day (take (length rest - 1) (drop 1 rest)) ≡ moment_behind utc day rest

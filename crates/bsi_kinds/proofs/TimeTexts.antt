@@ -17,9 +17,9 @@ use Rattle.jiff_core.specs.declared.civil.time.Time.{Time}
 use Rattle.bsi_kinds.specs.Dates.{date_number, date_text}
 use Rattle.bsi_kinds.specs.Decimals.{Represents}
 use Rattle.bsi_kinds.specs.DecimalTexts.{last_digits, places_text}
-use Rattle.bsi_kinds.specs.Clocks.{clock_of, minutes_of, moment_value, moved, seconds_behind, subsecond_behind, two_digits, zone_offset, Moment}
+use Rattle.bsi_kinds.specs.Clocks.{clock_of, minutes_of, moment_value, moved, seconds_behind, subsecond_behind, two_digits, time_zone_offset, Moment}
 use Rattle.bsi_kinds.specs.TimeTexts.{clock_text, time_text, WritesTime}
-use Rattle.bsi_kinds.specs.Times.{from_first, is_clock_sign, is_zone_sign, moment_behind, moment_of, moment_on, unit_places, SpellsTime}
+use Rattle.bsi_kinds.specs.Times.{from_first, is_clock_sign, is_time_zone_sign, moment_behind, moment_of, moment_on, unit_places, SpellsTime}
 use Rattle.bsi_kinds.specs.declared.date.DateOrder.TheVariants.{YearFirst}
 use Rattle.bsi_kinds.specs.declared.time.TimeForm.{TimeForm}
 use Rattle.bsi_kinds.proofs.Cuts.{after_is, before_is, before_none, both_lack, digits_lack, from_is, from_none, Lacks}
@@ -46,8 +46,8 @@ no_colon byte digit = let range = digit_range byte digit in grind (arith, nat_te
 no_clock_sign : (byte : ℕ) → is_ascii_digit byte ≡ true → not (is_clock_sign byte) ≡ true
 no_clock_sign byte digit = let range = digit_range byte digit in grind (arith, nat_tests)
 
-no_zone_sign : (byte : ℕ) → is_ascii_digit byte ≡ true → not (is_zone_sign byte) ≡ true
-no_zone_sign byte digit = let range = digit_range byte digit in grind (arith, nat_tests)
+no_time_zone_sign : (byte : ℕ) → is_ascii_digit byte ≡ true → not (is_time_zone_sign byte) ≡ true
+no_time_zone_sign byte digit = let range = digit_range byte digit in grind (arith, nat_tests)
 
 two_spelled : (end n : ℕ) → n < end → end ≤ 100 → two_digits end (last_digits 2 n) ≡ Some n
 two_spelled end n low few =
@@ -84,34 +84,34 @@ clock_spelled t p subsecond low =
     ∙ ap₂ (λ s f. option_and_then (λ seconds. option_map (λ d. record { seconds = pos ((t.hour * 60 + t.minute) * 60 + seconds); subsecond = d }) f) s)
     (two_spelled 60 t.second t.second_in (omega arith)) (part_spelled p subsecond low)
 
--- ---- and a zone
+-- ---- and a time zone
 
-places_lack : (p subsecond : ℕ) → Lacks is_zone_sign (places_text p subsecond)
+places_lack : (p subsecond : ℕ) → Lacks is_time_zone_sign (places_text p subsecond)
 places_lack p subsecond = elim (cases_eq p 0) [
-  | inl none ↦ ap (λ b. list_all (λ byte. not (is_zone_sign byte)) (if b then [] else 46 ∷ last_digits p subsecond)) (eq-eqb p 0 none)
-  | inr some ↦ ap (λ b. list_all (λ byte. not (is_zone_sign byte)) (if b then [] else 46 ∷ last_digits p subsecond)) (ne_eqb p 0 some)
-      ∙ digits_lack is_zone_sign no_zone_sign (last_digits p subsecond) (last_all p subsecond)
+  | inl none ↦ ap (λ b. list_all (λ byte. not (is_time_zone_sign byte)) (if b then [] else 46 ∷ last_digits p subsecond)) (eq-eqb p 0 none)
+  | inr some ↦ ap (λ b. list_all (λ byte. not (is_time_zone_sign byte)) (if b then [] else 46 ∷ last_digits p subsecond)) (ne_eqb p 0 some)
+      ∙ digits_lack is_time_zone_sign no_time_zone_sign (last_digits p subsecond) (last_all p subsecond)
 ]
 
-clock_lacks : (t : Time) (p subsecond : ℕ) → Lacks is_zone_sign (clock_text t ++ places_text p subsecond)
+clock_lacks : (t : Time) (p subsecond : ℕ) → Lacks is_time_zone_sign (clock_text t ++ places_text p subsecond)
 clock_lacks t p subsecond =
-    both_lack is_zone_sign (clock_text t) (places_text p subsecond)
-    (both_lack is_zone_sign (last_digits 2 t.hour) (58 ∷ (last_digits 2 t.minute ++ 58 ∷ last_digits 2 t.second)) (digits_lack is_zone_sign no_zone_sign (last_digits 2 t.hour) (last_all 2 t.hour))
-    (both_lack is_zone_sign (last_digits 2 t.minute) (58 ∷ last_digits 2 t.second) (digits_lack is_zone_sign no_zone_sign (last_digits 2 t.minute) (last_all 2 t.minute))
-    (digits_lack is_zone_sign no_zone_sign (last_digits 2 t.second) (last_all 2 t.second))))
+    both_lack is_time_zone_sign (clock_text t) (places_text p subsecond)
+    (both_lack is_time_zone_sign (last_digits 2 t.hour) (58 ∷ (last_digits 2 t.minute ++ 58 ∷ last_digits 2 t.second)) (digits_lack is_time_zone_sign no_time_zone_sign (last_digits 2 t.hour) (last_all 2 t.hour))
+    (both_lack is_time_zone_sign (last_digits 2 t.minute) (58 ∷ last_digits 2 t.second) (digits_lack is_time_zone_sign no_time_zone_sign (last_digits 2 t.minute) (last_all 2 t.minute))
+    (digits_lack is_time_zone_sign no_time_zone_sign (last_digits 2 t.second) (last_all 2 t.second))))
     (places_lack p subsecond)
 
-abbrev zone_text : Bool → List ℕ
-zone_text utc = if utc then 90 ∷ [] else []
+abbrev time_zone_text : Bool → List ℕ
+time_zone_text utc = if utc then 90 ∷ [] else []
 
--- a clock and a zone are distinguished
-cut_zone : (utc : Bool) (xs : List ℕ) → Lacks is_zone_sign xs
-    → (before_first is_zone_sign (xs ++ zone_text utc) ≡ xs) × (from_first is_zone_sign (xs ++ zone_text utc) ≡ zone_text utc)
-cut_zone true xs all = (before_is is_zone_sign xs [] 90 all refl, from_is is_zone_sign xs [] 90 all refl)
-cut_zone false xs all =
-    (ap (before_first is_zone_sign) (append-nil xs) ∙ before_none is_zone_sign xs all, ap (from_first is_zone_sign) (append-nil xs) ∙ from_none is_zone_sign xs all)
+-- a clock and a time zone are distinguished
+cut_time_zone : (utc : Bool) (xs : List ℕ) → Lacks is_time_zone_sign xs
+    → (before_first is_time_zone_sign (xs ++ time_zone_text utc) ≡ xs) × (from_first is_time_zone_sign (xs ++ time_zone_text utc) ≡ time_zone_text utc)
+cut_time_zone true xs all = (before_is is_time_zone_sign xs [] 90 all refl, from_is is_time_zone_sign xs [] 90 all refl)
+cut_time_zone false xs all =
+    (ap (before_first is_time_zone_sign) (append-nil xs) ∙ before_none is_time_zone_sign xs all, ap (from_first is_time_zone_sign) (append-nil xs) ∙ from_none is_time_zone_sign xs all)
 
-no_offset : (utc : Bool) → zone_offset utc (zone_text utc) ≡ Some (pos 0)
+no_offset : (utc : Bool) → time_zone_offset utc (time_zone_text utc) ≡ Some (pos 0)
 no_offset true = refl
 no_offset false = refl
 
@@ -120,12 +120,12 @@ moment_written day t p subsecond =
     record { seconds = pos ((t.hour * 60 + t.minute) * 60 + t.second) +ℤ (day *ℤ pos 86400 -ℤ pos 0); subsecond = record { value = subsecond; places = p } }
 
 moment_on_spelled : (utc : Bool) (day : ℤ) (t : Time) (p subsecond : ℕ) → subsecond < 10 ^ p
-    → moment_on utc day (clock_text t ++ (places_text p subsecond ++ zone_text utc)) ≡ Some (moment_written day t p subsecond)
+    → moment_on utc day (clock_text t ++ (places_text p subsecond ++ time_zone_text utc)) ≡ Some (moment_written day t p subsecond)
 moment_on_spelled utc day t p subsecond low =
-    let cut = cut_zone utc (clock_text t ++ places_text p subsecond) (clock_lacks t p subsecond) in
-    ap (moment_on utc day) (sym (append_assoc (clock_text t) (places_text p subsecond) (zone_text utc)))
-    ∙ ap₂ (λ zone clock. option_and_then (λ offset. option_map (moved (day *ℤ pos 86400 -ℤ offset)) (clock_of clock)) (zone_offset utc zone)) cut.1 cut.0
-    ∙ ap₂ (λ zone clock. option_and_then (λ offset. option_map (moved (day *ℤ pos 86400 -ℤ offset)) clock) zone) (no_offset utc) (clock_spelled t p subsecond low)
+    let cut = cut_time_zone utc (clock_text t ++ places_text p subsecond) (clock_lacks t p subsecond) in
+    ap (moment_on utc day) (sym (append_assoc (clock_text t) (places_text p subsecond) (time_zone_text utc)))
+    ∙ ap₂ (λ time_zone clock. option_and_then (λ offset. option_map (moved (day *ℤ pos 86400 -ℤ offset)) (clock_of clock)) (time_zone_offset utc time_zone)) cut.1 cut.0
+    ∙ ap₂ (λ time_zone clock. option_and_then (λ offset. option_map (moved (day *ℤ pos 86400 -ℤ offset)) clock) time_zone) (no_offset utc) (clock_spelled t p subsecond low)
 
 -- ---- and the date before it
 
@@ -147,9 +147,9 @@ moment_spelled : (form : TimeForm) (d : Date) (t : Time) (subsecond : ℕ) → f
     → moment_of form (time_text form d t subsecond) ≡ Some (moment_written (epoch_day d) t (unit_places form.unit) subsecond)
 moment_spelled form d t subsecond is low small =
     ap₂ (λ date behind. option_and_then (λ day. moment_behind form.utc day behind) (date_number form.date date))
-    (before_is is_clock_sign (date_text d) (clock_text t ++ (places_text (unit_places form.unit) subsecond ++ zone_text form.utc)) 84 (date_lacks d) refl)
-    (from_is is_clock_sign (date_text d) (clock_text t ++ (places_text (unit_places form.unit) subsecond ++ zone_text form.utc)) 84 (date_lacks d) refl)
-    ∙ ap (option_and_then (λ day. moment_on form.utc day (clock_text t ++ (places_text (unit_places form.unit) subsecond ++ zone_text form.utc))))
+    (before_is is_clock_sign (date_text d) (clock_text t ++ (places_text (unit_places form.unit) subsecond ++ time_zone_text form.utc)) 84 (date_lacks d) refl)
+    (from_is is_clock_sign (date_text d) (clock_text t ++ (places_text (unit_places form.unit) subsecond ++ time_zone_text form.utc)) 84 (date_lacks d) refl)
+    ∙ ap (option_and_then (λ day. moment_on form.utc day (clock_text t ++ (places_text (unit_places form.unit) subsecond ++ time_zone_text form.utc))))
     (ap (λ f. date_number f (date_text d)) is ∙ date_spells d low)
     ∙ moment_on_spelled form.utc (epoch_day d) t (unit_places form.unit) subsecond small
 

@@ -1,4 +1,4 @@
--- Times of day (`clock_of`) and zones (`zone_of`): what the bytes of a field spell, in seconds.
+-- Times of day (`clock_of`) and time zones (`time_zone_of`): what the bytes of a field spell, in seconds.
 use Rattle.std.specs.Prelude.{ℕ, ◌+◌, ◌*◌, ◌<◌, ◌^◌, Bool, true, false, ◌==◌, nat_lt, if◌then◌else◌, [], ◌∷◌, take, drop, Option, Some, None, option_map, option_and_then, ℤ, pos, neg_ℤ, ◌+ℤ◌, ◌*ℤ◌}
 use Rattle.std.specs.List.{after_first, before_first}
 use Rattle.std.specs.Str.{bytes_eq}
@@ -51,19 +51,19 @@ seconds_behind minutes (first ∷ rest) =
 abbrev pub clock_of : Field → Option Moment
 clock_of text = option_and_then (λ minutes. seconds_behind minutes (drop 5 text)) (minutes_of (take 5 text))
 
--- The seconds that a zone is ahead of UTC: Z, +HH:MM or -HH:MM.
-abbrev pub zone_of : Field → Option ℤ
-zone_of [] = None
-zone_of (first ∷ rest) =
+-- The seconds that a time zone is ahead of UTC: Z, +HH:MM or -HH:MM.
+abbrev pub time_zone_of : Field → Option ℤ
+time_zone_of [] = None
+time_zone_of (first ∷ rest) =
     if first == 45 then option_map (λ minutes. neg_ℤ (pos (minutes * 60))) (minutes_of rest)
     else (if first == 43 then option_map (λ minutes. pos (minutes * 60)) (minutes_of rest)
     else (if bytes_eq (first ∷ rest) (90 ∷ []) then Some (pos 0) else None))
 
--- The seconds to subtract from a clock: those of its zone in UTC, and 0 without zones.
-abbrev pub zone_offset : Bool → Field → Option ℤ
-zone_offset true text = zone_of text
-zone_offset false [] = Some (pos 0)
-zone_offset false (first ∷ rest) = None
+-- The seconds to subtract from a clock: those of its time zone in UTC, and 0 without time zones.
+abbrev pub time_zone_offset : Bool → Field → Option ℤ
+time_zone_offset true text = time_zone_of text
+time_zone_offset false [] = Some (pos 0)
+time_zone_offset false (first ∷ rest) = None
 
 -- A moment, with its digits scanned at some places.
 abbrev pub scanned_time : ℕ → Moment → ScannedTime

@@ -3,7 +3,7 @@ use Rattle.std.specs.Prelude.{ℕ, ◌*◌, ◌^◌, Bool, ◌||◌, ◌&&◌, �
 use Rattle.std.specs.Int.{int_div_euclid}
 use Rattle.std.specs.List.{before_first, position_or_len}
 use Rattle.jiff_core.specs.Calendar.{IsEpochDay}
-use Rattle.bsi_kinds.specs.Clocks.{clock_of, moment_value, moved, scanned_time, whole_moment, zone_offset, Moment}
+use Rattle.bsi_kinds.specs.Clocks.{clock_of, moment_value, moved, scanned_time, whole_moment, time_zone_offset, Moment}
 use Rattle.bsi_kinds.specs.Dates.{date_number}
 use Rattle.bsi_rows.specs.Fields.{Field}
 use Rattle.bsi_kinds.specs.Decimals.{Decimal, Represents}
@@ -22,20 +22,20 @@ unit_places Microseconds = 6
 abbrev pub from_first : (ℕ → Bool) → Field → Field
 from_first is text = drop (position_or_len is text) text
 
-abbrev pub is_zone_sign : ℕ → Bool
-is_zone_sign byte = (byte == 90) || (byte == 43) || (byte == 45)
+abbrev pub is_time_zone_sign : ℕ → Bool
+is_time_zone_sign byte = (byte == 90) || (byte == 43) || (byte == 45)
 
--- A clock on a day, less its zone.
+-- A clock on a day, less its time zone.
 abbrev pub moment_on : Bool → ℤ → Field → Option Moment
 moment_on utc day text =
-    option_and_then (λ offset. option_map (moved (day *ℤ pos 86400 -ℤ offset)) (clock_of (before_first is_zone_sign text)))
-    (zone_offset utc (from_first is_zone_sign text))
+    option_and_then (λ offset. option_map (moved (day *ℤ pos 86400 -ℤ offset)) (clock_of (before_first is_time_zone_sign text)))
+    (time_zone_offset utc (from_first is_time_zone_sign text))
 
 -- The letter T or a space.
 abbrev pub is_clock_sign : ℕ → Bool
 is_clock_sign byte = (byte == 84) || (byte == 32)
 
--- What follows a date: T or a space, and a clock. Without zones, nothing is midnight.
+-- What follows a date: T or a space, and a clock. Without time zones, nothing is midnight.
 abbrev pub moment_behind : Bool → ℤ → Field → Option Moment
 moment_behind utc day [] = if utc then None else Some (whole_moment (day *ℤ pos 86400))
 moment_behind utc day (first ∷ rest) = moment_on utc day rest
@@ -62,7 +62,7 @@ units_at places t = t.seconds *ℤ pos (10 ^ places) +ℤ pos t.subsecond.units
 abbrev pub first_at : ℕ → ScannedTime → ℤ
 first_at places t = if t.subsecond.exact then units_at places t else units_at places t +ℤ pos 1
 
--- The most seconds of a date, a clock and a zone.
+-- The most seconds of a date, a clock and a time zone.
 abbrev pub most_seconds : ℕ
 most_seconds = 400_000_000_000
 

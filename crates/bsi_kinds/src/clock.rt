@@ -1,9 +1,9 @@
-//! Reads a time of day as seconds and the digits behind their point (`ScannedTime`), and a zone as the seconds to
+//! Reads a time of day as seconds and the digits behind their point (`ScannedTime`), and a time zone as the seconds to
 //! subtract.
 
 ghost use Rattle.std.specs.Prelude.{◌≡◌, ℕ, ◌<◌, ◌≤◌, ◌^◌, option_map, IfSome};
 ghost use Rattle.jiff_core.specs.Calendar.{IsWithin};
-ghost use Rattle.bsi_kinds.specs.Clocks.{clock_of, minutes_of, scanned_time, seconds_behind, subsecond_behind, two_digits, whole_moment, zone_of, zone_offset, IsWithinSeconds};
+ghost use Rattle.bsi_kinds.specs.Clocks.{clock_of, minutes_of, scanned_time, seconds_behind, subsecond_behind, two_digits, whole_moment, time_zone_of, time_zone_offset, IsWithinSeconds};
 ghost use Rattle.bsi_kinds.specs.Decimals.{scanned};
 
 use crate::decimal::{Scanned, read_short_number, scan_mantissa, split_at_byte};
@@ -79,22 +79,22 @@ pub(crate) fn whole_seconds(seconds: i64) -> ScannedTime
 }
 
 /// Reads the seconds to subtract from a clock.
-pub(crate) fn read_offset(utc: bool, zone: &[u8]) -> Option<i64>
-    ensures value { result ≡ zone_offset utc zone.now }
+pub(crate) fn read_offset(utc: bool, time_zone: &[u8]) -> Option<i64>
+    ensures value { result ≡ time_zone_offset utc time_zone.now }
     ensures few { IfSome result (IsWithin 86400) }
 {
     if utc {
-        return read_zone(zone);
+        return read_time_zone(time_zone);
     }
-    if zone.is_empty() { Some(0) } else { None }
+    if time_zone.is_empty() { Some(0) } else { None }
 }
 
-/// Reads the seconds that a zone is ahead of UTC.
-fn read_zone(zone: &[u8]) -> Option<i64>
-    ensures value { result ≡ zone_of zone.now }
+/// Reads the seconds that a time zone is ahead of UTC.
+fn read_time_zone(time_zone: &[u8]) -> Option<i64>
+    ensures value { result ≡ time_zone_of time_zone.now }
     ensures few { IfSome result (IsWithin 86400) }
 {
-    match zone {
+    match time_zone {
         [b'-', ahead @ ..] => Some(-i64::from(read_minutes(ahead)?) * 60),
         [b'+', ahead @ ..] => Some(i64::from(read_minutes(ahead)?) * 60),
         [b'Z'] => Some(0),

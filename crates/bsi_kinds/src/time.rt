@@ -9,7 +9,7 @@ ghost use Rattle.bsi_kinds.specs.Clocks.{scanned_time, IsWithinSeconds};
 ghost use Rattle.bsi_kinds.specs.Comparisons.{ComparesAs};
 ghost use Rattle.bsi_kinds.specs.Decimals.{decimal_at, decimal_order};
 ghost use Rattle.bsi_kinds.specs.FieldNumbers.{time_compared};
-ghost use Rattle.bsi_kinds.specs.Times.{first_at, from_first, is_clock_sign, is_epoch_day, is_zone_sign, moment_of, moment_on, most_seconds, time_entry, time_of, unit_places, units_at, IsTimeNumber, SpellsTime};
+ghost use Rattle.bsi_kinds.specs.Times.{first_at, from_first, is_clock_sign, is_epoch_day, is_time_zone_sign, moment_of, moment_on, most_seconds, time_entry, time_of, unit_places, units_at, IsTimeNumber, SpellsTime};
 
 use crate::clock::{ScannedTime, read_offset, scan_clock, whole_seconds};
 use crate::comparison::{Comparison, bring_down};
@@ -79,15 +79,16 @@ pub struct TimeForm {
     pub date: DateForm,
     /// The unit of the numbers.
     pub unit: TimeUnit,
-    /// Whether a zone stands behind each clock, and numbers count from 1970-01-01T00:00:00 in UTC. Without zones they count
-    /// from that time of the local clock.
+    /// Whether a time zone stands behind each clock, and numbers count from 1970-01-01T00:00:00 in UTC. Without time
+    /// zones they count from that time of the local clock.
     pub utc: bool,
 }
 
-/// Reads a time as the number of units that stands for it: a date by the form, the letter T or a space, hours and minutes,
-/// seconds with any number of digits behind a point, or none, and in UTC a zone (Z, +01:30). Without zones a date alone is
-/// its midnight. `None` stands for a text that is not written so, for a day that the calendar has not, for a time that its
-/// zone moves past the year 9999, and for a time between two units. It allocates no memory.
+/// Reads a time as the number of units that stands for it: a date by the form, the letter T or a space, hours and
+/// minutes, seconds with any number of digits behind a point, or none, and in UTC a time zone (Z, +01:30). Without time
+/// zones a date alone is its midnight. `None` stands for a text that is not written so, for a day that the calendar has
+/// not, for a time that its time zone moves past the year 9999, and for a time between two units. It allocates no
+/// memory.
 pub fn read_time(form: TimeForm, text: &[u8]) -> Option<i64>
     ensures exact { result ≡ time_entry form text.now }
     ensures some { IfSome result (SpellsTime form text.now) }
@@ -168,14 +169,14 @@ fn scan_time(form: TimeForm, text: &[u8]) -> Option<ScannedTime>
     }
 }
 
-/// Scans a clock on a day, and the zone behind it.
+/// Scans a clock on a day, and the time zone behind it.
 fn scan_on_day(form: TimeForm, day: i64, text: &[u8]) -> Option<ScannedTime>
     requires { IsEpochDay day }
     ensures value { result ≡ option_map (scanned_time (unit_places form.unit)) (moment_on form.utc day text.now) }
     ensures few { IfSome result (IsWithinSeconds most_seconds (unit_places form.unit)) }
 {
-    let (clock, zone) = split_before_zone(text);
-    let offset = read_offset(form.utc, zone)?;
+    let (clock, time_zone) = split_before_time_zone(text);
+    let offset = read_offset(form.utc, time_zone)?;
     let time = scan_clock(form.unit.places(), clock)?;
     Some(ScannedTime {
         seconds: time.seconds + (day * DAY - offset),
@@ -192,13 +193,13 @@ fn split_before_clock(text: &[u8]) -> (&[u8], &[u8])
     text.split_at(find_clock_sign(text).unwrap_or(text.len()))
 }
 
-/// Splits a text before the first byte of a zone.
+/// Splits a text before the first byte of a time zone.
 #[tactic(auto, using(crate::proofs::Places::first_position))]
-fn split_before_zone(text: &[u8]) -> (&[u8], &[u8])
-    ensures before { result.0.now ≡ before_first is_zone_sign text.now }
-    ensures behind { result.1.now ≡ from_first is_zone_sign text.now }
+fn split_before_time_zone(text: &[u8]) -> (&[u8], &[u8])
+    ensures before { result.0.now ≡ before_first is_time_zone_sign text.now }
+    ensures behind { result.1.now ≡ from_first is_time_zone_sign text.now }
 {
-    text.split_at(find_zone_sign(text).unwrap_or(text.len()))
+    text.split_at(find_time_zone_sign(text).unwrap_or(text.len()))
 }
 
 /// Finds the letter T or a space.
@@ -208,9 +209,9 @@ fn find_clock_sign(text: &[u8]) -> Option<usize>
     text.iter().position(|byte| *byte == b'T' || *byte == b' ')
 }
 
-/// Finds the first byte of a zone.
-fn find_zone_sign(text: &[u8]) -> Option<usize>
-    ensures { result ≡ position is_zone_sign text.now }
+/// Finds the first byte of a time zone.
+fn find_time_zone_sign(text: &[u8]) -> Option<usize>
+    ensures { result ≡ position is_time_zone_sign text.now }
 {
     text.iter()
         .position(|byte| *byte == b'Z' || *byte == b'+' || *byte == b'-')

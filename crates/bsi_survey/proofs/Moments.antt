@@ -5,10 +5,10 @@ use Rattle.std.specs.Int.{int_div_euclid}
 use Rattle.std.specs.List.{before_first}
 use Rattle.std.proofs.lemmas.Bool.{and_from}
 use Rattle.jiff_core.specs.Calendar.{IsEpochDay}
-use Rattle.bsi_kinds.specs.Clocks.{clock_of, minutes_of, moment_value, moved, scanned_time, seconds_behind, subsecond_behind, two_digits, whole_moment, zone_offset, Moment}
+use Rattle.bsi_kinds.specs.Clocks.{clock_of, minutes_of, moment_value, moved, scanned_time, seconds_behind, subsecond_behind, two_digits, whole_moment, time_zone_offset, Moment}
 use Rattle.bsi_kinds.specs.Dates.{date_number}
 use Rattle.bsi_kinds.specs.Decimals.{mantissa_of, scanned, Digits, Represents}
-use Rattle.bsi_kinds.specs.Times.{day_of, from_first, is_clock_sign, is_epoch_day, is_zone_sign, moment_behind, moment_of, moment_on, time_entry, time_number, unit_places, units_at, IsTimeNumber, SpellsTime}
+use Rattle.bsi_kinds.specs.Times.{day_of, from_first, is_clock_sign, is_epoch_day, is_time_zone_sign, moment_behind, moment_of, moment_on, time_entry, time_number, unit_places, units_at, IsTimeNumber, SpellsTime}
 use Rattle.bsi_kinds.specs.declared.time.TimeForm.{TimeForm}
 use Rattle.bsi_kinds.proofs.Clocks.{part_small}
 use Rattle.bsi_kinds.proofs.Moments.{few_places, nothing_spelled, same_day, spelled_only}
@@ -76,9 +76,9 @@ module _ (p : ℕ) where
 
   on_small : (utc : Bool) (day : ℤ) (text : List ℕ) → SmallTime p (moment_on utc day text)
   on_small utc day text =
-      and_then_small (λ offset. option_map (moved (day *ℤ pos 86400 -ℤ offset)) (clock_of (before_first is_zone_sign text)))
-      (λ offset. moved_small (day *ℤ pos 86400 -ℤ offset) (clock_of (before_first is_zone_sign text)) (clock_small (before_first is_zone_sign text)))
-      (zone_offset utc (from_first is_zone_sign text))
+      and_then_small (λ offset. option_map (moved (day *ℤ pos 86400 -ℤ offset)) (clock_of (before_first is_time_zone_sign text)))
+      (λ offset. moved_small (day *ℤ pos 86400 -ℤ offset) (clock_of (before_first is_time_zone_sign text)) (clock_small (before_first is_time_zone_sign text)))
+      (time_zone_offset utc (from_first is_time_zone_sign text))
 
   midnight_small : (utc : Bool) (day : ℤ) → SmallTime p (if utc then None else Some (whole_moment (day *ℤ pos 86400)))
   midnight_small true day = none_small

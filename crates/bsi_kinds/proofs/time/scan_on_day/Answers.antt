@@ -8,11 +8,11 @@ use Rattle.bsi_kinds.proofs.time.scan_on_day.Goals as goal
 pub returns-clause-value : goal.returns-clause-value
 returns-clause-value c =
     day_found (unit_places c.args.form.unit) c.args.form.utc c.args.day c.args.text.now _ _ c.in_ok-offset.offset c.in_ok-time.time _
-    c.split_before_zone.ensures.before c.split_before_zone.ensures.behind c.in_ok-offset.ensures.value
-    (c.in_ok-time.ensures.value ∙ ap (λ p. option_map (scanned_time p) (clock_of c.split_before_zone.result.0.now)) c.places.ensures.places)
+    c.split_before_time_zone.ensures.before c.split_before_time_zone.ensures.behind c.in_ok-offset.ensures.value
+    (c.in_ok-time.ensures.value ∙ ap (λ p. option_map (scanned_time p) (clock_of c.split_before_time_zone.result.0.now)) c.places.ensures.places)
     (omega (arith, ints, c.ranges, c.requires, c.in_ok-offset.ensures.few, c.in_ok-time.ensures.few))
 
--- a day and a zone before or behind it are few
+-- a day and a time zone before or behind it are few
 pub returns-clause-few : goal.returns-clause-few
 returns-clause-few c =
     let clock = c.in_ok-time.ensures.few.seconds in
