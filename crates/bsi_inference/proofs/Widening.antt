@@ -7,11 +7,11 @@ use Rattle.std.proofs.lemmas.Int.{ints}
 use Rattle.std.proofs.lemmas.Nat.{div-add-mod', pow-add}
 use Rattle.std.specs.Int.{w64}
 use Rattle.std.specs.Option.{option_or}
-use Rattle.bsi_kinds.specs.Decimals.{begins_minus, decimal_entry, decimal_number, decimal_of, is_exact, negative, positive, scanned, signed_units, spelled_digits, units_of, whole_units, within_i64, without_minus, Digits}
-use Rattle.bsi_kinds.proofs.Entering.{entry_of}
+use Rattle.bsi_kinds.specs.Decimals.{begins_minus, decimal_i64, decimal_number, decimal_of, is_exact, negative, positive, scanned, signed_units, spelled_digits, units_of, whole_units, within_i64, without_minus, Digits}
+use Rattle.bsi_kinds.proofs.Fitting.{i64_is}
 use Rattle.bsi_kinds.proofs.Cutting.{neg_times, some_none, some_same}
 use Rattle.bsi_kinds.proofs.Scaling.{ten_some}
-use Rattle.bsi_kinds.specs.Rounding.{nearest_number, rounded_entry, tenths_number}
+use Rattle.bsi_kinds.specs.Rounding.{nearest_number, rounded_i64, tenths_number}
 use Rattle.bsi_inference.specs.Decimals.{number_by}
 use Rattle.bsi_inference.specs.Seen.{Covers, CoversSome}
 use Rattle.bsi_inference.specs.declared.seen.Seen.{Seen}
@@ -58,40 +58,40 @@ found_more p j minus (Some digits) n is = elim (cases_eq (digits.value * 10 ^ p 
 number_more : (point p j : ℕ) (text : List ℕ) (n : ℤ) → decimal_number point p text ≡ Some n → decimal_number point (p + j) text ≡ Some (n *ℤ pos (10 ^ j))
 number_more point p j text n is = found_more p j (begins_minus text) (spelled_digits point (without_minus text)) n is
 
--- a number that 64 bits hold is an entry
+-- a number that 64 bits hold is read
 between_fits : (a b m : ℤ) → FitsSigned w64 a → FitsSigned w64 b → a ≤ℤ m → m ≤ℤ b → FitsSigned w64 m
 between_fits a b m low high above below = omega (arith, ints)
 
 within_fits : (m : ℤ) → FitsSigned w64 m → within_i64 m ≡ Some m
 within_fits m fits = grind (arith, ints)
 
-entry_more : (point p j : ℕ) (text : List ℕ) (n : ℤ) → FitsSigned w64 (n *ℤ pos (10 ^ j)) → decimal_entry point p text ≡ Some n
-    → decimal_entry point (p + j) text ≡ Some (n *ℤ pos (10 ^ j))
-entry_more point p j text n fits is =
-    ap (option_and_then within_i64) (number_more point p j text n (entry_of (decimal_number point p text) n is)) ∙ within_fits (n *ℤ pos (10 ^ j)) fits
+i64_more : (point p j : ℕ) (text : List ℕ) (n : ℤ) → FitsSigned w64 (n *ℤ pos (10 ^ j)) → decimal_i64 point p text ≡ Some n
+    → decimal_i64 point (p + j) text ≡ Some (n *ℤ pos (10 ^ j))
+i64_more point p j text n fits is =
+    ap (option_and_then within_i64) (number_more point p j text n (i64_is (decimal_number point p text) n is)) ∙ within_fits (n *ℤ pos (10 ^ j)) fits
 
 -- what was seen, at more places
 module _ (point p j places : ℕ) (more : places ≡ p + j) (text : List ℕ) where
-  more_covered : (new : Seen) (n : ℤ) → decimal_entry point p text ≡ Some n → Covers new (n *ℤ pos (10 ^ j)) → CoversSome new (λ m. decimal_entry point places text ≡ Some m)
+  more_covered : (new : Seen) (n : ℤ) → decimal_i64 point p text ≡ Some n → Covers new (n *ℤ pos (10 ^ j)) → CoversSome new (λ m. decimal_i64 point places text ≡ Some m)
   more_covered Nothing n is covers = covers
   more_covered (Numbers range) n is covers =
       let fits = between_fits range.least range.greatest (n *ℤ pos (10 ^ j)) range.least_fits range.greatest_fits covers.0 covers.1 in
-      (n *ℤ pos (10 ^ j), ap (λ k. decimal_entry point k text) more ∙ entry_more point p j text n fits is, covers)
+      (n *ℤ pos (10 ^ j), ap (λ k. decimal_i64 point k text) more ∙ i64_more point p j text n fits is, covers)
   more_covered RuledOut n is covers = tt
 
   pub sees_more : (old new : Seen) → ((n : ℤ) → Covers old n → Covers new (n *ℤ pos (10 ^ j))) → (old ≡ RuledOut → new ≡ RuledOut)
-      → CoversSome old (λ n. decimal_entry point p text ≡ Some n) → CoversSome new (λ n. decimal_entry point places text ≡ Some n)
+      → CoversSome old (λ n. decimal_i64 point p text ≡ Some n) → CoversSome new (λ n. decimal_i64 point places text ≡ Some n)
   sees_more Nothing new keeps ruled_out accepted = absurd accepted
   sees_more (Numbers range) new keeps ruled_out accepted = more_covered new accepted.0 accepted.1 (keeps accepted.0 accepted.2)
-  sees_more RuledOut new keeps ruled_out accepted = fallen_covers new (λ n. decimal_entry point places text ≡ Some n) (ruled_out refl)
+  sees_more RuledOut new keeps ruled_out accepted = fallen_covers new (λ n. decimal_i64 point places text ≡ Some n) (ruled_out refl)
 
 -- what was read
-pub sees_read : (point places : ℕ) (text : List ℕ) (new : Seen) (found : Option ℤ) → found ≡ decimal_entry point places text
-    → IfSome found (Covers new) → IfNone found (new ≡ RuledOut) → CoversSome new (λ n. decimal_entry point places text ≡ Some n)
-sees_read point places text new None is covers none = fallen_covers new (λ n. decimal_entry point places text ≡ Some n) none
-sees_read point places text new (Some n) is covers none = covers_some new (λ m. decimal_entry point places text ≡ Some m) n (sym is) covers
+pub sees_read : (point places : ℕ) (text : List ℕ) (new : Seen) (found : Option ℤ) → found ≡ decimal_i64 point places text
+    → IfSome found (Covers new) → IfNone found (new ≡ RuledOut) → CoversSome new (λ n. decimal_i64 point places text ≡ Some n)
+sees_read point places text new None is covers none = fallen_covers new (λ n. decimal_i64 point places text ≡ Some n) none
+sees_read point places text new (Some n) is covers none = covers_some new (λ m. decimal_i64 point places text ≡ Some m) n (sym is) covers
 
--- an entry is a decimal's
+-- a number that is read is that of a decimal
 map_some : {A B : Type 0} (f : A → B) (found : Option A) → is_some (option_map f found) ≡ is_some found
 map_some f None = refl
 map_some f (Some x) = refl
@@ -100,16 +100,16 @@ found_digits : (places : ℕ) (minus : Bool) (found : Option Digits) → is_some
 found_digits places minus None is = is
 found_digits places minus (Some d) is = refl
 
-entry_decimal : (point places : ℕ) (text : List ℕ) → is_some (decimal_entry point places text) ≡ true → is_some (decimal_of point text) ≡ true
-entry_decimal point places text is =
+i64_decimal : (point places : ℕ) (text : List ℕ) → is_some (decimal_i64 point places text) ≡ true → is_some (decimal_of point text) ≡ true
+i64_decimal point places text is =
     map_some (if begins_minus text then negative else positive) (spelled_digits point (without_minus text))
     ∙ found_digits places (begins_minus text) (spelled_digits point (without_minus text)) is
 
 -- what was read and rounded
-pub rounds_read : (point places : ℕ) (text : List ℕ) (new : Seen) (found : Option ℤ) → found ≡ rounded_entry point places text
-    → IfSome found (Covers new) → IfNone found (new ≡ RuledOut) → CoversSome new (λ n. rounded_entry point places text ≡ Some n)
-rounds_read point places text new None is covers none = fallen_covers new (λ n. rounded_entry point places text ≡ Some n) none
-rounds_read point places text new (Some n) is covers none = covers_some new (λ m. rounded_entry point places text ≡ Some m) n (sym is) covers
+pub rounds_read : (point places : ℕ) (text : List ℕ) (new : Seen) (found : Option ℤ) → found ≡ rounded_i64 point places text
+    → IfSome found (Covers new) → IfNone found (new ≡ RuledOut) → CoversSome new (λ n. rounded_i64 point places text ≡ Some n)
+rounds_read point places text new None is covers none = fallen_covers new (λ n. rounded_i64 point places text ≡ Some n) none
+rounds_read point places text new (Some n) is covers none = covers_some new (λ m. rounded_i64 point places text ≡ Some m) n (sym is) covers
 
 -- a rounded number is a decimal's
 either_some : (a b : Option ℤ) → is_some (option_or a b) ≡ true → (is_some a ≡ true) ⊎ (is_some b ≡ true)
@@ -120,13 +120,13 @@ nearest_digits : (places : ℕ) (minus : Bool) (found : Option Digits) → is_so
 nearest_digits places minus None is = is
 nearest_digits places minus (Some d) is = refl
 
-rounded_decimal : (point places : ℕ) (text : List ℕ) → is_some (rounded_entry point places text) ≡ true → is_some (decimal_of point text) ≡ true
-rounded_decimal point places text is = elim (either_some (decimal_entry point places text) (nearest_number point places text) is) [
-  | inl exact ↦ entry_decimal point places text exact
+rounded_decimal : (point places : ℕ) (text : List ℕ) → is_some (rounded_i64 point places text) ≡ true → is_some (decimal_of point text) ≡ true
+rounded_decimal point places text is = elim (either_some (decimal_i64 point places text) (nearest_number point places text) is) [
+  | inl exact ↦ i64_decimal point places text exact
   | inr nearest ↦ map_some (if begins_minus text then negative else positive) (spelled_digits point (without_minus text))
       ∙ nearest_digits (places + 1) (begins_minus text) (spelled_digits point (without_minus text)) nearest
 ]
 
 pub number_decimal : (rounding : Option ℕ) (point places : ℕ) (text : List ℕ) → is_some (number_by rounding point places text) ≡ true → is_some (decimal_of point text) ≡ true
-number_decimal None point places text is = entry_decimal point places text is
+number_decimal None point places text is = i64_decimal point places text is
 number_decimal (Some rounding) point places text is = rounded_decimal point rounding text is

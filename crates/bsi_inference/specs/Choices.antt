@@ -3,8 +3,8 @@ use Rattle.std.specs.Prelude.{◌≡◌, ◌≤◌, ℕ, ◌&&◌, Bool, true, f
 use Rattle.std.specs.List.{list_any}
 use Rattle.bsi_kinds.specs.Dates.{date_number}
 use Rattle.bsi_rows.specs.Fields.{Field}
-use Rattle.bsi_kinds.specs.Decimals.{decimal_entry}
-use Rattle.bsi_kinds.specs.Rounding.{rounded_entry}
+use Rattle.bsi_kinds.specs.Decimals.{decimal_i64}
+use Rattle.bsi_kinds.specs.Rounding.{rounded_i64}
 use Rattle.bsi_kinds.specs.declared.date.DateForm.{DateForm}
 use Rattle.bsi_kinds.specs.declared.date.DateOrder.{DateOrder}
 use Rattle.bsi_kinds.specs.declared.date.DateOrder.TheVariants.{YearFirst, DayFirst, MonthFirst}
@@ -34,11 +34,11 @@ HasFormNumberIn form range f = HasNumberIn (SpellsInForm form f) range
 
 -- A field has a number in a range, as a decimal.
 abbrev pub HasDecimalIn : ℕ → ℕ → NumberRange → Field → Type 0
-HasDecimalIn point places range f = HasNumberIn (λ n. decimal_entry point places f ≡ Some n) range
+HasDecimalIn point places range f = HasNumberIn (λ n. decimal_i64 point places f ≡ Some n) range
 
 -- A field has a number in a range, as a decimal that is rounded.
 abbrev pub HasRoundedIn : ℕ → ℕ → NumberRange → Field → Type 0
-HasRoundedIn point places range f = HasNumberIn (λ n. rounded_entry point places f ≡ Some n) range
+HasRoundedIn point places range f = HasNumberIn (λ n. rounded_i64 point places f ≡ Some n) range
 
 -- A date in an order, with a sign between two numbers.
 abbrev pub IsDateIn : DateOrder → ℕ → Field → Type 0

@@ -1,9 +1,9 @@
 -- The decimals of a column: which fields they accept, and what a further field or another part of the column changes.
 use Rattle.std.specs.Prelude.{◌≡◌, ◌⊎◌, ◌-◌, ◌<◌, ◌≤◌, ℕ, ℤ, Bool, not, ◌&&◌, is_some, max, Option, Some, None, IsTrue}
 use Rattle.bsi_rows.specs.Fields.{Field}
-use Rattle.bsi_kinds.specs.Decimals.{decimal_entry, decimal_of}
+use Rattle.bsi_kinds.specs.Decimals.{decimal_i64, decimal_of}
 use Rattle.bsi_kinds.specs.DecimalPlaces.{places_written}
-use Rattle.bsi_kinds.specs.Rounding.{rounded_entry}
+use Rattle.bsi_kinds.specs.Rounding.{rounded_i64}
 use Rattle.bsi_inference.specs.Codes.{is_code}
 use Rattle.bsi_inference.specs.Seen.{CoversSome, IsScaled, IsSeenIf, IsSeenWithAll}
 use Rattle.bsi_inference.specs.declared.seen.Seen.{Seen}
@@ -21,8 +21,8 @@ pub record IsPlainDecimal (point most : ℕ) (field : Field) : Type 0 where
 
 -- The number of a field at some places or, if decimals are rounded, at the places to which they are.
 abbrev pub number_by : Option ℕ → ℕ → ℕ → Field → Option ℤ
-number_by None point places field = decimal_entry point places field
-number_by (Some rounding) point places field = rounded_entry point rounding field
+number_by None point places field = decimal_i64 point places field
+number_by (Some rounding) point places field = rounded_i64 point rounding field
 
 -- The decimals of a column accept a field: it has a number that was seen, at their places or rounded.
 -- It is plain, if each field so far was plain.
@@ -35,12 +35,12 @@ pub record AcceptsDecimal (point : ℕ) (decimals : Decimals) (field : Field) : 
 abbrev pub IsSeenScaled : ℕ → Field → Decimals → ℕ → Seen → Type 0
 IsSeenScaled point field old places new =
     ((18 < places) × (new ≡ RuledOut))
-    ⊎ ((scaled : Seen) × IsScaled (places - old.places) old.seen scaled × IsSeenIf (decimal_entry point places field) scaled new)
+    ⊎ ((scaled : Seen) × IsScaled (places - old.places) old.seen scaled × IsSeenIf (decimal_i64 point places field) scaled new)
 
 -- What is seen after a field that is rounded to some places. More than 18 places are ruled out.
 abbrev pub IsSeenRounded : ℕ → Field → ℕ → Seen → Seen → Type 0
 IsSeenRounded point field rounding old new =
-    ((18 < rounding) × (new ≡ RuledOut)) ⊎ ((rounding ≤ 18) × IsSeenIf (rounded_entry point rounding field) old new)
+    ((18 < rounding) × (new ≡ RuledOut)) ⊎ ((rounding ≤ 18) × IsSeenIf (rounded_i64 point rounding field) old new)
 
 abbrev pub IsSeenBy : Option ℕ → ℕ → Field → Decimals → ℕ → Seen → Type 0
 IsSeenBy None point field old places new = IsSeenScaled point field old places new

@@ -3,8 +3,8 @@
 
 ghost use Rattle.std.specs.Prelude.{◌≡◌, ℕ, ◌≤◌, true, false, Some, is_some, IsTrue};
 ghost use Rattle.bsi_rows.specs.Fields.{Field};
-ghost use Rattle.bsi_kinds.specs.Decimals.{decimal_entry};
-ghost use Rattle.bsi_kinds.specs.Rounding.{rounded_entry};
+ghost use Rattle.bsi_kinds.specs.Decimals.{decimal_i64};
+ghost use Rattle.bsi_kinds.specs.Rounding.{rounded_i64};
 ghost use Rattle.bsi_inference.specs.Decimals.{number_by, AreJoinedDecimals, IsBroughtTo, IsNextDecimals, IsScaledTo, IsSeenAt, IsSeenRounded, IsSeenScaled};
 ghost use Rattle.bsi_inference.specs.Seen.{CoversSome};
 
@@ -80,8 +80,8 @@ impl Decimals {
     fn scale_to(self, places: usize) -> Seen
         requires { self.places ≤ places }
         ensures preserved { (point : ℕ) → (f : Field) →
-            CoversSome self.seen (λ n. decimal_entry point self.places f ≡ Some n) →
-            CoversSome result (λ n. decimal_entry point places f ≡ Some n) }
+            CoversSome self.seen (λ n. decimal_i64 point self.places f ≡ Some n) →
+            CoversSome result (λ n. decimal_i64 point places f ≡ Some n) }
         ensures brought { IsScaledTo places self result }
     {
         if places > MAX_PLACES as usize {
@@ -112,12 +112,12 @@ impl Decimals {
     /// Returns what was seen at so many places once the column has this field, and whether the field has a number there.
     fn see_scaled(self, point: u8, places: usize, field: &[u8]) -> (Seen, bool)
         requires { self.places ≤ places }
-        ensures accepts { CoversSome result.0 (λ n. decimal_entry point places field.now ≡ Some n) }
+        ensures accepts { CoversSome result.0 (λ n. decimal_i64 point places field.now ≡ Some n) }
         ensures preserved { (f : Field) →
-            CoversSome self.seen (λ n. decimal_entry point self.places f ≡ Some n) →
-            CoversSome result.0 (λ n. decimal_entry point places f ≡ Some n) }
+            CoversSome self.seen (λ n. decimal_i64 point self.places f ≡ Some n) →
+            CoversSome result.0 (λ n. decimal_i64 point places f ≡ Some n) }
         ensures seen { IsSeenScaled point field.now self places result.0 }
-        ensures read { result.1 ≡ true → IsTrue (is_some (decimal_entry point places field.now)) }
+        ensures read { result.1 ≡ true → IsTrue (is_some (decimal_i64 point places field.now)) }
     {
         if places > MAX_PLACES as usize {
             return (Seen::RuledOut, false);
@@ -130,12 +130,12 @@ impl Decimals {
 
 /// Returns what was seen of rounded numbers once the column has this field, and whether the field has one.
 fn see_rounded(seen: Seen, point: u8, rounding: u32, field: &[u8]) -> (Seen, bool)
-    ensures accepts { CoversSome result.0 (λ n. rounded_entry point rounding field.now ≡ Some n) }
+    ensures accepts { CoversSome result.0 (λ n. rounded_i64 point rounding field.now ≡ Some n) }
     ensures preserved { (f : Field) →
-        CoversSome seen (λ n. rounded_entry point rounding f ≡ Some n) →
-        CoversSome result.0 (λ n. rounded_entry point rounding f ≡ Some n) }
+        CoversSome seen (λ n. rounded_i64 point rounding f ≡ Some n) →
+        CoversSome result.0 (λ n. rounded_i64 point rounding f ≡ Some n) }
     ensures seen { IsSeenRounded point field.now rounding seen result.0 }
-    ensures read { result.1 ≡ true → IsTrue (is_some (rounded_entry point rounding field.now)) }
+    ensures read { result.1 ≡ true → IsTrue (is_some (rounded_i64 point rounding field.now)) }
 {
     if rounding > MAX_PLACES {
         return (Seen::RuledOut, false);

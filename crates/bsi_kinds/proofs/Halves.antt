@@ -8,11 +8,11 @@ use Rattle.std.proofs.lemmas.Bool.Decides.{nat_tests}
 use Rattle.std.proofs.lemmas.Int.{ints, to_z-of_z, to_z_pos}
 use mir.Val.{of_z, to_z}
 use Rattle.std.proofs.lemmas.Nat.{div-add-mod', mod_below, pow-add}
-use Rattle.bsi_kinds.specs.Decimals.{decimal_entry, decimal_number, decimal_of, most_scanned, negative, positive, scanned, signed_units, units_of, Decimal, Digits, Represents}
+use Rattle.bsi_kinds.specs.Decimals.{decimal_i64, decimal_number, decimal_of, most_scanned, negative, positive, scanned, signed_units, units_of, Decimal, Digits, Represents}
 use Rattle.bsi_kinds.specs.Rounding.{goes_up, rounded_units, tenths_number, IsRounded}
 use Rattle.bsi_kinds.specs.declared.decimal.Scanned.{Scanned}
 use Rattle.bsi_kinds.proofs.Cutting.{neg_times, number_stands, signed_by, some_same}
-use Rattle.bsi_kinds.proofs.Entering.{entry_of}
+use Rattle.bsi_kinds.proofs.Fitting.{i64_is}
 use Rattle.bsi_kinds.proofs.Scaling.{ten_some}
 
 -- n units, of w parts each, are nearest to x parts
@@ -255,11 +255,11 @@ stands_rounded : (p : ℕ) (found : Option Decimal) (n : ℤ) → MatchOption fo
 stands_rounded p None n stands = stands
 stands_rounded p (Some d) n stands = same_rounded p d n stands
 
-pub exact_some : (point p : ℕ) (text : List ℕ) (found : Option ℤ) → found ≡ decimal_entry point p text
+pub exact_some : (point p : ℕ) (text : List ℕ) (found : Option ℤ) → found ≡ decimal_i64 point p text
     → IfSome found (λ n. MatchOption (decimal_of point text) ⊥ (λ d. IsRounded p d n))
 exact_some point p text None is = tt
 exact_some point p text (Some n) is =
-    stands_rounded p (decimal_of point text) n (number_stands point p text n (entry_of (decimal_number point p text) n (sym is)))
+    stands_rounded p (decimal_of point text) n (number_stands point p text n (i64_is (decimal_number point p text) n (sym is)))
 
 -- units with a minus sign, as 64 bits hold them
 pub negated_units : (u r : ℕ) → u ≡ r → u ≤ 1844674407370955162 → to_z w64 (of_z w64 (pos 0 -ℤ to_z w64 u)) ≡ neg_ℤ (pos r)

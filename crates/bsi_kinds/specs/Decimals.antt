@@ -149,12 +149,12 @@ abbrev pub within_i64 : ℤ → Option ℤ
 within_i64 n = if int_le least_i64 n && int_lt n (pos end_of_i64) then Some n else None
 
 -- The number of 64 bits that stands for the decimal of a text, at some places.
-abbrev pub decimal_entry : ℕ → ℕ → Field → Option ℤ
-decimal_entry point places text = option_and_then within_i64 (decimal_number point places text)
+abbrev pub decimal_i64 : ℕ → ℕ → Field → Option ℤ
+decimal_i64 point places text = option_and_then within_i64 (decimal_number point places text)
 
 -- The number of what was scanned. The greatest units stand for all greater ones, so they have no number.
-abbrev pub scanned_entry : Bool → Scanned → Option ℤ
-scanned_entry minus s =
+abbrev pub scanned_i64 : Bool → Scanned → Option ℤ
+scanned_i64 minus s =
     if s.exact && not (s.units == most_scanned) then within_i64 (signed_units minus s.units) else None
 
 -- The first number whose decimal is not below what was scanned.

@@ -9,10 +9,10 @@ use Rattle.bsi_kinds.specs.Booleans.{boolean_number}
 use Rattle.bsi_kinds.specs.Comparisons.{brought_down, comparison}
 use Rattle.bsi_kinds.specs.Dates.{date_number}
 use Rattle.bsi_rows.specs.Fields.{Field}
-use Rattle.bsi_kinds.specs.Decimals.{begins_minus, decimal_entry, first_from, scanned, spelled_digits, without_minus}
+use Rattle.bsi_kinds.specs.Decimals.{begins_minus, decimal_i64, first_from, scanned, spelled_digits, without_minus}
 use Rattle.bsi_kinds.specs.Dictionaries.{text_at}
-use Rattle.bsi_kinds.specs.Rounding.{rounded_entry}
-use Rattle.bsi_kinds.specs.Times.{first_at, scanned_time_of, time_entry, unit_places}
+use Rattle.bsi_kinds.specs.Rounding.{rounded_i64}
+use Rattle.bsi_kinds.specs.Times.{first_at, scanned_time_of, time_i64, unit_places}
 use Rattle.bsi_kinds.specs.declared.comparison.Comparison.{Comparison}
 use Rattle.bsi_kinds.specs.declared.kind.Kind.{Kind}
 use Rattle.bsi_kinds.specs.declared.kind.Kind.TheVariants.{Boolean, Date, Decimal, Rounded, Text, Time}
@@ -32,10 +32,10 @@ text_number texts text = if is_at texts (text_rank texts text) text then Some (t
 
 -- The number that stands for the value of a field.
 abbrev pub field_number : Kind → ℕ → Field → Option ℤ
-field_number (Decimal places) point field = decimal_entry point places field
-field_number (Rounded places) point field = rounded_entry point places field
+field_number (Decimal places) point field = decimal_i64 point places field
+field_number (Rounded places) point field = rounded_i64 point places field
 field_number (Date form) point field = date_number form field
-field_number (Time form) point field = time_entry form field
+field_number (Time form) point field = time_i64 form field
 field_number (Boolean form) point field = boolean_number form field
 field_number (Text texts) point field = option_map pos (text_number texts field)
 

@@ -8,10 +8,10 @@ use Rattle.bsi_digits.specs.declared.op.Op.{Op}
 use Rattle.bsi_kinds.specs.Booleans.{boolean_number, boolean_text, is_true}
 use Rattle.bsi_kinds.specs.Dates.{date_number, WritesDate}
 use Rattle.bsi_rows.specs.Fields.{Field}
-use Rattle.bsi_kinds.specs.Decimals.{decimal_at, decimal_entry, decimal_of, decimal_order, Decimal as Fraction}
+use Rattle.bsi_kinds.specs.Decimals.{decimal_at, decimal_i64, decimal_of, decimal_order, Decimal as Fraction}
 use Rattle.bsi_kinds.specs.Dictionaries.{text_at, text_order}
 use Rattle.bsi_kinds.specs.DecimalTexts.{decimal_text}
-use Rattle.bsi_kinds.specs.Rounding.{rounded_entry}
+use Rattle.bsi_kinds.specs.Rounding.{rounded_i64}
 use Rattle.bsi_kinds.specs.TimeTexts.{WritesTime}
 use Rattle.bsi_kinds.specs.Times.{time_of, unit_places, IsTimeNumber, SpellsTime}
 use Rattle.bsi_kinds.specs.declared.comparison.Comparison.{Comparison}
@@ -76,8 +76,8 @@ value_compares op a b = false
 
 -- The number stands for the value of a text, or for what the decimal of the text is rounded to.
 abbrev pub IsSpelled : Kind → ℕ → Field → ℤ → Type 0
-IsSpelled (Decimal places) point word n = decimal_entry point places word ≡ Some n
-IsSpelled (Rounded places) point word n = rounded_entry point places word ≡ Some n
+IsSpelled (Decimal places) point word n = decimal_i64 point places word ≡ Some n
+IsSpelled (Rounded places) point word n = rounded_i64 point places word ≡ Some n
 IsSpelled (Date form) point word n = date_number form word ≡ Some n
 IsSpelled (Time form) point word n = IsTimeNumber form.unit n × SpellsTime form word n
 IsSpelled (Boolean form) point word n = boolean_number form word ≡ Some n

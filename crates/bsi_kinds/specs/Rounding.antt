@@ -2,7 +2,7 @@
 use Rattle.std.specs.Prelude.{◌≡◌, ◌⊎◌, ℕ, ◌+◌, ◌/◌, ◌%◌, ◌^◌, nat_lt, Bool, not, ◌&&◌, ◌||◌, ◌==◌, if◌then◌else◌, Option, Some, None, option_and_then, option_map, ℤ, pos, ◌+ℤ◌, ◌-ℤ◌, ◌≤ℤ◌, unsigned_abs}
 use Rattle.std.specs.Option.{option_or}
 use Rattle.bsi_rows.specs.Fields.{Field}
-use Rattle.bsi_kinds.specs.Decimals.{begins_minus, decimal_at, decimal_entry, most_scanned, scanned, signed_units, spelled_digits, units_beside, without_minus, Decimal}
+use Rattle.bsi_kinds.specs.Decimals.{begins_minus, decimal_at, decimal_i64, most_scanned, scanned, signed_units, spelled_digits, units_beside, without_minus, Decimal}
 use Rattle.bsi_kinds.specs.declared.decimal.Scanned.{Scanned}
 
 abbrev pub twice : ℤ → ℤ
@@ -47,5 +47,5 @@ nearest_number point places text =
     (option_map (scanned (places + 1)) (spelled_digits point (without_minus text)))
 
 -- The number of 64 bits that the decimal of a text is rounded to. One that needs rounding has tenths of 64 bits.
-abbrev pub rounded_entry : ℕ → ℕ → Field → Option ℤ
-rounded_entry point places text = option_or (decimal_entry point places text) (nearest_number point places text)
+abbrev pub rounded_i64 : ℕ → ℕ → Field → Option ℤ
+rounded_i64 point places text = option_or (decimal_i64 point places text) (nearest_number point places text)

@@ -88,5 +88,5 @@ abbrev pub scanned_time_of : TimeForm → Field → Option ScannedTime
 scanned_time_of form text = option_map (scanned_time (unit_places form.unit)) (moment_of form text)
 
 -- The number that stands for the time of a text.
-abbrev pub time_entry : TimeForm → Field → Option ℤ
-time_entry form text = option_and_then (time_number form.unit) (scanned_time_of form text)
+abbrev pub time_i64 : TimeForm → Field → Option ℤ
+time_i64 form text = option_and_then (time_number form.unit) (scanned_time_of form text)

@@ -7,7 +7,7 @@ ghost use Rattle.std.specs.List.{after_first, before_first, list_all, position};
 ghost use Rattle.std.specs.Str.Parse.{digits_value_after};
 ghost use Rattle.bsi_kinds.specs.Comparisons.{ComparesAs};
 ghost use Rattle.bsi_kinds.specs.FieldNumbers.{decimal_compared};
-ghost use Rattle.bsi_kinds.specs.Decimals.{begins_minus, decimal_at, decimal_entry, decimal_number, decimal_of, decimal_order, exponent_of, first_from, fraction, integer_digits, is_exponent_sign, mantissa_of, most_scanned, raised_digits_of, scanned, scanned_entry, short_number, spelled_digits, without_minus, Represents};
+ghost use Rattle.bsi_kinds.specs.Decimals.{begins_minus, decimal_at, decimal_i64, decimal_number, decimal_of, decimal_order, exponent_of, first_from, fraction, integer_digits, is_exponent_sign, mantissa_of, most_scanned, raised_digits_of, scanned, scanned_i64, short_number, spelled_digits, without_minus, Represents};
 
 use crate::comparison::{Comparison, bring_down};
 use bsi_digits::Op;
@@ -28,15 +28,15 @@ pub struct Scanned {
 /// decimal, for one of more places, and for a number that 64 bits do not hold. It allocates no memory.
 pub fn read_decimal(point: u8, places: u32, text: &[u8]) -> Option<i64>
     requires { places ≤ 18 }
-    ensures { result ≡ decimal_entry point places text.now }
+    ensures { result ≡ decimal_i64 point places text.now }
 {
     let (negative, digits) = split_sign(text);
-    entry_of(negative, scan(point, places, digits)?)
+    to_i64(negative, scan(point, places, digits)?)
 }
 
 /// Returns the number that stands for what was scanned, with a minus sign before it or none.
-fn entry_of(negative: bool, scanned: Scanned) -> Option<i64>
-    ensures { result ≡ scanned_entry negative scanned }
+fn to_i64(negative: bool, scanned: Scanned) -> Option<i64>
+    ensures { result ≡ scanned_i64 negative scanned }
 {
     if !scanned.exact || scanned.units == u64::MAX {
         return None;

@@ -2,7 +2,7 @@
 
 ghost use Rattle.std.specs.Prelude.{◌≡◌, ◌≤◌, ⊤, ℤ, unsigned_abs, MatchOption, IfNone, IfSome};
 ghost use Rattle.bsi_kinds.specs.Decimals.{decimal_of};
-ghost use Rattle.bsi_kinds.specs.Rounding.{nearest_number, rounded_entry, rounded_units, IsRounded};
+ghost use Rattle.bsi_kinds.specs.Rounding.{nearest_number, rounded_i64, rounded_units, IsRounded};
 
 use crate::decimal::{Scanned, read_decimal, scan, split_sign};
 
@@ -11,7 +11,7 @@ use crate::decimal::{Scanned, read_decimal, scan, split_sign};
 /// for one of 64 bits that needs no rounding. It allocates no memory.
 pub fn read_rounded(point: u8, places: u32, text: &[u8]) -> Option<i64>
     requires { places ≤ 18 }
-    ensures exact { result ≡ rounded_entry point places text.now }
+    ensures exact { result ≡ rounded_i64 point places text.now }
     ensures some { IfSome result (λ n. MatchOption (decimal_of point text.now) ⊥
         (λ decimal. IsRounded places decimal n)) }
     ensures none { IfNone result (MatchOption (decimal_of point text.now) ⊤ (λ decimal. (n : ℤ) →

@@ -9,7 +9,7 @@ ghost use Rattle.bsi_kinds.specs.Clocks.{scanned_time, IsWithinSeconds};
 ghost use Rattle.bsi_kinds.specs.Comparisons.{ComparesAs};
 ghost use Rattle.bsi_kinds.specs.Decimals.{decimal_at, decimal_order};
 ghost use Rattle.bsi_kinds.specs.FieldNumbers.{time_compared};
-ghost use Rattle.bsi_kinds.specs.Times.{first_at, from_first, is_clock_sign, is_epoch_day, is_time_zone_sign, moment_of, moment_on, most_seconds, time_entry, time_of, unit_places, units_at, IsTimeNumber, SpellsTime};
+ghost use Rattle.bsi_kinds.specs.Times.{first_at, from_first, is_clock_sign, is_epoch_day, is_time_zone_sign, moment_of, moment_on, most_seconds, time_i64, time_of, unit_places, units_at, IsTimeNumber, SpellsTime};
 
 use crate::clock::{ScannedTime, read_offset, scan_clock, whole_seconds};
 use crate::comparison::{Comparison, bring_down};
@@ -90,7 +90,7 @@ pub struct TimeForm {
 /// not, for a time that its time zone moves past the year 9999, and for a time between two units. It allocates no
 /// memory.
 pub fn read_time(form: TimeForm, text: &[u8]) -> Option<i64>
-    ensures exact { result ≡ time_entry form text.now }
+    ensures exact { result ≡ time_i64 form text.now }
     ensures some { IfSome result (SpellsTime form text.now) }
     ensures within { IfSome result (IsTimeNumber form.unit) }
     ensures none { IfNone result ((n : ℤ) → IsTimeNumber form.unit n →

@@ -8,7 +8,7 @@ use Rattle.jiff_core.specs.Calendar.{IsEpochDay}
 use Rattle.bsi_kinds.specs.Clocks.{clock_of, minutes_of, moment_value, moved, scanned_time, seconds_behind, subsecond_behind, two_digits, whole_moment, time_zone_offset, Moment}
 use Rattle.bsi_kinds.specs.Dates.{date_number}
 use Rattle.bsi_kinds.specs.Decimals.{mantissa_of, scanned, Digits, Represents}
-use Rattle.bsi_kinds.specs.Times.{day_of, from_first, is_clock_sign, is_epoch_day, is_time_zone_sign, moment_behind, moment_of, moment_on, time_entry, time_number, unit_places, units_at, IsTimeNumber, SpellsTime}
+use Rattle.bsi_kinds.specs.Times.{day_of, from_first, is_clock_sign, is_epoch_day, is_time_zone_sign, moment_behind, moment_of, moment_on, time_i64, time_number, unit_places, units_at, IsTimeNumber, SpellsTime}
 use Rattle.bsi_kinds.specs.declared.time.TimeForm.{TimeForm}
 use Rattle.bsi_kinds.proofs.Clocks.{part_small}
 use Rattle.bsi_kinds.proofs.Moments.{few_places, nothing_spelled, same_day, spelled_only}
@@ -121,5 +121,5 @@ module _ (form : TimeForm) (text : List ℕ) (n : ℤ) where
       absurd (subst (λ (o : Option Moment). MatchOption (option_map moment_value o) ⊥ (Represents p n)) is spelled)
   by_moment (Some m) is small within spelled = found_number m (scanned_time p m).subsecond.exact refl is small within spelled
 
-  pub time_is : IsTimeNumber form.unit n → SpellsTime form text n → time_entry form text ≡ Some n
+  pub time_is : IsTimeNumber form.unit n → SpellsTime form text n → time_i64 form text ≡ Some n
   time_is within spelled = by_moment (moment_of form text) refl (moment_small p form text) within spelled

@@ -1,5 +1,5 @@
 use Rattle.std.proofs.Common.{◌≡◌, Some}
-use Rattle.bsi_kinds.specs.Rounding.{rounded_entry}
+use Rattle.bsi_kinds.specs.Rounding.{rounded_i64}
 use Rattle.bsi_inference.proofs.Steps.{covers_more}
 use Rattle.bsi_inference.proofs.Widening.{rounds_read}
 use Rattle.bsi_inference.proofs.decimals.see_rounded.Goals as goal
@@ -10,4 +10,4 @@ returns-clause-accepts c =
 
 pub returns-clause-preserved : goal.returns-clause-preserved
 returns-clause-preserved c = λ f accepted.
-    covers_more c.args.seen c.with.result (λ n. rounded_entry c.args.point c.args.rounding f ≡ Some n) c.with.ensures.preserved c.with.ensures.ruled_out accepted
+    covers_more c.args.seen c.with.result (λ n. rounded_i64 c.args.point c.args.rounding f ≡ Some n) c.with.ensures.preserved c.with.ensures.ruled_out accepted

@@ -1,9 +1,9 @@
--- The number of what was scanned.
+-- The number of 64 bits of what was scanned, if it fits.
 use Rattle.std.proofs.Common.{◌≡◌, ℕ, ◌≤◌, inl, inr, min, Bool, true, false, not, ◌&&◌, ◌==◌, int_le, int_lt, ℤ, if◌then◌else◌, Option, Some, None, option_map, option_and_then, pos, neg_ℤ, ◌∙◌, ap, arith, sym, refl, eq-eqb}
 use Rattle.std.proofs.lemmas.Bool.{cases_cond, cases_lt, ne_eqb}
 use Rattle.std.proofs.lemmas.Int.{ints}
 use Rattle.bsi_digits.specs.Signed.{end_of_i64, least_i64}
-use Rattle.bsi_kinds.specs.Decimals.{is_exact, most_scanned, scanned, scanned_entry, signed_units, units_of, whole_units, within_i64, Digits}
+use Rattle.bsi_kinds.specs.Decimals.{is_exact, most_scanned, scanned, scanned_i64, signed_units, units_of, whole_units, within_i64, Digits}
 use Rattle.bsi_kinds.proofs.Cutting.{some_none, some_same}
 
 -- 64 bits do not hold a number past what a scan tells apart
@@ -18,7 +18,7 @@ past true n large = past_negative n large
 past false n large = past_positive n large
 
 by_test : (minus : Bool) (p : ℕ) (d : Digits) (whole : Bool) → is_exact p d ≡ whole
-    → scanned_entry minus (record { units = min (units_of p d) most_scanned; exact = whole })
+    → scanned_i64 minus (record { units = min (units_of p d) most_scanned; exact = whole })
     ≡ option_and_then within_i64 (option_map (signed_units minus) (if whole then Some (units_of p d) else None))
 by_test minus p d false is = refl
 by_test minus p d true is = elim (cases_lt (units_of p d) most_scanned) [
@@ -35,19 +35,19 @@ by_test minus p d true is = elim (cases_lt (units_of p d) most_scanned) [
 ]
 
 -- the number of what was scanned of digits is theirs
-pub entry_found : (minus : Bool) (p : ℕ) (found : Option Digits)
-    → option_and_then (scanned_entry minus) (option_map (scanned p) found)
+pub i64_found : (minus : Bool) (p : ℕ) (found : Option Digits)
+    → option_and_then (scanned_i64 minus) (option_map (scanned p) found)
     ≡ option_and_then within_i64 (option_map (signed_units minus) (option_and_then (whole_units p) found))
-entry_found minus p None = refl
-entry_found minus p (Some d) = by_test minus p d (is_exact p d) refl
+i64_found minus p None = refl
+i64_found minus p (Some d) = by_test minus p d (is_exact p d) refl
 
--- an entry is a number
+-- a number that fits is itself
 within_is : (m n : ℤ) → within_i64 m ≡ Some n → m ≡ n
 within_is m n found = elim (cases_cond (int_le least_i64 m && int_lt m (pos end_of_i64)) (Some m) None (Some n) (sym found)) [
   | inl some ↦ sym (some_same some)
   | inr none ↦ absurd (some_none none)
 ]
 
-pub entry_of : (found : Option ℤ) (n : ℤ) → option_and_then within_i64 found ≡ Some n → found ≡ Some n
-entry_of None n is = absurd (some_none (sym is))
-entry_of (Some m) n is = ap (λ z. Some z) (within_is m n is)
+pub i64_is : (found : Option ℤ) (n : ℤ) → option_and_then within_i64 found ≡ Some n → found ≡ Some n
+i64_is None n is = absurd (some_none (sym is))
+i64_is (Some m) n is = ap (λ z. Some z) (within_is m n is)
