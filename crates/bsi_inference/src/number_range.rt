@@ -59,7 +59,8 @@ impl NumberRange {
     pub(crate) fn scaled(self, digits: u32) -> Option<NumberRange>
         requires { digits ≤ 18 }
         ensures least { IfSome result (λ range. range.least ≡ self.least *ℤ pos (10 ^ digits)) }
-        ensures greatest { IfSome result (λ range. range.greatest ≡ self.greatest *ℤ pos (10 ^ digits)) }
+        ensures greatest { IfSome result (λ range.
+            range.greatest ≡ self.greatest *ℤ pos (10 ^ digits)) }
         ensures none { IfNone result (IsRange (self.least *ℤ pos (10 ^ digits))
             (self.greatest *ℤ pos (10 ^ digits)) → ⊥) }
     {

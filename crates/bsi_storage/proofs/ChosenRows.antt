@@ -24,31 +24,31 @@ use Rattle.bsi_segments.specs.Lanes.{lanes_of}
 use Rattle.bsi_pread.specs.Offsets.{StandAt}
 use Rattle.bsi_syntax.specs.Bytes.{KnownBytes}
 
-module _ (known : KnownBytes) (first : SegmentHead) (chosen : List ℕ) (narrow : Declared) (made : narrow ≡ chosen_schema chosen first.front.schema)
-    (there : All (λ c. c < length first.front.schema.columns) chosen) (columns : List OffsetColumn) (many : length columns ≡ length chosen)
+module _ (known : KnownBytes) (first : SegmentHead) (chosen : List ℕ) (narrow : Declared) (made : narrow ≡ chosen_schema chosen first.preamble.schema)
+    (there : All (λ c. c < length first.preamble.schema.columns) chosen) (columns : List OffsetColumn) (many : length columns ≡ length chosen)
     (each : AreChosenColumns known first chosen columns (length chosen)) where
   columns_long : length narrow.columns ≡ length chosen
-  columns_long = ap (λ (s : Declared). length s.columns) made ∙ length-map chosen (λ c. column_at first.front.schema.columns c)
+  columns_long = ap (λ (s : Declared). length s.columns) made ∙ length-map chosen (λ c. column_at first.preamble.schema.columns c)
 
   pub some_chosen : 0 < length chosen → 0 < length narrow.columns
   some_chosen some = omega (arith, some, columns_long)
 
-  column_is : (k : ℕ) → k < length chosen → column_at narrow.columns k ≡ column_at first.front.schema.columns (get_or chosen k 0)
+  column_is : (k : ℕ) → k < length chosen → column_at narrow.columns k ≡ column_at first.preamble.schema.columns (get_or chosen k 0)
   column_is k within =
-      ap (λ (s : Declared). column_at s.columns k) made ∙ get_or-map (λ c. column_at first.front.schema.columns c) chosen k 0 no_column within
+      ap (λ (s : Declared). column_at s.columns k) made ∙ get_or-map (λ c. column_at first.preamble.schema.columns c) chosen k 0 no_column within
 
   -- the columns that were read are those of the schema of the chosen ones
-  pub encoded : AreEncoded narrow.columns columns first.front.sizes.rows
+  pub encoded : AreEncoded narrow.columns columns first.preamble.sizes.rows
   encoded = record {
     long = many ∙ sym columns_long;
     each = λ k within.
         let below : k < length chosen = omega (arith, within, columns_long) in
-        subst (λ (column : NamedColumn). Encodes column (encoded_at columns k) first.front.sizes.rows) (sym (column_is k below)) (each.encodes k below);
+        subst (λ (column : NamedColumn). Encodes column (encoded_at columns k) first.preamble.sizes.rows) (sym (column_is k below)) (each.encodes k below);
   }
 
-  module _ (at : ℕ) (t : Table) (notes kinds : List ℕ) (begins : BeginsAt known at t notes kinds) (is : IsHeadOf first at t notes kinds) (declared : IsDeclared first.front.schema)
-      (row_feeders : List ℕ) (long : length row_feeders ≡ first.front.sizes.rows) (from : All (λ feeder. feeder < first.front.sizes.feeders) row_feeders)
-      (stands : StandAt known (feeders_position first) (feeder_words first.front.sizes.feeders row_feeders)) where
+  module _ (at : ℕ) (t : Table) (notes kinds : List ℕ) (begins : BeginsAt known at t notes kinds) (is : IsHeadOf first at t notes kinds) (declared : IsDeclared first.preamble.schema)
+      (row_feeders : List ℕ) (long : length row_feeders ≡ first.preamble.sizes.rows) (from : All (λ feeder. feeder < first.preamble.sizes.feeders) row_feeders)
+      (stands : StandAt known (feeders_position first) (feeder_words first.preamble.sizes.feeders row_feeders)) where
     abbrev xs : List FedRow
     xs = fed_rows row_feeders columns
 
@@ -97,7 +97,7 @@ module _ (known : KnownBytes) (first : SegmentHead) (chosen : List ℕ) (narrow 
     rows_are = same_rows narrow columns_are xs ys (fed-fitting narrow.columns columns row_feeders fed) fit_ys feeders bitmaps
 
     -- the table of what was read is that of the chosen columns
-    pub table_is : (count : ℕ) → count ≡ first.front.sizes.feeders → table narrow count first.front.sizes.limit xs ≡ chosen_table chosen t
+    pub table_is : (count : ℕ) → count ≡ first.preamble.sizes.feeders → table narrow count first.preamble.sizes.limit xs ≡ chosen_table chosen t
     table_is count same = λ i. table (narrow_is i) ((same ∙ is.feeders) i) (is.limit i) (rows_are i)
 
     -- the head says the zones of these rows
@@ -109,15 +109,15 @@ module _ (known : KnownBytes) (first : SegmentHead) (chosen : List ℕ) (narrow 
         ∙ ap (λ es. zone_words (numbers_of es)) (sym (ap (λ (v : Table). column_of v.rows k) same ∙ show.columns k ∙ ap (column_of t.rows) place))
 
   -- what was read stands in the file, as the head says
-  module _ (row_feeders : List ℕ) (long : length row_feeders ≡ first.front.sizes.rows)
-      (stands : StandAt known (feeders_position first) (feeder_words first.front.sizes.feeders row_feeders))
-      (said : feeders_in_head first ≡ feeder_checksum first.front.sizes.feeders row_feeders)
+  module _ (row_feeders : List ℕ) (long : length row_feeders ≡ first.preamble.sizes.rows)
+      (stands : StandAt known (feeders_position first) (feeder_words first.preamble.sizes.feeders row_feeders))
+      (said : feeders_in_head first ≡ feeder_checksum first.preamble.sizes.feeders row_feeders)
       (u : Table) (schema : u.schema ≡ narrow) (rows : u.rows ≡ fed_rows row_feeders columns) where
     fed_columns : AreEncoded narrow.columns columns (length row_feeders)
     fed_columns = subst (AreEncoded narrow.columns columns) (sym long) encoded
 
     bitmaps_are : (k : ℕ) → k < length chosen
-        → entries_bitmaps (column_at first.front.schema.columns (get_or chosen k 0)) (shifted_entries (encoded_at columns k)) ≡ bitmaps_of u.schema u.rows k
+        → entries_bitmaps (column_at first.preamble.schema.columns (get_or chosen k 0)) (shifted_entries (encoded_at columns k)) ≡ bitmaps_of u.schema u.rows k
     bitmaps_are k below =
         ap (λ (n : NamedColumn). entries_bitmaps n (shifted_entries (encoded_at columns k))) (sym (column_is k below))
         ∙ sym (fed-bitmaps narrow.columns columns row_feeders fed_columns k (omega (arith, below, columns_long)))
@@ -133,6 +133,6 @@ module _ (known : KnownBytes) (first : SegmentHead) (chosen : List ℕ) (narrow 
       stands = λ k below. subst (λ bs. StandAt known (column_position first (get_or chosen k 0)) (flat_map packed bs)) (bitmaps_are k below) (each.stands k below);
       sums = λ k below. each.sums k below ∙ ap (map (λ (bits : List Bool). lanes_of (packed bits))) (bitmaps_are k below);
       zones = zones;
-      feeders = subst (λ fs. StandAt known (feeders_position first) (feeder_words first.front.sizes.feeders fs)) feeders_are stands;
-      feeder_sum = said ∙ ap (feeder_checksum first.front.sizes.feeders) feeders_are;
+      feeders = subst (λ fs. StandAt known (feeders_position first) (feeder_words first.preamble.sizes.feeders fs)) feeders_are stands;
+      feeder_sum = said ∙ ap (feeder_checksum first.preamble.sizes.feeders) feeders_are;
     }

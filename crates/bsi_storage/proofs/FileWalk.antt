@@ -65,9 +65,9 @@ one_of P xs y ys all =
 
 -- the words of the rows end where the segment does
 pub behind_rows : (known : KnownBytes) (at : ℕ) (t : Table) (notes kinds : List ℕ) → BeginsAt known at t notes kinds → (first : SegmentHead) → IsHeadOf first at t notes kinds
-    → first.rows_at + 8 * rows_word_count first.front.schema first.front.sizes.feeders first.front.sizes.rows ≡ at + length (segment Two t notes kinds)
+    → first.rows_at + 8 * rows_word_count first.preamble.schema first.preamble.sizes.feeders first.preamble.sizes.rows ≡ at + length (segment Two t notes kinds)
 behind_rows known at t notes kinds begins first is =
-    let same : rows_word_count first.front.schema first.front.sizes.feeders first.front.sizes.rows ≡ length (rows_words t.schema t.feeders t.rows) =
+    let same : rows_word_count first.preamble.schema first.preamble.sizes.feeders first.preamble.sizes.rows ≡ length (rows_words t.schema t.feeders t.rows) =
     (λ i. rows_word_count (is.schema i) (is.feeders i) (is.rows i)) ∙ sym (length-rows_words t.schema t.feeders t.rows begins.valid.rows) in
     omega (arith, is.rows_at, same, segment_long Two t notes kinds)
 
@@ -141,7 +141,7 @@ module _ (known : KnownBytes) (t : Table) (notes kinds : List ℕ) (keeps : Keep
 
     -- one more head
     pub walk_on : (n : HasNext) → n.p.version ≡ Two → (first : SegmentHead) → IsHeadOf first at (with_only t n.p.rows) n.p.notes kinds → (more : List SegmentHead) → more ≡ heads ++ first ∷ []
-        → (end : ℕ) → end ≡ first.rows_at + 8 * rows_word_count first.front.schema first.front.sizes.feeders first.front.sizes.rows → HasWalked known t notes kinds keeps more end
+        → (end : ℕ) → end ≡ first.rows_at + 8 * rows_word_count first.preamble.schema first.preamble.sizes.feeders first.preamble.sizes.rows → HasWalked known t notes kinds keeps more end
     walk_on n two first is more more_is end end_is =
         let begins = begins_two n two in
         let place : end ≡ at + length (part_bytes t kinds n.p) =

@@ -14,7 +14,7 @@ use Rattle.bsi_segments.proofs.ChunkBytes.{only_more}
 use Rattle.bsi_segments.specs.declared.fault.SegmentFault.{SegmentFault}
 use Rattle.bsi_segments.specs.declared.fault.SegmentFault.TheVariants as segment_fault
 use Rattle.bsi_schema.specs.Columns.{Declared}
-use Rattle.bsi_storage.specs.Decoding.{rows_word_count, IsFront}
+use Rattle.bsi_storage.specs.Decoding.{rows_word_count, IsPreamble}
 use Rattle.bsi_storage.specs.Faults.{open_fault, AcceptsRowsOf, HasReadTable, IsAny, IsFirstSegmentFault, IsNextSegmentFault}
 use Rattle.bsi_storage.specs.Saved.{part, part_bytes, segment, with_only, IsFileOf, IsPartOf, MayBeSaved, Part}
 use Rattle.bsi_storage.specs.declared.fault.OpenFault.{OpenFault}
@@ -126,21 +126,21 @@ more_read version a b c t more notes next kinds others size read consumed valid 
 -- ---- faults
 
 -- and where the rows are not all read
-pub rows_met : (head : List ℕ) (rows feeders : ℕ) (schema : Declared) → AreWords head → IsFront Two head rows feeders schema → (a b c : KnownBytes) (fault : SegmentFault)
+pub rows_met : (head : List ℕ) (rows feeders : ℕ) (schema : Declared) → AreWords head → IsPreamble Two head rows feeders schema → (a b c : KnownBytes) (fault : SegmentFault)
     → FailsBefore b c (rows_word_count schema feeders rows) fault → Consumes a b (bytes_of (counted Two head)) → IsNextSegmentFault IsAny a c (open_fault fault)
-rows_met head rows feeders schema fit front a b c segment_fault.NotASegment stops consumed = absurd stops
-rows_met head rows feeders schema fit front a b c segment_fault.OtherVersion stops consumed = absurd stops
-rows_met head rows feeders schema fit front a b c segment_fault.CutShort stops consumed = inr (record {
+rows_met head rows feeders schema fit preamble a b c segment_fault.NotASegment stops consumed = absurd stops
+rows_met head rows feeders schema fit preamble a b c segment_fault.OtherVersion stops consumed = absurd stops
+rows_met head rows feeders schema fit preamble a b c segment_fault.CutShort stops consumed = inr (record {
   head = head;
   fit = fit;
   rows = rows;
   feeders = feeders;
   schema = schema;
-  front = front;
+  preamble = preamble;
   last = stops.bytes;
   few = stops.few;
   only = only_more a b c (bytes_of (counted Two head)) stops.bytes consumed stops.only;
 })
-rows_met head rows feeders schema fit front a b c segment_fault.Damaged stops consumed = absurd stops
-rows_met head rows feeders schema fit front a b c segment_fault.Read stops consumed = tt
-rows_met head rows feeders schema fit front a b c segment_fault.NoMemory stops consumed = tt
+rows_met head rows feeders schema fit preamble a b c segment_fault.Damaged stops consumed = absurd stops
+rows_met head rows feeders schema fit preamble a b c segment_fault.Read stops consumed = tt
+rows_met head rows feeders schema fit preamble a b c segment_fault.NoMemory stops consumed = tt

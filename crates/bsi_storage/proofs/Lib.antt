@@ -7,7 +7,6 @@ mod ColumnWords
 mod Cutting
 pub mod FileWalk
 mod Files
-mod FrontWords
 mod HeadWords
 mod NoTables
 mod OneTable
@@ -15,6 +14,7 @@ mod Openings
 mod PlacedColumns
 mod PlacedFaults
 mod PlacedHeads
+mod PreambleWords
 mod RowCounts
 mod SegmentParts
 mod WholeSegments

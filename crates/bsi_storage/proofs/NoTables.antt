@@ -9,12 +9,12 @@ use Rattle.bsi_segments.specs.Segments.{bytes_of, checksum_of, counted, counted_
 use Rattle.bsi_segments.specs.declared.format_version.FormatVersion.{FormatVersion}
 use Rattle.bsi_segments.specs.declared.format_version.FormatVersion.TheVariants.{Two}
 use Rattle.bsi_segments.proofs.Unique.{same_words}
-use Rattle.bsi_storage.specs.Decoding.{front_words, rows_word_count, AreTexts}
+use Rattle.bsi_storage.specs.Decoding.{preamble_words, rows_word_count, AreTexts}
 use Rattle.bsi_storage.specs.Faults.{ReadsNoTable}
 use Rattle.bsi_storage.specs.Heads.{head, rows_head}
 use Rattle.bsi_storage.specs.Saved.{rows_words, segment, MayBeSaved}
 use Rattle.bsi_storage.proofs.Files.{consumes_more}
-use Rattle.bsi_storage.proofs.FrontWords.{same_fronts, texts_of}
+use Rattle.bsi_storage.proofs.PreambleWords.{same_preambles, texts_of}
 use Rattle.bsi_storage.proofs.HeadWords.{last_are}
 use Rattle.bsi_storage.proofs.OneTable.{begun_as}
 use Rattle.bsi_storage.proofs.RowCounts.{length-rows_words}
@@ -39,7 +39,7 @@ module _ (version : FormatVersion) (words : List ℕ) (are : AreWords words)
 
 -- a head, and so many words of rows, that are those of no segment
 module _ (words : List ℕ) (are : AreWords words) (rows feeders limit : ℕ) (notes kinds : List ℕ) (schema : Declared) (behind : List ℕ) (texts : AreTexts Two notes kinds schema)
-    (front : words ≡ front_words Two rows feeders limit notes kinds schema behind) (last : List ℕ) (fits : (k : ℕ) → get_or last k 0 < 2 ^ 64) (many : length last ≡ rows_word_count schema feeders rows)
+    (preamble : words ≡ preamble_words Two rows feeders limit notes kinds schema behind) (last : List ℕ) (fits : (k : ℕ) → get_or last k 0 < 2 ^ 64) (many : length last ≡ rows_word_count schema feeders rows)
     (none : (t : Table) → (notes kinds : List ℕ) → MayBeSaved Two t notes kinds → words ≡ head t notes kinds → last ≡ rows_words t.schema t.feeders t.rows → ⊥) where
   whole : (more : List ℕ) → bytes_of (counted Two words ++ last) ++ more ≡ bytes_of (counted Two words) ++ (bytes_of last ++ more)
   whole more =
@@ -49,8 +49,8 @@ module _ (words : List ℕ) (are : AreWords words) (rows feeders limit : ℕ) (n
   none_of_two : (t : Table) (others more_kinds more rest : List ℕ) → MayBeSaved Two t others more_kinds → words ≡ head t others more_kinds
       → bytes_of last ++ more ≡ bytes_of (rows_words t.schema t.feeders t.rows) ++ rest → ⊥
   none_of_two t others more_kinds more rest valid first same =
-      let all = same_fronts Two rows feeders limit notes kinds schema behind (length t.rows) t.feeders t.limit others more_kinds t.schema (rows_head t.schema t.feeders t.rows)
-      texts (texts_of Two t others more_kinds valid) (sym front ∙ first) in
+      let all = same_preambles Two rows feeders limit notes kinds schema behind (length t.rows) t.feeders t.limit others more_kinds t.schema (rows_head t.schema t.feeders t.rows)
+      texts (texts_of Two t others more_kinds valid) (sym preamble ∙ first) in
       let long : length last ≡ length (rows_words t.schema t.feeders t.rows) =
       many ∙ (λ i. rows_word_count (all.schema_same i) (all.feeders_same i) (all.rows_same i)) ∙ sym (length-rows_words t.schema t.feeders t.rows valid.rows) in
       let others_are = last_are Two t others more_kinds valid in

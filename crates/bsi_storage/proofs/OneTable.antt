@@ -17,12 +17,12 @@ use Rattle.bsi_segments.specs.declared.format_version.FormatVersion.{FormatVersi
 use Rattle.bsi_segments.specs.declared.format_version.FormatVersion.TheVariants.{One, Two}
 use Rattle.bsi_segments.proofs.Padding.{same_bytes}
 use Rattle.bsi_segments.proofs.Unique.{same_all, same_words}
-use Rattle.bsi_storage.specs.Decoding.{front_words, rows_word_count}
+use Rattle.bsi_storage.specs.Decoding.{preamble_words, rows_word_count}
 use Rattle.bsi_storage.specs.Heads.{rows_head}
 use Rattle.bsi_storage.specs.Saved.{feeder_words, part_bytes, rows_words, segment, with_only, AreRows, IsFileOf, IsPartOf, MayBeSaved, Part}
 use Rattle.bsi_storage.proofs.ColumnWords.{column_entries, feeders_below, feeders_long, range_next}
 use Rattle.bsi_storage.proofs.Cutting.{bitmaps_long, feeders_are_bytes, same_bitmaps, same_parts, several, words_long}
-use Rattle.bsi_storage.proofs.FrontWords.{same_fronts, texts_of, AreSameFronts}
+use Rattle.bsi_storage.proofs.PreambleWords.{same_preambles, texts_of, AreSamePreambles}
 use Rattle.bsi_storage.proofs.HeadWords.{first_are, last_are}
 use Rattle.bsi_storage.proofs.RowCounts.{length-rows_words}
 use Rattle.bsi_storage.proofs.SegmentParts.{first_words, last_words, parts_with, segment_long}
@@ -100,32 +100,32 @@ module _ (schema : Declared) (feeders : ℕ) (xs ys : List FedRow) (declared : I
 
 -- what begins so, and has the same rows, is one table with the same texts
 module _ (version : FormatVersion) (t u : Table) (notes others kinds more xs ys : List ℕ) (valid : MayBeSaved version t notes kinds) (other : MayBeSaved version u others more)
-    (same : front_words version (length t.rows) t.feeders t.limit notes kinds t.schema xs ≡ front_words version (length u.rows) u.feeders u.limit others more u.schema ys) where
-  fronts : AreSameFronts (length t.rows) t.feeders t.limit notes kinds t.schema xs (length u.rows) u.feeders u.limit others more u.schema ys
-  fronts =
-      same_fronts version (length t.rows) t.feeders t.limit notes kinds t.schema xs (length u.rows) u.feeders u.limit others more u.schema ys
+    (same : preamble_words version (length t.rows) t.feeders t.limit notes kinds t.schema xs ≡ preamble_words version (length u.rows) u.feeders u.limit others more u.schema ys) where
+  preambles : AreSamePreambles (length t.rows) t.feeders t.limit notes kinds t.schema xs (length u.rows) u.feeders u.limit others more u.schema ys
+  preambles =
+      same_preambles version (length t.rows) t.feeders t.limit notes kinds t.schema xs (length u.rows) u.feeders u.limit others more u.schema ys
       (texts_of version t notes kinds valid) (texts_of version u others more other) same
 
   -- as many words of rows
   pub rows_long : length (rows_words t.schema t.feeders t.rows) ≡ length (rows_words u.schema u.feeders u.rows)
   rows_long =
       length-rows_words t.schema t.feeders t.rows valid.rows
-      ∙ (λ i. rows_word_count (fronts.schema_same i) (fronts.feeders_same i) (fronts.rows_same i))
+      ∙ (λ i. rows_word_count (preambles.schema_same i) (preambles.feeders_same i) (preambles.rows_same i))
       ∙ sym (length-rows_words u.schema u.feeders u.rows other.rows)
 
   module _ (words : rows_words t.schema t.feeders t.rows ≡ rows_words u.schema u.feeders u.rows) where
     rows : t.rows ≡ u.rows
     rows =
         rows_same t.schema t.feeders t.rows u.rows valid.declared valid.feeders.1 valid.rows
-        (subst (λ s. AreRows s t.feeders u.rows) (sym fronts.schema_same) (subst (λ n. AreRows u.schema n u.rows) (sym fronts.feeders_same) other.rows))
-        fronts.rows_same
-        (words ∙ (λ i. rows_words (sym fronts.schema_same i) (sym fronts.feeders_same i) u.rows))
+        (subst (λ s. AreRows s t.feeders u.rows) (sym preambles.schema_same) (subst (λ n. AreRows u.schema n u.rows) (sym preambles.feeders_same) other.rows))
+        preambles.rows_same
+        (words ∙ (λ i. rows_words (sym preambles.schema_same i) (sym preambles.feeders_same i) u.rows))
 
     pub content_same : (t ≡ u) × (notes ≡ others) × (kinds ≡ more)
     content_same = (
-      (λ i. record { schema = fronts.schema_same i; feeders = fronts.feeders_same i; limit = fronts.limit_same i; rows = rows i }),
-      fronts.notes_same,
-      fronts.kinds_same,
+      (λ i. record { schema = preambles.schema_same i; feeders = preambles.feeders_same i; limit = preambles.limit_same i; rows = rows i }),
+      preambles.notes_same,
+      preambles.kinds_same,
     )
 
 -- bytes that begin with counted words and with a segment
@@ -150,7 +150,7 @@ same_by_version : (version other : FormatVersion) (t u : Table) (notes others ki
 same_by_version One One t u notes others kinds more rest tail valid valid' is first last =
     let xs = rows_words t.schema t.feeders t.rows in
     let ys = rows_words u.schema u.feeders u.rows in
-    let all = fronts One t u notes others kinds more xs ys valid valid' first in
+    let all = preambles One t u notes others kinds more xs ys valid valid' first in
     let content = content_same One t u notes others kinds more xs ys valid valid' first all.behind_same in
     record { version_same = refl; table_same = content.0; notes_same = content.1; kinds_same = content.2; rest_same = last }
 same_by_version One Two t u notes others kinds more rest tail valid valid' is first last = absurd (omega (arith, ap magic is))

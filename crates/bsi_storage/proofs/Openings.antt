@@ -16,14 +16,14 @@ use Rattle.bsi_segments.specs.declared.format_version.FormatVersion.TheVariants.
 use Rattle.bsi_segments.proofs.Cut as counted_cut
 use Rattle.bsi_segments.proofs.Eights.{length-bytes_of}
 use Rattle.bsi_segments.proofs.Unique.{no_fault}
-use Rattle.bsi_storage.specs.Decoding.{rows_word_count, IsFront}
+use Rattle.bsi_storage.specs.Decoding.{rows_word_count, IsPreamble}
 use Rattle.bsi_storage.specs.Faults.{open_fault, AcceptsRowsOf, EndsBy, EndsInRows, HasReadTable, IsAny, IsFirstSegmentFault, IsNextSegmentFault, IsOpened, ReadsNoTable, ReadsOtherTable}
 use Rattle.bsi_storage.specs.Heads.{rows_head}
 use Rattle.bsi_storage.specs.Opens.{cut_fault, first_cut_fault, HasNoNextSegment, IsCutSegment, IsReadOrNoMemory, IsOpenedOf}
 use Rattle.bsi_storage.specs.Saved.{part_bytes, rows_words, segment, with_only, IsFileOf, IsPartOf, MayBeSaved, Part}
 use Rattle.bsi_storage.specs.declared.fault.OpenFault.{OpenFault}
 use Rattle.bsi_storage.specs.declared.fault.OpenFault.TheVariants.{CutShort, Damaged, NoMemory, NotAnIndex, OtherVersion, Read}
-use Rattle.bsi_storage.proofs.FrontWords.{same_fronts, texts_of}
+use Rattle.bsi_storage.proofs.PreambleWords.{same_preambles, texts_of}
 use Rattle.bsi_storage.proofs.HeadWords.{first_are}
 use Rattle.bsi_storage.proofs.OneTable.{begun_as, behind_first, first_frame, first_part, last_is, segment_same, some_bytes, ArePartsOf}
 use Rattle.bsi_storage.proofs.RowCounts.{length-rows_words}
@@ -39,13 +39,13 @@ all_read_bytes : (bytes all after : List ℕ) → Consumes (Some all) (Some afte
 all_read_bytes bytes all after consumed ended = sym (append-nil bytes) ∙ ap (λ bs. bytes ++ bs) (sym ended) ∙ sym consumed
 
 -- a segment whose head begins so has so many words of rows
-module _ (head : List ℕ) (rows feeders : ℕ) (schema : Declared) (front : IsFront Two head rows feeders schema) where
+module _ (head : List ℕ) (rows feeders : ℕ) (schema : Declared) (preamble : IsPreamble Two head rows feeders schema) where
   enough_rows : (v : FormatVersion) (t : Table) (notes kinds rest : List ℕ) → MayBeSaved v t notes kinds → Two ≡ v → head ≡ first_words v t notes kinds
       → (last : List ℕ) → last ≡ bytes_of (last_words v t) ++ rest → length last < 8 * rows_word_count schema feeders rows → ⊥
   enough_rows One t notes kinds rest valid is first last last_is few = absurd (omega (arith, ap magic is))
   enough_rows Two t notes kinds rest valid is first last last_is few =
-      let all = same_fronts Two rows feeders front.limit front.notes front.kinds schema front.behind (length t.rows) t.feeders t.limit notes kinds t.schema (rows_head t.schema t.feeders t.rows)
-      front.texts (texts_of Two t notes kinds valid) (sym front.are ∙ first) in
+      let all = same_preambles Two rows feeders preamble.limit preamble.notes preamble.kinds schema preamble.behind (length t.rows) t.feeders t.limit notes kinds t.schema (rows_head t.schema t.feeders t.rows)
+      preamble.texts (texts_of Two t notes kinds valid) (sym preamble.are ∙ first) in
       let count : rows_word_count schema feeders rows ≡ rows_word_count t.schema t.feeders (length t.rows) = λ i. rows_word_count (all.schema_same i) (all.feeders_same i) (all.rows_same i) in
       omega (
         arith,
@@ -70,7 +70,7 @@ module _ (version : FormatVersion) (v : Table) (notes kinds rest : List ℕ) (va
   not_in_rows (Some more) ends =
       let all = all_read_bytes (bytes_of (counted Two ends.head) ++ ends.last) (segment version v notes kinds ++ rest) more ends.only.consumed ends.only.ended in
       let begun = begun_as Two ends.head version v notes kinds ends.fit valid ends.last rest all in
-      enough_rows ends.head ends.rows ends.feeders ends.schema ends.front version v notes kinds rest valid begun.0 begun.1 ends.last begun.2 ends.few
+      enough_rows ends.head ends.rows ends.feeders ends.schema ends.preamble version v notes kinds rest valid begun.0 begun.1 ends.last begun.2 ends.few
 
   a_table : (after : KnownBytes) → ReadsNoTable (Some (segment version v notes kinds ++ rest)) after → ⊥
   a_table None none = absurd none.consumed

@@ -50,11 +50,11 @@ module _ (known : KnownBytes) (first : SegmentHead) (chosen : List ℕ) (old new
     (each : AreChosenColumns known first chosen old i) where
   abbrev Of : ℕ → OffsetColumn → Type 0
   Of k encoded =
-      Encodes (column_at first.front.schema.columns (get_or chosen k 0)) encoded first.front.sizes.rows
+      Encodes (column_at first.preamble.schema.columns (get_or chosen k 0)) encoded first.preamble.sizes.rows
       × StandAt known (column_position first (get_or chosen k 0))
-      (flat_map packed (entries_bitmaps (column_at first.front.schema.columns (get_or chosen k 0)) (shifted_entries encoded)))
+      (flat_map packed (entries_bitmaps (column_at first.preamble.schema.columns (get_or chosen k 0)) (shifted_entries encoded)))
       × (said_sums first (get_or chosen k 0)
-      ≡ map (λ bits. lanes_of (packed bits)) (entries_bitmaps (column_at first.front.schema.columns (get_or chosen k 0)) (shifted_entries encoded)))
+      ≡ map (λ bits. lanes_of (packed bits)) (entries_bitmaps (column_at first.preamble.schema.columns (get_or chosen k 0)) (shifted_entries encoded)))
 
   of_each : Of i column → (k : ℕ) → k < i + 1 → Of k (encoded_at new k)
   of_each last k within = elim (cases_eq k i) [
@@ -66,11 +66,11 @@ module _ (known : KnownBytes) (first : SegmentHead) (chosen : List ℕ) (old new
         subst (Of k) (sym (ap (λ xs. encoded_at xs k) is ∙ before_is old column k (omega (arith, early, many)))) (each.encodes k early, each.stands k early, each.sums k early)
   ]
 
-  pub chosen_more : Encodes (column_at first.front.schema.columns (get_or chosen i 0)) column first.front.sizes.rows
+  pub chosen_more : Encodes (column_at first.preamble.schema.columns (get_or chosen i 0)) column first.preamble.sizes.rows
       → StandAt known (column_position first (get_or chosen i 0))
-      (flat_map packed (entries_bitmaps (column_at first.front.schema.columns (get_or chosen i 0)) (shifted_entries column)))
+      (flat_map packed (entries_bitmaps (column_at first.preamble.schema.columns (get_or chosen i 0)) (shifted_entries column)))
       → said_sums first (get_or chosen i 0)
-      ≡ map (λ bits. lanes_of (packed bits)) (entries_bitmaps (column_at first.front.schema.columns (get_or chosen i 0)) (shifted_entries column))
+      ≡ map (λ bits. lanes_of (packed bits)) (entries_bitmaps (column_at first.preamble.schema.columns (get_or chosen i 0)) (shifted_entries column))
       → AreChosenColumns known first chosen new (i + 1)
   chosen_more encodes stands sums = record {
     encodes = λ k within. (of_each (encodes, stands, sums) k within).0;
@@ -248,27 +248,27 @@ module _ (known : KnownBytes) (at : ℕ) (t : Table) (notes kinds : List ℕ) (b
         same_bitmaps (bitmap_count column.form) (length t.rows) bits (bitmaps_of t.schema t.rows c) all own_bitmaps same
 
     -- by what the head says
-    pub bits_there : (bits : List (List Bool)) → AreBitmaps (bitmap_count (column_at first.front.schema.columns c).form) first.front.sizes.rows bits
+    pub bits_there : (bits : List (List Bool)) → AreBitmaps (bitmap_count (column_at first.preamble.schema.columns c).form) first.preamble.sizes.rows bits
         → StandAt known (column_position first c) (flat_map packed bits) → bits ≡ bitmaps_of t.schema t.rows c
     bits_there bits all stands =
         let Placed : Declared → ℕ → Type 0 = λ schema n.
         AreBitmaps (bitmap_count (column_at schema.columns c).form) n bits
         × StandAt known (first.rows_at + 8 * (bitmaps_in (take c schema.columns) * word_count n)) (flat_map packed bits) in
-        let one : Placed t.schema first.front.sizes.rows = subst (λ (schema : Declared). Placed schema first.front.sizes.rows) is.schema (all, stands) in
+        let one : Placed t.schema first.preamble.sizes.rows = subst (λ (schema : Declared). Placed schema first.preamble.sizes.rows) is.schema (all, stands) in
         let two : Placed t.schema (length t.rows) = subst (Placed t.schema) is.rows one in
         bits_of_table bits two.0 two.1
 
-    pub column_there : (entries : Entries) → length entries ≡ first.front.sizes.rows
-        → StandAt known (column_position first c) (flat_map packed (entries_bitmaps (column_at first.front.schema.columns c) entries))
+    pub column_there : (entries : Entries) → length entries ≡ first.preamble.sizes.rows
+        → StandAt known (column_position first c) (flat_map packed (entries_bitmaps (column_at first.preamble.schema.columns c) entries))
         → entries_bitmaps column entries ≡ bitmaps_of t.schema t.rows c
     column_there entries long stands =
-        let read = column_at first.front.schema.columns c in
+        let read = column_at first.preamble.schema.columns c in
         ap (λ (s : Declared). entries_bitmaps (column_at s.columns c) entries) (sym is.schema)
-        ∙ bits_there (entries_bitmaps read entries) (bitmaps_long read entries first.front.sizes.rows long) stands
+        ∙ bits_there (entries_bitmaps read entries) (bitmaps_long read entries first.preamble.sizes.rows long) stands
 
   -- feeders that stand in their place are those of the rows
-  pub feeders_there : (row_feeders : List ℕ) → length row_feeders ≡ first.front.sizes.rows → All (λ feeder. feeder < first.front.sizes.feeders) row_feeders
-      → StandAt known (feeders_position first) (feeder_words first.front.sizes.feeders row_feeders) → row_feeders ≡ feeders_of t.rows
+  pub feeders_there : (row_feeders : List ℕ) → length row_feeders ≡ first.preamble.sizes.rows → All (λ feeder. feeder < first.preamble.sizes.feeders) row_feeders
+      → StandAt known (feeders_position first) (feeder_words first.preamble.sizes.feeders row_feeders) → row_feeders ≡ feeders_of t.rows
   feeders_there row_feeders long from stands =
       let last = feeder_words t.feeders (feeders_of t.rows) in
       let all = columns_words t.schema t.rows 0 (length t.schema.columns) in
@@ -278,8 +278,8 @@ module _ (known : KnownBytes) (at : ℕ) (t : Table) (notes kinds : List ℕ) (b
       let words = feeder_words t.feeders row_feeders in
       let Placed : Declared → ℕ → ℕ → Type 0 = λ schema n feeders.
       StandAt known (first.rows_at + 8 * (bitmaps_in schema.columns * word_count n)) (feeder_words feeders row_feeders) in
-      let one : Placed t.schema first.front.sizes.rows first.front.sizes.feeders = subst (λ (schema : Declared). Placed schema first.front.sizes.rows first.front.sizes.feeders) is.schema stands in
-      let two : Placed t.schema (length t.rows) first.front.sizes.feeders = subst (λ n. Placed t.schema n first.front.sizes.feeders) is.rows one in
+      let one : Placed t.schema first.preamble.sizes.rows first.preamble.sizes.feeders = subst (λ (schema : Declared). Placed schema first.preamble.sizes.rows first.preamble.sizes.feeders) is.schema stands in
+      let two : Placed t.schema (length t.rows) first.preamble.sizes.feeders = subst (λ n. Placed t.schema n first.preamble.sizes.feeders) is.rows one in
       let three : Placed t.schema (length t.rows) t.feeders = subst (Placed t.schema (length t.rows)) is.feeders two in
       let before : length all ≡ bitmaps_in t.schema.columns * word_count (length t.rows) =
       length-columns_words t.schema t.feeders t.rows begins.valid.rows (length t.schema.columns) (omega arith)

@@ -242,14 +242,14 @@ module _ (known : KnownBytes) (at : ℕ) (t : Table) (notes kinds : List ℕ) (b
 
     -- no fault of the bitmaps of a column
     pub column_fault : (sums : List ℕ) → sums ≡ checksums (bitmaps_of t.schema t.rows c) → (fault : SegmentFault)
-        → AreNoBitmaps known (column_position first c) first.front.sizes.rows sums fault → IsReadOrNoMemory (open_fault fault)
+        → AreNoBitmaps known (column_position first c) first.preamble.sizes.rows sums fault → IsReadOrNoMemory (open_fault fault)
     column_fault sums sums_are fault none =
         let Of : Declared → ℕ → Type 0 = λ schema n. AreNoBitmaps known (first.rows_at + 8 * (bitmaps_in (take c schema.columns) * word_count n)) n sums fault in
-        let one : Of t.schema first.front.sizes.rows = subst (λ (schema : Declared). Of schema first.front.sizes.rows) is.schema none in
+        let one : Of t.schema first.preamble.sizes.rows = subst (λ (schema : Declared). Of schema first.preamble.sizes.rows) is.schema none in
         bits_fault sums sums_are fault (subst (Of t.schema) is.rows one)
 
   -- what the head says of the feeders
-  pub said_there : feeders_in_head first ≡ feeder_checksum first.front.sizes.feeders (feeders_of t.rows)
+  pub said_there : feeders_in_head first ≡ feeder_checksum first.preamble.sizes.feeders (feeders_of t.rows)
   said_there =
       ap (λ (s : Declared). drop (3 * length s.columns + bitmaps_in s.columns) first.behind.items) is.schema
       ∙ feeders_said t first.behind.items is.behind
@@ -267,12 +267,12 @@ module _ (known : KnownBytes) (at : ℕ) (t : Table) (notes kinds : List ℕ) (b
       let all : length (columns_words t.schema t.rows 0 (length t.schema.columns)) ≡ bitmaps_in t.schema.columns * word_count (length t.rows) =
       length-columns_words t.schema t.feeders t.rows begins.valid.rows (length t.schema.columns) (omega arith)
       ∙ ap (λ (cs : List NamedColumn). bitmaps_in cs * word_count (length t.rows)) (take_all (length t.schema.columns) t.schema.columns (omega arith)) in
-      ap (λ (s : Declared). first.rows_at + 8 * (bitmaps_in s.columns * word_count first.front.sizes.rows)) is.schema
+      ap (λ (s : Declared). first.rows_at + 8 * (bitmaps_in s.columns * word_count first.preamble.sizes.rows)) is.schema
       ∙ ap (λ n. first.rows_at + 8 * (bitmaps_in t.schema.columns * word_count n)) is.rows
       ∙ ap (λ n. first.rows_at + 8 * n) (sym all)
 
   module _ (seen after : KnownBytes) (from count : ℕ) (same : seen ≡ known) (here : from ≡ feeders_position first)
-      (many : count ≡ feeder_word_count first.front.sizes.feeders first.front.sizes.rows) where
+      (many : count ≡ feeder_word_count first.preamble.sizes.feeders first.preamble.sizes.rows) where
     pub words_fault : (fault : SegmentFault) → FailsBefore (known_from from seen) after count fault → IsReadOrNoMemory (open_fault fault)
     words_fault NotASegment stops = absurd stops
     words_fault OtherVersion stops = absurd stops
@@ -282,7 +282,7 @@ module _ (known : KnownBytes) (at : ℕ) (t : Table) (notes kinds : List ℕ) (b
         let there : EndsWithin (known_from (feeders_position first) known) after (8 * count) =
         subst (λ (k : KnownBytes). EndsWithin k after (8 * count)) (ap (known_from from) same ∙ ap (λ n. known_from n known) here) stops in
         let long : count ≡ length last =
-        many ∙ ap (λ n. feeder_word_count n first.front.sizes.rows) is.feeders ∙ ap (feeder_word_count t.feeders) is.rows
+        many ∙ ap (λ n. feeder_word_count n first.preamble.sizes.rows) is.feeders ∙ ap (feeder_word_count t.feeders) is.rows
         ∙ sym (length-feeder_words t.schema t.feeders t.rows begins.valid.rows) in
         absurd (long_enough all last [] (feeders_position first) count (ap (λ ws. all ++ ws) (sym (append-nil last))) feeders_at (omega (arith, long))
         (ends_before known after (feeders_position first) (8 * count) there))
@@ -291,13 +291,13 @@ module _ (known : KnownBytes) (at : ℕ) (t : Table) (notes kinds : List ℕ) (b
     words_fault NoMemory stops = inr refl
 
   -- the words that stand there are those of the feeders
-  pub feeders_words : (words : List ℕ) → StandAt known (feeders_position first) words → length words ≡ feeder_word_count first.front.sizes.feeders first.front.sizes.rows → AreWords words
-      → words ≡ feeder_words first.front.sizes.feeders (feeders_of t.rows)
+  pub feeders_words : (words : List ℕ) → StandAt known (feeders_position first) words → length words ≡ feeder_word_count first.preamble.sizes.feeders first.preamble.sizes.rows → AreWords words
+      → words ≡ feeder_words first.preamble.sizes.feeders (feeders_of t.rows)
   feeders_words words stands many are =
       let all = columns_words t.schema t.rows 0 (length t.schema.columns) in
       let last = feeder_words t.feeders (feeders_of t.rows) in
       let long : length words ≡ length last =
-      many ∙ ap (λ n. feeder_word_count n first.front.sizes.rows) is.feeders ∙ ap (feeder_word_count t.feeders) is.rows
+      many ∙ ap (λ n. feeder_word_count n first.preamble.sizes.rows) is.feeders ∙ ap (feeder_word_count t.feeders) is.rows
       ∙ sym (length-feeder_words t.schema t.feeders t.rows begins.valid.rows) in
       words_there known at t notes kinds begins first is all last [] words (feeders_position first) (ap (λ ws. all ++ ws) (sym (append-nil last))) feeders_at stands long are
       (feeder_fit t.feeders (feeders_of t.rows) begins.valid.feeders.1 (omega (arith, feeders_long t.rows, short known at t notes kinds begins first is))

@@ -34,12 +34,12 @@ BeginsAt known at t notes kinds = BeginsBy Two known at t notes kinds
 
 -- The head is that of the segment of a table at a position.
 pub record IsHeadOf (first : SegmentHead) (at : ℕ) (t : Table) (notes kinds : Bytes) : Type 0 where
-  pub rows : first.front.sizes.rows ≡ length t.rows
-  pub feeders : first.front.sizes.feeders ≡ t.feeders
-  pub limit : first.front.sizes.limit ≡ t.limit
-  pub schema : first.front.schema ≡ t.schema
-  pub notes_are : first.front.notes.items ≡ notes
-  pub kinds_are : first.front.kinds.items ≡ kinds
+  pub rows : first.preamble.sizes.rows ≡ length t.rows
+  pub feeders : first.preamble.sizes.feeders ≡ t.feeders
+  pub limit : first.preamble.sizes.limit ≡ t.limit
+  pub schema : first.preamble.schema ≡ t.schema
+  pub notes_are : first.preamble.notes.items ≡ notes
+  pub kinds_are : first.preamble.kinds.items ≡ kinds
   -- What the head says of the rows.
   pub behind : first.behind.items ≡ rows_head t.schema t.feeders t.rows
   -- The rows stand behind the counted words of the head.
@@ -47,26 +47,26 @@ pub record IsHeadOf (first : SegmentHead) (at : ℕ) (t : Table) (notes kinds : 
 
 -- The position of the bitmaps of column c: behind those of the columns before it.
 abbrev pub column_position : SegmentHead → ℕ → ℕ
-column_position first c = first.rows_at + 8 * (bitmaps_in (take c first.front.schema.columns) * word_count first.front.sizes.rows)
+column_position first c = first.rows_at + 8 * (bitmaps_in (take c first.preamble.schema.columns) * word_count first.preamble.sizes.rows)
 
 -- The position of the feeders of the rows: behind the bitmaps of all columns.
 abbrev pub feeders_position : SegmentHead → ℕ
-feeders_position first = first.rows_at + 8 * (bitmaps_in first.front.schema.columns * word_count first.front.sizes.rows)
+feeders_position first = first.rows_at + 8 * (bitmaps_in first.preamble.schema.columns * word_count first.preamble.sizes.rows)
 
 -- What the head says of the zone of column c.
 abbrev pub zone_in_head : SegmentHead → ℕ → List ℕ
-zone_in_head first c = take 3 (drop (3 * c + bitmaps_in (take c first.front.schema.columns)) first.behind.items)
+zone_in_head first c = take 3 (drop (3 * c + bitmaps_in (take c first.preamble.schema.columns)) first.behind.items)
 
 -- What it says of the checksums of its bitmaps.
 abbrev pub said_sums : SegmentHead → ℕ → List ℕ
 said_sums first c =
-    take (bitmap_count (column_at first.front.schema.columns c).form)
-    (drop (3 * (c + 1) + bitmaps_in (take c first.front.schema.columns)) first.behind.items)
+    take (bitmap_count (column_at first.preamble.schema.columns c).form)
+    (drop (3 * (c + 1) + bitmaps_in (take c first.preamble.schema.columns)) first.behind.items)
 
 -- What it says of the checksum of the feeders.
 abbrev pub feeders_in_head : SegmentHead → List ℕ
 feeders_in_head first =
-    drop (3 * length first.front.schema.columns + bitmaps_in first.front.schema.columns) first.behind.items
+    drop (3 * length first.preamble.schema.columns + bitmaps_in first.preamble.schema.columns) first.behind.items
 
 -- The head says the zones of the first `count` chosen columns of these rows.
 abbrev pub HasZones : SegmentHead → List ℕ → List FedRow → ℕ → Type 0
@@ -77,22 +77,22 @@ HasZones first chosen rows count =
 pub record AreChosenColumns (known : KnownBytes) (first : SegmentHead) (chosen : List ℕ) (encoded : List OffsetColumn) (count : ℕ) : Type 0 where
   -- Each column is encoded as the schema declares it, with an entry for each row.
   pub encodes : (k : ℕ) → k < count
-      → Encodes (column_at first.front.schema.columns (slice_index chosen k)) (encoded_at encoded k) first.front.sizes.rows
+      → Encodes (column_at first.preamble.schema.columns (slice_index chosen k)) (encoded_at encoded k) first.preamble.sizes.rows
   -- Its bitmaps stand in their place.
   pub stands : (k : ℕ) → k < count
       → StandAt known (column_position first (slice_index chosen k))
-      (flat_map packed (entries_bitmaps (column_at first.front.schema.columns (slice_index chosen k)) (shifted_entries (encoded_at encoded k))))
+      (flat_map packed (entries_bitmaps (column_at first.preamble.schema.columns (slice_index chosen k)) (shifted_entries (encoded_at encoded k))))
   -- They have the checksums that the head says.
   pub sums : (k : ℕ) → k < count
       → said_sums first (slice_index chosen k)
-      ≡ map (λ bits. lanes_of (packed bits)) (entries_bitmaps (column_at first.front.schema.columns (slice_index chosen k)) (shifted_entries (encoded_at encoded k)))
+      ≡ map (λ bits. lanes_of (packed bits)) (entries_bitmaps (column_at first.preamble.schema.columns (slice_index chosen k)) (shifted_entries (encoded_at encoded k)))
 
 -- Rows of the chosen columns of a segment, as they stand in the file, with the checksums and the zones that the head says.
 -- They are as many as it says.
 pub record SaysChosen (known : KnownBytes) (first : SegmentHead) (chosen : List ℕ) (schema : Declared) (rows : List FedRow) : Type 0 where
   -- The schema is that of the chosen columns.
-  pub narrow : schema ≡ chosen_schema chosen first.front.schema
-  pub many : length rows ≡ first.front.sizes.rows
+  pub narrow : schema ≡ chosen_schema chosen first.preamble.schema
+  pub many : length rows ≡ first.preamble.sizes.rows
   -- The bitmaps of each column stand in their place.
   pub stands : (k : ℕ) → k < length chosen
       → StandAt known (column_position first (slice_index chosen k)) (flat_map packed (bitmaps_of schema rows k))
@@ -101,5 +101,5 @@ pub record SaysChosen (known : KnownBytes) (first : SegmentHead) (chosen : List 
       → said_sums first (slice_index chosen k) ≡ map (λ bits. lanes_of (packed bits)) (bitmaps_of schema rows k)
   pub zones : HasZones first chosen rows (length chosen)
   -- The feeders of the rows stand in their place, with the checksum that the head says.
-  pub feeders : StandAt known (feeders_position first) (feeder_words first.front.sizes.feeders (feeders_of rows))
-  pub feeder_sum : feeders_in_head first ≡ feeder_checksum first.front.sizes.feeders (feeders_of rows)
+  pub feeders : StandAt known (feeders_position first) (feeder_words first.preamble.sizes.feeders (feeders_of rows))
+  pub feeder_sum : feeders_in_head first ≡ feeder_checksum first.preamble.sizes.feeders (feeders_of rows)

@@ -39,7 +39,7 @@ pub record AreFileHeads (known : KnownBytes) (heads : List SegmentHead) (t : Tab
 
 -- A head has the sizes of some index.
 abbrev pub HasSizes : SegmentHead → Type 0
-HasSizes first = AreSizes first.front.sizes.rows first.front.sizes.feeders first.front.sizes.limit
+HasSizes first = AreSizes first.preamble.sizes.rows first.preamble.sizes.feeders first.preamble.sizes.limit
 
 -- Rows of the chosen columns of all segments that have these heads, as they stand in the file, with the checksums and the
 -- zones that the heads say.

@@ -1,4 +1,5 @@
--- What the words of a segment are decoded to: with what its body or its head begins, and its rows.
+-- What the words of a segment are decoded to: the preamble of its body or its head (`IsPreamble`), and its rows
+-- (`HasRowsOf`); and how many words these are.
 use Rattle.std.specs.Prelude.{◌≡◌, ℕ, ◌+◌, ◌*◌, ◌<◌, ◌≤◌, List, ◌∷◌, ◌++◌, All, length, nat_eq, if◌then◌else◌, IsTrue}
 use Rattle.std.specs.Int.{div_ceil}
 use Rattle.std.specs.List.{flat_map, range_with_len, sum_by}
@@ -22,14 +23,14 @@ pub record AreSizes (rows feeders limit : ℕ) : Type 0 where
   pub limit_is : (1 ≤ limit) × (limit ≤ max_rows)
   pub within : rows ≤ limit
 
--- The words of a text of kinds, and those behind it. FormatVersion 1 has no such text.
+-- The words of a text of kinds, and those behind it. Version 1 has no such text.
 abbrev pub kinds_words : FormatVersion → Bytes → List ℕ → List ℕ
 kinds_words One kinds behind = behind
 kinds_words Two kinds behind = text_words kinds ++ behind
 
--- With what a body or a head begins: the sizes, the notes, in version 2 the kinds, and the schema; and the words behind.
-abbrev pub front_words : FormatVersion → ℕ → ℕ → ℕ → Bytes → Bytes → Declared → List ℕ → List ℕ
-front_words version rows feeders limit notes kinds schema behind =
+-- The preamble of a body or a head, the sizes, the notes, in version 2 the kinds, and the schema; and the words behind.
+abbrev pub preamble_words : FormatVersion → ℕ → ℕ → ℕ → Bytes → Bytes → Declared → List ℕ → List ℕ
+preamble_words version rows feeders limit notes kinds schema behind =
     rows ∷ feeders ∷ limit ∷ text_words notes ++ kinds_words version kinds (encoded_schema schema ++ behind)
 
 -- Notes, a text of kinds and a schema that a segment of a version may have.
@@ -41,13 +42,13 @@ pub record AreTexts (version : FormatVersion) (notes kinds : Bytes) (schema : De
   pub declared : IsDeclared schema
   pub some : 0 < length schema.columns
 
--- A body or a head begins with these numbers of rows and feeders, and has this schema.
-pub record IsFront (version : FormatVersion) (words : List ℕ) (rows feeders : ℕ) (schema : Declared) : Type 0 where
+-- The preamble of a body or a head has these numbers of rows and feeders, and this schema.
+pub record IsPreamble (version : FormatVersion) (words : List ℕ) (rows feeders : ℕ) (schema : Declared) : Type 0 where
   pub limit : ℕ
   pub notes : Bytes
   pub kinds : Bytes
   pub behind : List ℕ
-  pub are : words ≡ front_words version rows feeders limit notes kinds schema behind
+  pub are : words ≡ preamble_words version rows feeders limit notes kinds schema behind
   pub texts : AreTexts version notes kinds schema
 
 -- How many bitmaps columns have.

@@ -8,7 +8,7 @@ use Rattle.bsi_segments.specs.declared.fault.SegmentFault.{SegmentFault}
 use Rattle.bsi_segments.specs.declared.fault.SegmentFault.TheVariants as segment_fault
 use Rattle.bsi_segments.specs.declared.format_version.FormatVersion.{FormatVersion}
 use Rattle.bsi_segments.specs.declared.format_version.FormatVersion.TheVariants.{Two}
-use Rattle.bsi_storage.specs.Decoding.{rows_word_count, IsFront}
+use Rattle.bsi_storage.specs.Decoding.{rows_word_count, IsPreamble}
 use Rattle.bsi_storage.specs.Saved.{segment, IsFileOf, MayBeSaved}
 use Rattle.bsi_storage.specs.declared.fault.OpenFault.{OpenFault}
 use Rattle.bsi_storage.specs.declared.fault.OpenFault.TheVariants.{CutShort, Damaged, NoMemory, NotAnIndex, OtherVersion, Read}
@@ -47,7 +47,7 @@ pub record EndsInRows (before after : KnownBytes) : Type 0 where
   -- The schema that the head has.
   pub schema : Declared
   -- The head begins with these sizes, and has this schema.
-  pub front : IsFront Two head rows feeders schema
+  pub preamble : IsPreamble Two head rows feeders schema
   -- The bytes of the rows that the reader gave, fewer than such rows have.
   pub last : Bytes
   pub few : length last < 8 * rows_word_count schema feeders rows

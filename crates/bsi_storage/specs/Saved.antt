@@ -28,7 +28,7 @@ abbrev pub most_notes : FormatVersion → ℕ
 most_notes One = 2 ^ 16
 most_notes Two = max_notes
 
--- The most bytes of a text of kinds in a segment of a version. FormatVersion 1 has no such text.
+-- The most bytes of a text of kinds in a segment of a version. Version 1 has no such text.
 abbrev pub most_kinds : FormatVersion → ℕ
 most_kinds One = 0
 most_kinds Two = max_kinds

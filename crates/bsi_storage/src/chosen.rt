@@ -24,8 +24,8 @@ ghost use Rattle.bsi_table.specs.Index.{table_of};
 use crate::OpenFault;
 use crate::chosen_schema::choose_columns;
 use crate::decoding::decode_origins;
-use crate::fronts::{count_all_bitmaps, count_feeder_words};
 use crate::head_checks::{matches_feeders, matches_zones};
+use crate::preambles::{count_all_bitmaps, count_feeder_words};
 use crate::segment_head::{SegmentHead, count_bitmaps_before, find_position, find_sums};
 use bsi_origins::Origins;
 use bsi_pread::{At, ReadAt, read_bitmaps};
@@ -41,23 +41,23 @@ fn read_column<R: ReadAt>(
     head: &SegmentHead,
     c: u32,
 ) -> Result<Shifted, OpenFault>
-    requires sizes { AreSizes head.now.front.sizes.rows head.now.front.sizes.feeders
-        head.now.front.sizes.limit }
-    requires there { c < length head.now.front.schema.columns }
-    ensures encodes { IfOk result (λ column. Encodes (column_at head.now.front.schema.columns c)
-        column head.now.front.sizes.rows) }
+    requires sizes { AreSizes head.now.preamble.sizes.rows head.now.preamble.sizes.feeders
+        head.now.preamble.sizes.limit }
+    requires there { c < length head.now.preamble.schema.columns }
+    ensures encodes { IfOk result (λ column. Encodes (column_at head.now.preamble.schema.columns c)
+        column head.now.preamble.sizes.rows) }
     ensures stands { IfOk result (λ column. StandAt (R.all_bytes reader.now)
         (column_position head.now c) (flat_map packed (entries_bitmaps
-        (column_at head.now.front.schema.columns c) (shifted_entries column)))) }
+        (column_at head.now.preamble.schema.columns c) (shifted_entries column)))) }
     ensures sums { IfOk result (λ column. said_sums head.now c
         ≡ map (λ bits. lanes_of (packed bits)) (entries_bitmaps
-        (column_at head.now.front.schema.columns c) (shifted_entries column))) }
+        (column_at head.now.preamble.schema.columns c) (shifted_entries column))) }
     ensures fault { IfErr result (λ fault. (at : ℕ) → (t : Table) → (notes kinds : Bytes) →
         BeginsAt (R.all_bytes reader.now) at t notes kinds → IsHeadOf head.now at t notes kinds →
         IsReadOrNoMemory fault) }
 {
-    let schema = &head.front.schema;
-    let rows = head.front.sizes.rows;
+    let schema = &head.preamble.schema;
+    let rows = head.preamble.sizes.rows;
     let before = count_bitmaps_before(schema, c);
     let count = count_bitmaps(schema.form(c));
     let Some(sums) = find_sums(&head.behind, c, before, count) else {
@@ -80,9 +80,9 @@ fn read_columns<R: ReadAt>(
     head: &SegmentHead,
     chosen: &[u32],
 ) -> Result<Vec<Shifted>, OpenFault>
-    requires sizes { AreSizes head.now.front.sizes.rows head.now.front.sizes.feeders
-        head.now.front.sizes.limit }
-    requires there { All (λ c. c < length head.now.front.schema.columns) chosen.now }
+    requires sizes { AreSizes head.now.preamble.sizes.rows head.now.preamble.sizes.feeders
+        head.now.preamble.sizes.limit }
+    requires there { All (λ c. c < length head.now.preamble.schema.columns) chosen.now }
     ensures many { IfOk result (λ columns. length columns.items ≡ length chosen.now) }
     ensures each { IfOk result (λ columns. AreChosenColumns (R.all_bytes reader.now) head.now chosen.now
         columns.items (length chosen.now)) }
@@ -104,23 +104,23 @@ fn read_origins<R: ReadAt>(
     reader: &R,
     head: &SegmentHead,
 ) -> Result<Origins, OpenFault>
-    requires sizes { AreSizes head.now.front.sizes.rows head.now.front.sizes.feeders
-        head.now.front.sizes.limit }
-    requires declared { IsDeclared head.now.front.schema }
-    ensures feeders { IfOk result (λ origins. origins.feeders ≡ head.now.front.sizes.feeders) }
-    ensures len { IfOk result (λ origins. length origins.rows ≡ head.now.front.sizes.rows) }
+    requires sizes { AreSizes head.now.preamble.sizes.rows head.now.preamble.sizes.feeders
+        head.now.preamble.sizes.limit }
+    requires declared { IsDeclared head.now.preamble.schema }
+    ensures feeders { IfOk result (λ origins. origins.feeders ≡ head.now.preamble.sizes.feeders) }
+    ensures len { IfOk result (λ origins. length origins.rows ≡ head.now.preamble.sizes.rows) }
     ensures from { IfOk result (λ origins.
-        All (λ feeder. feeder < head.now.front.sizes.feeders) origins.rows) }
+        All (λ feeder. feeder < head.now.preamble.sizes.feeders) origins.rows) }
     ensures stands { IfOk result (λ origins. StandAt (R.all_bytes reader.now)
-        (feeders_position head.now) (feeder_words head.now.front.sizes.feeders origins.rows)) }
+        (feeders_position head.now) (feeder_words head.now.preamble.sizes.feeders origins.rows)) }
     ensures said { IfOk result (λ origins. feeders_in_head head.now
-        ≡ feeder_checksum head.now.front.sizes.feeders origins.rows) }
+        ≡ feeder_checksum head.now.preamble.sizes.feeders origins.rows) }
     ensures fault { IfErr result (λ fault. (at : ℕ) → (t : Table) → (notes kinds : Bytes) →
         BeginsAt (R.all_bytes reader.now) at t notes kinds → IsHeadOf head.now at t notes kinds →
         IsReadOrNoMemory fault) }
 {
-    let sizes = head.front.sizes;
-    let before = count_all_bitmaps(&head.front.schema);
+    let sizes = head.preamble.sizes;
+    let before = count_all_bitmaps(&head.preamble.schema);
     let count = count_feeder_words(sizes);
     let Some(at) = find_position(head.rows_at, before, 0, sizes.rows) else {
         return Err(OpenFault::Read);
@@ -149,29 +149,29 @@ pub(crate) fn open_segment<R: ReadAt>(
     head: &SegmentHead,
     chosen: &[u32],
 ) -> Result<Option<Index>, OpenFault>
-    requires { AreSizes head.now.front.sizes.rows head.now.front.sizes.feeders
-        head.now.front.sizes.limit }
+    requires { AreSizes head.now.preamble.sizes.rows head.now.preamble.sizes.feeders
+        head.now.preamble.sizes.limit }
     ensures opened { IfOk result (λ opened. IfSome opened (λ index. (at : ℕ) → (t : Table) →
         (notes kinds : Bytes) → BeginsAt (R.all_bytes reader.now) at t notes kinds →
         IsHeadOf head.now at t notes kinds → table_of index ≡ chosen_table chosen.now t)) }
     ensures there { IfOk result (λ opened. IfSome opened (λ index.
-        All (λ c. c < length head.now.front.schema.columns) chosen.now)) }
+        All (λ c. c < length head.now.preamble.schema.columns) chosen.now)) }
     ensures said { IfOk result (λ opened. IfSome opened
         (λ index. SaysChosen (R.all_bytes reader.now) head.now chosen.now index.schema index.rows)) }
     ensures none { IfOk result (λ opened. IfNone opened
-        (IsChoice (length head.now.front.schema.columns) chosen.now → ⊥)) }
+        (IsChoice (length head.now.preamble.schema.columns) chosen.now → ⊥)) }
     ensures fault { IfErr result (λ fault. (at : ℕ) → (t : Table) → (notes kinds : Bytes) →
         BeginsAt (R.all_bytes reader.now) at t notes kinds → IsHeadOf head.now at t notes kinds →
         IsReadOrNoMemory fault) }
 {
-    let Some(narrow) = choose_columns(alloc, &head.front.schema, chosen)? else {
+    let Some(narrow) = choose_columns(alloc, &head.preamble.schema, chosen)? else {
         return Ok(None);
     };
     let columns = read_columns(alloc, reader, head, chosen)?;
     // Its clause says that each column was declared.
-    let _ = head.front.schema.limits();
+    let _ = head.preamble.schema.limits();
     let origins = read_origins(alloc, reader, head)?;
-    let index = Index::from_parts(alloc, narrow, columns, origins, head.front.sizes.limit)?;
+    let index = Index::from_parts(alloc, narrow, columns, origins, head.preamble.sizes.limit)?;
     if !matches_zones(head, chosen, &index)? {
         return Err(OpenFault::Damaged);
     }

@@ -14,11 +14,11 @@ ghost use Rattle.bsi_segments.specs.Bitmaps.{packed};
 ghost use Rattle.bsi_segments.specs.Segments.{AreWords};
 ghost use Rattle.bsi_storage.specs.Heads.{head};
 ghost use Rattle.bsi_storage.specs.Saved.{body, columns_words, feeder_words, rows_words, AreRows, MayBeSaved};
-ghost use Rattle.bsi_storage.specs.Decoding.{encoded_words, front_words, AreSizes, AreTexts, HasEntries, HasRowsOf};
+ghost use Rattle.bsi_storage.specs.Decoding.{encoded_words, preamble_words, AreSizes, AreTexts, HasEntries, HasRowsOf};
 
 use crate::NoMemory;
-use crate::fronts::{Front, Sizes, decode_front};
 use crate::heads::encode_head;
+use crate::preambles::{Preamble, Sizes, decode_preamble};
 use bsi_origins::Origins;
 use bsi_segments::{FormatVersion, decode_bitmaps, decode_bytes};
 use bsi_shift::Shifted;
@@ -38,22 +38,23 @@ pub(crate) struct Part {
 pub(crate) fn decode_body(alloc: Global, words: &[u64]) -> Result<Option<Part>, NoMemory>
     ensures made { IfOk result (λ decoded. IfSome decoded (λ part.
         words.now ≡ body (table_of part.index) part.notes.items)) }
-    ensures version { IfOk result (λ decoded. IfSome decoded (λ part. part.version ≡ FormatVersion.One)) }
+    ensures version { IfOk result (λ decoded. IfSome decoded (λ part.
+        part.version ≡ FormatVersion.One)) }
     ensures valid { IfOk result (λ decoded. IfSome decoded (λ part.
         MayBeSaved FormatVersion.One (table_of part.index) part.notes.items part.kinds.items)) }
     ensures none { IfOk result (λ decoded. IfNone decoded ((t : Table) → (notes kinds : List ℕ) →
         MayBeSaved FormatVersion.One t notes kinds → words.now ≡ body t notes → ⊥)) }
 {
     let version = FormatVersion::One;
-    let Some((front, rest)) = decode_front(alloc, version, words)? else {
+    let Some((preamble, rest)) = decode_preamble(alloc, version, words)? else {
         return Ok(None);
     };
-    let Front {
+    let Preamble {
         sizes,
         notes,
         kinds,
         schema,
-    } = front;
+    } = preamble;
     let Some(index) = decode_index(alloc, sizes, schema, rest)? else {
         return Ok(None);
     };
@@ -65,24 +66,27 @@ pub(crate) fn decode_body(alloc: Global, words: &[u64]) -> Result<Option<Part>, 
     }))
 }
 
-/// Makes the content of a segment of version 2 with the head `first`, of which `front` was decoded, and these words of rows; or
-/// none if no segment has them. The head is compared with that of the index, which tests zones and checksums.
+/// Makes the content of a segment of version 2 with the head `first`, of which `preamble` was decoded, and these words
+/// of rows; or none if no segment has them. The head is compared with that of the index, which tests zones and
+/// checksums.
 pub(crate) fn decode_headed(
     alloc: Global,
     first: &[u64],
-    front: Front,
+    preamble: Preamble,
     rows: &[u64],
 ) -> Result<Option<Part>, NoMemory>
-    requires front { (behind : List ℕ) × (first.now
-        ≡ front_words FormatVersion.Two front.sizes.rows front.sizes.feeders front.sizes.limit
-        front.notes.items front.kinds.items front.schema behind) }
-    requires sizes { AreSizes front.sizes.rows front.sizes.feeders front.sizes.limit }
-    requires texts { AreTexts FormatVersion.Two front.notes.items front.kinds.items front.schema }
+    requires preamble { (behind : List ℕ) × (first.now
+        ≡ preamble_words FormatVersion.Two preamble.sizes.rows preamble.sizes.feeders
+        preamble.sizes.limit preamble.notes.items preamble.kinds.items preamble.schema behind) }
+    requires sizes { AreSizes preamble.sizes.rows preamble.sizes.feeders preamble.sizes.limit }
+    requires texts { AreTexts FormatVersion.Two preamble.notes.items preamble.kinds.items
+        preamble.schema }
     ensures made { IfOk result (λ decoded. IfSome decoded (λ part. first.now
         ≡ head (table_of part.index) part.notes.items part.kinds.items)) }
     ensures rows { IfOk result (λ decoded. IfSome decoded (λ part. rows.now
         ≡ rows_words part.index.schema part.index.feeders part.index.rows)) }
-    ensures version { IfOk result (λ decoded. IfSome decoded (λ part. part.version ≡ FormatVersion.Two)) }
+    ensures version { IfOk result (λ decoded. IfSome decoded (λ part.
+        part.version ≡ FormatVersion.Two)) }
     ensures valid { IfOk result (λ decoded. IfSome decoded (λ part.
         MayBeSaved FormatVersion.Two (table_of part.index) part.notes.items part.kinds.items)) }
     ensures none { IfOk result (λ decoded. IfNone decoded ((t : Table) → (notes kinds : List ℕ) →
@@ -90,12 +94,12 @@ pub(crate) fn decode_headed(
         rows.now ≡ rows_words t.schema t.feeders t.rows → ⊥)) }
     ensures fit { AreWords rows.now }
 {
-    let Front {
+    let Preamble {
         sizes,
         notes,
         kinds,
         schema,
-    } = front;
+    } = preamble;
     let Some(index) = decode_index(alloc, sizes, schema, rows)? else {
         return Ok(None);
     };

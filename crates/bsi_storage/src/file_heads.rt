@@ -19,8 +19,8 @@ ghost use Rattle.bsi_table.specs.Index.{table_of};
 
 use crate::OpenFault;
 use crate::chosen::open_segment;
-use crate::fronts::count_row_words;
 use crate::opening::accepts_rows_of;
+use crate::preambles::count_row_words;
 use crate::segment_head::{SegmentHead, read_head};
 use bsi_pread::ReadAt;
 use bsi_table::{Index, Schema};
@@ -84,15 +84,15 @@ fn follows(heads: &[SegmentHead], head: &SegmentHead) -> bool
 /// Returns whether two heads say the same feeders, limit, schema and kinds.
 fn are_alike(first: &SegmentHead, head: &SegmentHead) -> bool
     ensures { result ≡ false →
-        first.now.front.sizes.feeders ≡ head.now.front.sizes.feeders →
-        first.now.front.sizes.limit ≡ head.now.front.sizes.limit →
-        first.now.front.schema ≡ head.now.front.schema →
-        first.now.front.kinds.items ≡ head.now.front.kinds.items → ⊥ }
+        first.now.preamble.sizes.feeders ≡ head.now.preamble.sizes.feeders →
+        first.now.preamble.sizes.limit ≡ head.now.preamble.sizes.limit →
+        first.now.preamble.schema ≡ head.now.preamble.schema →
+        first.now.preamble.kinds.items ≡ head.now.preamble.kinds.items → ⊥ }
 {
-    first.front.sizes.feeders == head.front.sizes.feeders
-        && first.front.sizes.limit == head.front.sizes.limit
-        && first.front.schema.is_same(&head.front.schema)
-        && first.front.kinds.as_slice() == head.front.kinds.as_slice()
+    first.preamble.sizes.feeders == head.preamble.sizes.feeders
+        && first.preamble.sizes.limit == head.preamble.sizes.limit
+        && first.preamble.schema.is_same(&head.preamble.schema)
+        && first.preamble.kinds.as_slice() == head.preamble.kinds.as_slice()
 }
 
 /// Returns whether no byte stands at a position or behind it.
@@ -113,11 +113,11 @@ fn has_ended<R: ReadAt>(reader: &R, at: u64) -> Result<bool, OpenFault>
 fn find_end(head: &SegmentHead) -> Option<u64>
     requires { HasSizes head.now }
     ensures { IfSome result (λ end. end ≡ head.now.rows_at + 8 * rows_word_count
-        head.now.front.schema head.now.front.sizes.feeders head.now.front.sizes.rows) }
+        head.now.preamble.schema head.now.preamble.sizes.feeders head.now.preamble.sizes.rows) }
 {
     // Its clause says that each column was declared.
-    let _ = head.front.schema.limits();
-    let count = count_row_words(&head.front.schema, head.front.sizes);
+    let _ = head.preamble.schema.limits();
+    let count = count_row_words(&head.preamble.schema, head.preamble.sizes);
     head.rows_at.checked_add(8 * count)
 }
 
@@ -139,7 +139,7 @@ impl FileHeads {
         ensures { (known : Option (List ℕ)) → (t : Table) → (notes kinds : Bytes) →
             AreFileHeads known self.now.heads.items t notes kinds → result.now ≡ t.schema }
     {
-        &self.heads[0].front.schema
+        &self.heads[0].preamble.schema
     }
 
     /// Lends the text of kinds of each segment.
@@ -147,7 +147,7 @@ impl FileHeads {
         ensures { (known : Option (List ℕ)) → (t : Table) → (notes kinds : Bytes) →
             AreFileHeads known self.now.heads.items t notes kinds → result.now ≡ kinds }
     {
-        &self.heads[0].front.kinds
+        &self.heads[0].preamble.kinds
     }
 
     /// Lends the notes of the last segment.
@@ -155,7 +155,7 @@ impl FileHeads {
         ensures { (known : Option (List ℕ)) → (t : Table) → (notes kinds : Bytes) →
             AreFileHeads known self.now.heads.items t notes kinds → result.now ≡ notes }
     {
-        &self.heads[self.heads.len() - 1].front.notes
+        &self.heads[self.heads.len() - 1].preamble.notes
     }
 
     /// Returns the number of rows of all segments, or none if no index has so many.
@@ -168,7 +168,7 @@ impl FileHeads {
     {
         let mut count: u64 = 0;
         'segments: for head in &self.heads {
-            count = count.checked_add(head.front.sizes.rows)?;
+            count = count.checked_add(head.preamble.sizes.rows)?;
         }
         Some(count)
     }
@@ -230,7 +230,7 @@ fn append_segment<R: ReadAt>(
         × SaysChosen (R.all_bytes reader.now) head.now chosen.now whole.old.schema more
         × (table_of whole.new ≡ with_rows (table_of whole.old) more)) }
     ensures none { IfOk result (λ done. done ≡ false →
-        IsChoice (length head.now.front.schema.columns) chosen.now → ⊥) }
+        IsChoice (length head.now.preamble.schema.columns) chosen.now → ⊥) }
     ensures fault { IfErr result (λ fault. (t : Table) → (kinds : Bytes) → (p : Part) →
         (rows : List FedRow) → IsHeadAt (R.all_bytes reader.now) t kinds head.now p →
         table_of whole.old ≡ chosen_table chosen.now (with_only t rows) →

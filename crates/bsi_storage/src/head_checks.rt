@@ -10,8 +10,8 @@ ghost use Rattle.bsi_storage.specs.ChosenColumns.{feeders_in_head, zone_in_head,
 ghost use Rattle.bsi_storage.specs.Heads.{numbers_of, zone_words};
 
 use crate::NoMemory;
-use crate::fronts::count_all_bitmaps;
 use crate::heads::find_zone;
+use crate::preambles::count_all_bitmaps;
 use crate::segment_head::{SegmentHead, count_bitmaps_before};
 use bsi_segments::lanes_checksum;
 use bsi_shift::Shifted;
@@ -23,7 +23,7 @@ pub(crate) fn matches_zones(
     chosen: &[u32],
     index: &Index,
 ) -> Result<bool, NoMemory>
-    requires there { All (λ c. c < length head.now.front.schema.columns) chosen.now }
+    requires there { All (λ c. c < length head.now.preamble.schema.columns) chosen.now }
     requires many { length index.now.schema.columns ≡ length chosen.now }
     ensures yes { IfOk result (λ says. says ≡ true →
         HasZones head.now chosen.now index.now.rows (length chosen.now)) }
@@ -40,11 +40,11 @@ pub(crate) fn matches_zones(
 
 /// Returns whether the head has the zone of a column as that of column `c`.
 fn matches_zone(head: &SegmentHead, c: u32, column: &Shifted) -> Result<bool, NoMemory>
-    requires { c < length head.now.front.schema.columns }
+    requires { c < length head.now.preamble.schema.columns }
     ensures { IfOk result (λ says. IsTrue says
         ↔ (zone_in_head head.now c ≡ zone_words (numbers_of (shifted_entries column.now)))) }
 {
-    let before = count_bitmaps_before(&head.front.schema, c);
+    let before = count_bitmaps_before(&head.preamble.schema, c);
     let zone = find_zone(column)?;
     let from = 3 * c as usize + before as usize;
     if from + 3 > head.behind.len() {
@@ -56,14 +56,14 @@ fn matches_zone(head: &SegmentHead, c: u32, column: &Shifted) -> Result<bool, No
 
 /// Returns whether the head has the checksum of the words of the feeders. With one feeder there is none.
 pub(crate) fn matches_feeders(head: &SegmentHead, words: &[u64]) -> bool
-    requires { IsDeclared head.now.front.schema }
+    requires { IsDeclared head.now.preamble.schema }
     ensures said { IsTrue result ↔ (feeders_in_head head.now
-        ≡ (if nat_eq head.now.front.sizes.feeders 1 then [] else lanes_of words.now ∷ [])) }
+        ≡ (if nat_eq head.now.preamble.sizes.feeders 1 then [] else lanes_of words.now ∷ [])) }
     ensures fit { AreWords words.now }
 {
-    let before = count_all_bitmaps(&head.front.schema);
-    let from = 3 * head.front.schema.columns() as usize + before as usize;
-    let one = head.front.sizes.feeders == 1;
+    let before = count_all_bitmaps(&head.preamble.schema);
+    let from = 3 * head.preamble.schema.columns() as usize + before as usize;
+    let one = head.preamble.sizes.feeders == 1;
     match head.behind.get(from..) {
         None | Some([]) => one,
         Some([sum]) => !one && *sum == lanes_checksum(words),

@@ -8,7 +8,7 @@ ghost use Rattle.bsi_storage.specs.Faults.{AcceptsRowsOf, EndsBy, HasReadTable, 
 ghost use Rattle.bsi_storage.specs.Saved.{segment, MayBeSaved};
 
 use crate::decoding::{Part, decode_body, decode_headed};
-use crate::fronts::{count_row_words, decode_front};
+use crate::preambles::{count_row_words, decode_preamble};
 use crate::{NoMemory, OpenFault};
 use bsi_segments::{CountedWords, FormatVersion, read_counted, read_words};
 use bsi_table::{AppendError, Index};
@@ -251,13 +251,13 @@ fn read_rows<R: Read>(alloc: Global, reader: &mut R, head: &[u64]) -> Result<Seg
         Consumes before (R.remaining reader.old) (bytes_of (counted FormatVersion.Two head.now)) →
         IsNextSegmentFault IsAny before (R.remaining reader.new) fault) }
 {
-    let Some((front, _behind)) = decode_front(alloc, FormatVersion::Two, head)? else {
+    let Some((preamble, _behind)) = decode_preamble(alloc, FormatVersion::Two, head)? else {
         return Err(OpenFault::Damaged);
     };
-    let count = count_row_words(&front.schema, front.sizes);
+    let count = count_row_words(&preamble.schema, preamble.sizes);
     let mut rows = Vec::new(alloc);
     read_words(reader, count, &mut rows)?;
-    let Some(part) = decode_headed(alloc, head, front, &rows)? else {
+    let Some(part) = decode_headed(alloc, head, preamble, &rows)? else {
         return Err(OpenFault::Damaged);
     };
     let bytes = 8 * (head.len() as u64 + 3 + count);

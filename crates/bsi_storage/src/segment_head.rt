@@ -13,7 +13,7 @@ ghost use Rattle.bsi_storage.specs.Opens.{IsReadOrNoMemory};
 ghost use Rattle.bsi_syntax.specs.Bytes.{Bytes};
 
 use crate::OpenFault;
-use crate::fronts::{Front, decode_front};
+use crate::preambles::{Preamble, decode_preamble};
 use bsi_pread::{At, ReadAt};
 use bsi_segments::{FormatVersion, read_counted};
 use bsi_table::{Schema, count_bitmaps};
@@ -22,8 +22,8 @@ use std::alloc::Global;
 /// The head of a segment of version 2.
 #[derive(Drop)]
 pub(crate) struct SegmentHead {
-    /// With what it begins.
-    pub(crate) front: Front,
+    /// Its preamble.
+    pub(crate) preamble: Preamble,
     /// The words after that: for each column its zone and the checksums of its bitmaps, and the checksum of the feeders.
     pub(crate) behind: Vec<u64>,
     /// The position of the words of the rows.
@@ -36,17 +36,19 @@ pub(crate) fn read_head<R: ReadAt>(
     reader: &R,
     at: u64,
 ) -> Result<Option<SegmentHead>, OpenFault>
-    ensures sizes { IfOk result (λ found. IfSome found (λ head. AreSizes head.front.sizes.rows
-        head.front.sizes.feeders head.front.sizes.limit)) }
-    ensures declared { IfOk result (λ found. IfSome found (λ head. IsDeclared head.front.schema)) }
+    ensures sizes { IfOk result (λ found. IfSome found (λ head. AreSizes head.preamble.sizes.rows
+        head.preamble.sizes.feeders head.preamble.sizes.limit)) }
+    ensures declared { IfOk result (λ found. IfSome found (λ head.
+        IsDeclared head.preamble.schema)) }
     ensures is { IfOk result (λ found. IfSome found (λ head. (t : Table) → (notes kinds : Bytes) →
         BeginsAt (R.all_bytes reader.now) at t notes kinds → IsHeadOf head at t notes kinds)) }
     ensures none { IfOk result (λ found. IfNone found ((t : Table) → (notes kinds : Bytes) →
         BeginsAt (R.all_bytes reader.now) at t notes kinds → ⊥)) }
     ensures not_one { IfOk result (λ found. IfSome found (λ head. (t : Table) → (notes kinds : Bytes) →
         BeginsBy FormatVersion.One (R.all_bytes reader.now) at t notes kinds → ⊥)) }
-    ensures fault { IfErr result (λ fault. (version : FormatVersion) → (t : Table) → (notes kinds : Bytes) →
-        BeginsBy version (R.all_bytes reader.now) at t notes kinds → IsReadOrNoMemory fault) }
+    ensures fault { IfErr result (λ fault. (version : FormatVersion) → (t : Table) →
+        (notes kinds : Bytes) → BeginsBy version (R.all_bytes reader.now) at t notes kinds →
+        IsReadOrNoMemory fault) }
 {
     let mut position = At::new(reader, at);
     let Some(first) = read_counted(alloc, &mut position)? else {
@@ -55,7 +57,7 @@ pub(crate) fn read_head<R: ReadAt>(
     let FormatVersion::Two = first.version else {
         return Ok(None);
     };
-    let Some((front, behind)) = decode_front(alloc, FormatVersion::Two, &first.words)? else {
+    let Some((preamble, behind)) = decode_preamble(alloc, FormatVersion::Two, &first.words)? else {
         return Err(OpenFault::Damaged);
     };
     let behind = Vec::from_slice(alloc, behind)?;
@@ -64,7 +66,7 @@ pub(crate) fn read_head<R: ReadAt>(
         return Err(OpenFault::Read);
     };
     Ok(Some(SegmentHead {
-        front,
+        preamble,
         behind,
         rows_at,
     }))
@@ -91,7 +93,8 @@ pub(crate) fn find_position(rows_at: u64, before: u64, count: u64, rows: u64) ->
     requires before { before ≤ 2 ^ 17 }
     requires count { count ≤ 2 ^ 17 }
     requires rows { rows ≤ 2 ^ 32 }
-    ensures position { IfSome result (λ position. position ≡ rows_at + 8 * (before * word_count rows)) }
+    ensures position { IfSome result (λ position.
+        position ≡ rows_at + 8 * (before * word_count rows)) }
     ensures fits { IfSome result (λ position. position + 8 * (count * word_count rows) < 2 ^ 64) }
 {
     let long = rows.div_ceil(64);

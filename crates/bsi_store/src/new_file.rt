@@ -62,7 +62,8 @@ impl<'a, S: Read + Write + OpenFile + LockFile + Drop> NewFile<'a, S> {
         requires few { length kinds.now ≤ max_kinds }
         ensures written { OnOk result (Appends (S.contents self.old.file) (S.contents self.new.file)
             (segment_with_head (table_of index.now) [] kinds.now)) }
-        ensures valid { OnOk result (MayBeSaved FormatVersion.Two (table_of index.now) [] kinds.now) }
+        ensures valid { OnOk result
+            (MayBeSaved FormatVersion.Two (table_of index.now) [] kinds.now) }
         ensures fault { IfErr result IsNotAboutBytes }
         ensures named { IfErr result (NamesPath (λ named. named ≡ self.old.target.path)) }
         ensures path { self.new.target.path ≡ self.old.target.path }

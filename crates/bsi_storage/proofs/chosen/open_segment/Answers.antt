@@ -23,7 +23,7 @@ from_parts-requires-clause-accepted g c =
     let there = rw c.in-Some.is at c.in_ok-narrow.ensures.there in
     let some = rw c.in-Some.is at c.in_ok-narrow.ensures.some in
     let sizes = c.requires in
-    not_refused narrow c.args.head.now.front.sizes.limit
+    not_refused narrow c.args.head.now.preamble.sizes.limit
     (some_chosen (g.R.ReadAt.all_bytes c.args.reader.now) c.args.head.now c.args.chosen.now narrow made there c.in_ok-columns.columns.items c.in_ok-columns.ensures.many
     c.in_ok-columns.ensures.each some) sizes.limit_is.0 sizes.limit_is.1
 

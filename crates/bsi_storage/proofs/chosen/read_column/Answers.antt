@@ -33,16 +33,16 @@ find_position-requires-clause-count g c = omega (arith, c.count_bitmaps-count.en
 
 pub column_from_bitmaps-requires-clause-even : goal.column_from_bitmaps-requires-clause-even
 column_from_bitmaps-requires-clause-even g c =
-    let each = long_bits (length c.in-Some.sums.now) c.args.head.now.front.sizes.rows c.in_ok-bitmaps.bitmaps.items c.in_ok-bitmaps.ensures.long in
+    let each = long_bits (length c.in-Some.sums.now) c.args.head.now.preamble.sizes.rows c.in_ok-bitmaps.bitmaps.items c.in_ok-bitmaps.ensures.long in
     λ j within. each j within ∙ sym (each 0 (omega (arith, within)))
 
 pub returns-in-Some-2-clause-encodes : goal.returns-in-Some-2-clause-encodes
 returns-in-Some-2-clause-encodes g c =
-    let column = column_at c.args.head.now.front.schema.columns c.args.c in
+    let column = column_at c.args.head.now.preamble.schema.columns c.args.c in
     let long = c.in_ok-bitmaps.ensures.long in
     let file = rw c.in-Some-2.is at c.in_ok-column.ensures.encodes in
     let some : 0 < length c.in_ok-bitmaps.bitmaps.items = omega (arith, long.many, c.in-Some.ensures.long, c.count_bitmaps-count.ensures, long_each c.in_ok-bitmaps.bitmaps.items) in
-    subst (Encodes column c.in-Some-2.column) (long_bits (length c.in-Some.sums.now) c.args.head.now.front.sizes.rows c.in_ok-bitmaps.bitmaps.items long 0 some) file
+    subst (Encodes column c.in-Some-2.column) (long_bits (length c.in-Some.sums.now) c.args.head.now.preamble.sizes.rows c.in_ok-bitmaps.bitmaps.items long 0 some) file
 
 -- the checksums are not all there
 pub returns-in_default-clause-fault : goal.returns-in_default-clause-fault
@@ -64,8 +64,8 @@ returns-in_err-bitmaps-clause-fault g c =
     let reported = c.in_err-bitmaps.field-0.0 in
     let sums = c.in-Some.sums.now in
     let position : c.in-Some-find_position.position ≡ column_position head c.args.c =
-    c.in-Some-find_position.ensures.position ∙ ap (λ n. head.rows_at + 8 * (n * word_count head.front.sizes.rows)) c.count_bitmaps_before-before.ensures.count in
-    let none = subst (λ n. AreNoBitmaps known n head.front.sizes.rows sums reported) position c.in_err-bitmaps.ensures.fault in
+    c.in-Some-find_position.ensures.position ∙ ap (λ n. head.rows_at + 8 * (n * word_count head.preamble.sizes.rows)) c.count_bitmaps_before-before.ensures.count in
+    let none = subst (λ n. AreNoBitmaps known n head.preamble.sizes.rows sums reported) position c.in_err-bitmaps.ensures.fault in
     let met : IfErr c.from_residual.result (λ (fault : OpenFault). fault ≡ open_fault reported) = search rules in
     err_as c.from_residual.result (open_fault reported)
     (λ (fault : OpenFault). (at : ℕ) → (t : Table) → (notes kinds : Bytes) → BeginsAt known at t notes kinds → IsHeadOf head at t notes kinds → IsReadOrNoMemory fault) met
@@ -92,11 +92,11 @@ returns-in-None-clause-fault g c = λ at t notes kinds begins is.
     let maps = c.in_ok-bitmaps.bitmaps.items in
     let bits = bits_each maps in
     let position : c.in-Some-find_position.position ≡ column_position head c.args.c =
-    c.in-Some-find_position.ensures.position ∙ ap (λ n. head.rows_at + 8 * (n * word_count head.front.sizes.rows)) c.count_bitmaps_before-before.ensures.count in
+    c.in-Some-find_position.ensures.position ∙ ap (λ n. head.rows_at + 8 * (n * word_count head.preamble.sizes.rows)) c.count_bitmaps_before-before.ensures.count in
     let stands = subst (λ n. StandAt known n (flat_map packed bits)) position c.in_ok-bitmaps.ensures.words in
-    let many : length c.in-Some.sums.now ≡ bitmap_count (column_at head.front.schema.columns c.args.c).form =
+    let many : length c.in-Some.sums.now ≡ bitmap_count (column_at head.preamble.schema.columns c.args.c).form =
     c.in-Some.ensures.long ∙ c.count_bitmaps-count.ensures ∙ ap bitmap_count c.form.ensures.form in
-    let all = subst (λ m. AreBitmaps m head.front.sizes.rows bits) many c.in_ok-bitmaps.ensures.long in
+    let all = subst (λ m. AreBitmaps m head.preamble.sizes.rows bits) many c.in_ok-bitmaps.ensures.long in
     let same : bits ≡ bitmaps_of t.schema t.rows c.args.c = bits_there known at t notes kinds begins head is c.args.c within bits all stands in
     let none = rw c.in-None.is at c.in_ok-column.ensures.none in
     let none_too = subst (λ (s : Declared). HaveNoEntries (column_at s.columns c.args.c) bits) is.schema none in

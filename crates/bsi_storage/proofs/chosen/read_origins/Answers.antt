@@ -23,7 +23,7 @@ returns-in-Some-2-clause-stands g c =
     let seen = g.R.ReadAt.all_bytes c.new-position.result.reader.now in
     let same : seen ≡ known = ap (λ b. g.R.ReadAt.all_bytes b.now) c.new-position.ensures.reader in
     let position : c.in-Some.at ≡ feeders_position head =
-    c.in-Some.ensures.position ∙ ap (λ n. head.rows_at + 8 * (n * word_count head.front.sizes.rows)) c.count_all_bitmaps-before.ensures.count in
+    c.in-Some.ensures.position ∙ ap (λ n. head.rows_at + 8 * (n * word_count head.preamble.sizes.rows)) c.count_all_bitmaps-before.ensures.count in
     let words = c.read_words.new.words.items in
     let made = sym c.deref-2.ensures.value ∙ (rw c.in-Some-2.is at c.in_ok-origins.ensures.words) in
     subst (StandAt known (feeders_position head)) made
@@ -38,7 +38,7 @@ returns-in_err-read_words-clause-fault g c =
     let seen = g.R.ReadAt.all_bytes c.new-position.result.reader.now in
     let same : seen ≡ known = ap (λ b. g.R.ReadAt.all_bytes b.now) c.new-position.ensures.reader in
     let position : c.in-Some.at ≡ feeders_position head =
-    c.in-Some.ensures.position ∙ ap (λ n. head.rows_at + 8 * (n * word_count head.front.sizes.rows)) c.count_all_bitmaps-before.ensures.count in
+    c.in-Some.ensures.position ∙ ap (λ n. head.rows_at + 8 * (n * word_count head.preamble.sizes.rows)) c.count_all_bitmaps-before.ensures.count in
     let reported = c.in_err-read_words.field-0.0 in
     let met : IfErr c.from_residual.result (λ (fault : OpenFault). fault ≡ open_fault reported) = search rules in
     err_as c.from_residual.result (open_fault reported)
@@ -54,7 +54,7 @@ returns-clause-fault g c = λ at t notes kinds begins is.
     let seen = g.R.ReadAt.all_bytes c.new-position.result.reader.now in
     let same : seen ≡ known = ap (λ b. g.R.ReadAt.all_bytes b.now) c.new-position.ensures.reader in
     let position : c.in-Some.at ≡ feeders_position head =
-    c.in-Some.ensures.position ∙ ap (λ n. head.rows_at + 8 * (n * word_count head.front.sizes.rows)) c.count_all_bitmaps-before.ensures.count in
+    c.in-Some.ensures.position ∙ ap (λ n. head.rows_at + 8 * (n * word_count head.preamble.sizes.rows)) c.count_all_bitmaps-before.ensures.count in
     let words = c.read_words.new.words.items in
     let none = rw c.in-None.is at c.in_ok-origins.ensures.none in
     let read = c.in_ok-read_words.ensures.read in
@@ -74,7 +74,7 @@ returns-then-not-matches_feeders-clause-fault g c = λ at t notes kinds begins i
     let seen = g.R.ReadAt.all_bytes c.new-position.result.reader.now in
     let same : seen ≡ known = ap (λ b. g.R.ReadAt.all_bytes b.now) c.new-position.ensures.reader in
     let position : c.in-Some.at ≡ feeders_position head =
-    c.in-Some.ensures.position ∙ ap (λ n. head.rows_at + 8 * (n * word_count head.front.sizes.rows)) c.count_all_bitmaps-before.ensures.count in
+    c.in-Some.ensures.position ∙ ap (λ n. head.rows_at + 8 * (n * word_count head.preamble.sizes.rows)) c.count_all_bitmaps-before.ensures.count in
     let words = c.read_words.new.words.items in
     let read = c.in_ok-read_words.ensures.read in
     let stands : StandAt known (feeders_position head) words =
@@ -83,6 +83,6 @@ returns-then-not-matches_feeders-clause-fault g c = λ at t notes kinds begins i
     c.new-words.ensures.items ∙ c.count_feeder_words-count.ensures.count in
     let are : AreWords words = subst AreWords c.deref.ensures.value c.matches_feeders.ensures.fit in
     let is_words = feeders_words known at t notes kinds begins head is words stands many are in
-    let sum = sum_of_words head.front.sizes.feeders (feeders_of t.rows) c.deref.result.now (c.deref.ensures.value ∙ is_words) in
+    let sum = sum_of_words head.preamble.sizes.feeders (feeders_of t.rows) c.deref.result.now (c.deref.ensures.value ∙ is_words) in
     let no : IsTrue false = c.if-not-matches_feeders.ensures.said.1 (said_there known at t notes kinds begins head is ∙ sym sum) in
     absurd (cc (no)))

@@ -6,7 +6,7 @@ use Rattle.bsi_storage.proofs.head_checks.matches_zone.Goals as goal
 pub returns-then-from-len : goal.returns-then-from-len
 returns-then-from-len c =
     let head = c.args.head.now in
-    let at = 3 * c.args.c + bitmaps_in (take c.args.c head.front.schema.columns) in (
+    let at = 3 * c.args.c + bitmaps_in (take c.args.c head.preamble.schema.columns) in (
       λ no. absurd (cc (no)),
       λ same. absurd (omega (
         arith,

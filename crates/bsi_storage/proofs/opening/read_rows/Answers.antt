@@ -4,7 +4,7 @@ use Rattle.std.specs.Io.KnownBytes.{Consumes}
 use Rattle.bsi_table.specs.Index.{table_of}
 use Rattle.bsi_segments.specs.Segments.{bytes_of, counted, ReadsWords, FailsBefore}
 use Rattle.bsi_segments.specs.declared.format_version.FormatVersion.TheVariants.{Two}
-use Rattle.bsi_storage.specs.Decoding.{IsFront}
+use Rattle.bsi_storage.specs.Decoding.{IsPreamble}
 use Rattle.bsi_storage.specs.Faults.{open_fault, IsAny, IsNextSegmentFault}
 use Rattle.bsi_storage.specs.Heads.{rows_head}
 use Rattle.bsi_storage.specs.Saved.{segment, MayBeSaved}
@@ -24,43 +24,43 @@ rows_read b c count old new none reads =
 -- no head begins so
 pub returns-in_default-clause-fault : goal.returns-in_default-clause-fault
 returns-in_default-clause-fault g c = λ before consumed.
-    (let none = rw c.in_default.is at c.in_ok-front.ensures.none in
+    (let none = rw c.in_default.is at c.in_ok-preamble.ensures.none in
     inr (inl (no_first_words Two c.args.head.now c.requires.fit (λ t notes kinds valid is. none t notes kinds (rows_head t.schema t.feeders t.rows) valid is)
     before (g.R.Read.remaining c.args.reader.now) consumed)))
 
-pub decode_headed-requires-clause-front : goal.decode_headed-requires-clause-front
-decode_headed-requires-clause-front g c = (c.in-Some._behind.now, rw c.in-Some.is at c.in_ok-front.ensures.made)
+pub decode_headed-requires-clause-preamble : goal.decode_headed-requires-clause-preamble
+decode_headed-requires-clause-preamble g c = (c.in-Some._behind.now, rw c.in-Some.is at c.in_ok-preamble.ensures.made)
 
 -- the rows are not all there
 pub returns-in_err-read_words-clause-fault : goal.returns-in_err-read_words-clause-fault
 returns-in_err-read_words-clause-fault g c =
-    let f = c.in-Some.front in
+    let f = c.in-Some.preamble in
     let a = g.R.Read.remaining c.args.reader.now in
     let b = g.R.Read.remaining c.read_words.new.reader in
     let reported = c.in_err-read_words.field-0.0 in
-    let front : IsFront Two c.args.head.now f.sizes.rows f.sizes.feeders f.schema = record {
+    let preamble : IsPreamble Two c.args.head.now f.sizes.rows f.sizes.feeders f.schema = record {
       limit = f.sizes.limit;
       notes = f.notes.items;
       kinds = f.kinds.items;
       behind = c.in-Some._behind.now;
-      are = rw c.in-Some.is at c.in_ok-front.ensures.made;
-      texts = rw c.in-Some.is at c.in_ok-front.ensures.texts;
+      are = rw c.in-Some.is at c.in_ok-preamble.ensures.made;
+      texts = rw c.in-Some.is at c.in_ok-preamble.ensures.texts;
     } in
     let stops = subst (λ (n : ℕ). FailsBefore a b n reported) c.count_row_words-count.ensures.count c.in_err-read_words.ensures.fault in
     let met : IfErr c.from_residual-in_err-read_words.result (λ (fault : OpenFault). fault ≡ open_fault reported) = search rules in
     err_as c.from_residual-in_err-read_words.result (open_fault reported)
     (λ (fault : OpenFault). (before : KnownBytes) → Consumes before a (bytes_of (counted Two c.args.head.now)) → IsNextSegmentFault IsAny before b fault) met
-    (λ before consumed. rows_met c.args.head.now f.sizes.rows f.sizes.feeders f.schema c.requires.fit front before a b reported stops consumed)
+    (λ before consumed. rows_met c.args.head.now f.sizes.rows f.sizes.feeders f.schema c.requires.fit preamble before a b reported stops consumed)
 
 -- or no segment has them
 pub returns-in_default-2-clause-fault : goal.returns-in_default-2-clause-fault
 returns-in_default-2-clause-fault g c = λ before consumed.
-    (let f = c.in-Some.front in
+    (let f = c.in-Some.preamble in
     let a = g.R.Read.remaining c.args.reader.now in
     let b = g.R.Read.remaining c.read_words.new.reader in
     let last = c.read_words.new.words.items in
-    let made = rw c.in-Some.is at c.in_ok-front.ensures.made in
-    let texts = rw c.in-Some.is at c.in_ok-front.ensures.texts in
+    let made = rw c.in-Some.is at c.in_ok-preamble.ensures.made in
+    let texts = rw c.in-Some.is at c.in_ok-preamble.ensures.texts in
     let none = rw c.in_default-2.is at c.in_ok-part.ensures.none in
     let rows = rows_read a b c.count_row_words-count.result c.new-rows.result.items last c.new-rows.ensures.items c.in_ok-read_words.ensures.read in
     inr (inl (no_rows c.args.head.now c.requires.fit f.sizes.rows f.sizes.feeders f.sizes.limit f.notes.items f.kinds.items f.schema c.in-Some._behind.now texts made last

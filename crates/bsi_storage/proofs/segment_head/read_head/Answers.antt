@@ -10,7 +10,7 @@ use Rattle.bsi_storage.specs.Heads.{head, rows_head}
 use Rattle.bsi_storage.specs.Opens.{IsReadOrNoMemory}
 use Rattle.bsi_storage.specs.declared.fault.OpenFault.{OpenFault}
 use Rattle.bsi_storage.proofs.Files.{err_as}
-use Rattle.bsi_storage.proofs.FrontWords.{fronts}
+use Rattle.bsi_storage.proofs.PreambleWords.{preambles}
 use Rattle.bsi_storage.proofs.PlacedFaults.{head_fault}
 use Rattle.bsi_storage.proofs.PlacedHeads.{head_read, not_ended, version_read}
 use Rattle.bsi_syntax.specs.Bytes.{Bytes}
@@ -45,10 +45,10 @@ returns-clause-is g c = λ t notes kinds begins.
     let first = c.in-Some.first in
     let words : first.words.items ≡ head t notes kinds =
     (head_read known c.args.at t notes kinds begins seen _ c.new-position.result.at same c.new-position.ensures.at first.version first.words.items fit read).1 in
-    let f = c.in-Some-2.front in
-    let made = rw c.in-Some-2.is at c.in_ok-front.ensures.made in
-    let texts = rw c.in-Some-2.is at c.in_ok-front.ensures.texts in
-    let all = fronts Two f.sizes.rows f.sizes.feeders f.sizes.limit f.notes.items f.kinds.items f.schema c.in-Some-2.behind.now t notes kinds
+    let f = c.in-Some-2.preamble in
+    let made = rw c.in-Some-2.is at c.in_ok-preamble.ensures.made in
+    let texts = rw c.in-Some-2.is at c.in_ok-preamble.ensures.texts in
+    let all = preambles Two f.sizes.rows f.sizes.feeders f.sizes.limit f.notes.items f.kinds.items f.schema c.in-Some-2.behind.now t notes kinds
     (rows_head t.schema t.feeders t.rows) texts begins.valid (sym made ∙ c.deref.ensures.value ∙ words) in
     let at_is : c.in-Some-checked_add.rows_at ≡ c.args.at + 8 * (c.len.result + 3) = search rules in
     record {
@@ -87,7 +87,7 @@ returns-in_default-2-clause-fault g c = λ version t notes kinds begins.
     let begins_too : BeginsAt known c.args.at t notes kinds = subst (λ v. BeginsBy v known c.args.at t notes kinds) two begins in
     let words : first.words.items ≡ head t notes kinds =
     (head_read known c.args.at t notes kinds begins_too seen _ c.new-position.result.at same c.new-position.ensures.at first.version first.words.items fit read).1 in
-    let none = rw c.in_default-2.is at c.in_ok-front.ensures.none in
+    let none = rw c.in_default-2.is at c.in_ok-preamble.ensures.none in
     absurd (none t notes kinds (rows_head t.schema t.feeders t.rows) begins_too.valid (c.deref.ensures.value ∙ words)))
 
 -- no segment of version 1 begins there

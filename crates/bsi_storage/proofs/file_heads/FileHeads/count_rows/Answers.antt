@@ -26,7 +26,7 @@ returns-in_err-count-clause-none c =
       own.is.rows,
       own.is.limit,
       rows_within known heads t notes kinds are k within,
-      ap (λ (x : SegmentHead). x.front.sizes.limit) same,
+      ap (λ (x : SegmentHead). x.preamble.sizes.limit) same,
       sizes.limit_is.1,
     )))) in
     subst (λ (o : Option ℕ). IfNone o ((known : Option (List ℕ)) → (t : Table) → (notes kinds : Bytes) → AreFileHeads known heads t notes kinds → ⊥)) (sym c.from_residual.ensures) none
@@ -40,7 +40,7 @@ segments-preserved c = λ known t notes kinds are.
     let within : k < length heads = omega (arith, c.segments-test.true, ap (λ (hs : List SegmentHead). length hs) items) in
     let same : h ≡ get_or heads k h = c.head-item.is ∙ ap (λ (hs : List SegmentHead). get_or hs k h) items in
     let own = head_is known heads t notes kinds are k h same within in
-    let sum : c.in_ok-count.count ≡ c.segments.count + h.front.sizes.rows = search rules in
+    let sum : c.in_ok-count.count ≡ c.segments.count + h.preamble.sizes.rows = search rules in
     let ps = parts_in are.keeps in
     omega (
       arith,

@@ -3,8 +3,8 @@ use Rattle.bsi_schema.specs.Columns.{Declared}
 use Rattle.bsi_segments.specs.Schemas.{encoded_schema}
 use Rattle.bsi_segments.proofs.Coding.{same_schema}
 use Rattle.bsi_storage.specs.Decoding.{kinds_words}
-use Rattle.bsi_storage.proofs.FrontWords.{after_kinds, after_notes, after_sizes, texts_of}
-use Rattle.bsi_storage.proofs.fronts.decode_front.Goals as goal
+use Rattle.bsi_storage.proofs.PreambleWords.{after_kinds, after_notes, after_sizes, texts_of}
+use Rattle.bsi_storage.proofs.preambles.decode_preamble.Goals as goal
 
 pub returns-in_default-2-clause-none : goal.returns-in_default-2-clause-none
 returns-in_default-2-clause-none c = λ t notes kinds behind valid is.

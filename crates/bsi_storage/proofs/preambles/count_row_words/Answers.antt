@@ -2,7 +2,7 @@ use Rattle.std.proofs.Common.{◌≡◌, ◌*◌, ◌≤◌, ℕ, arith, ap₂}
 use Rattle.std.proofs.Math.Nat.{mul-le-mul_left}
 use Rattle.bsi_bits.specs.BitList.{word_count}
 use Rattle.bsi_storage.specs.Decoding.{bitmaps_in}
-use Rattle.bsi_storage.proofs.fronts.count_row_words.Goals as goal
+use Rattle.bsi_storage.proofs.preambles.count_row_words.Goals as goal
 
 small : (a b : ℕ) → a ≤ 131072 → b ≤ 67108864 → a * b ≤ 8796093022208
 small a b few low = omega (arith, mul-le-mul_left a low, few)

@@ -1,11 +1,12 @@
-//! Decodes with what a segment's words begin (`Front`: sizes, texts, schema), and counts the words of its rows.
+//! Decodes the preamble of a segment, the first of its words (`Preamble`: sizes, notes, kinds and schema), and counts the
+//! words of its rows: of its bitmaps and its feeders.
 
 ghost use Rattle.std.specs.Prelude.{◌≡◌, ◌^◌, ◌≤◌, ◌++◌, ℕ, List, IfNone, IfOk, IfSome, length};
 ghost use Rattle.bsi_schema.specs.Columns.{IsDeclared};
 ghost use Rattle.bsi_rows.specs.Table.{Table};
 ghost use Rattle.bsi_segments.specs.Bytes.{text_words, AreBytes};
 ghost use Rattle.bsi_storage.specs.Saved.{most_kinds, most_notes, MayBeSaved};
-ghost use Rattle.bsi_storage.specs.Decoding.{bitmaps_in, feeder_word_count, front_words, kinds_words, rows_word_count, AreSizes, AreTexts};
+ghost use Rattle.bsi_storage.specs.Decoding.{bitmaps_in, feeder_word_count, preamble_words, kinds_words, rows_word_count, AreSizes, AreTexts};
 
 use crate::NoMemory;
 use crate::writing::{MAX_KINDS, MAX_NOTES};
@@ -16,7 +17,7 @@ use std::alloc::Global;
 /// The most bytes of notes in a segment of version 1.
 const MAX_NOTES_ONE: usize = 1 << 16;
 
-/// The numbers that a segment's words begin with.
+/// The numbers that a preamble begins with.
 #[derive(Clone, Copy, Debug)]
 pub(crate) struct Sizes {
     pub(crate) rows: u64,
@@ -24,32 +25,32 @@ pub(crate) struct Sizes {
     pub(crate) limit: u64,
 }
 
-/// With what a segment's words begin.
+/// The first words of a segment, decoded.
 #[derive(Drop)]
-pub(crate) struct Front {
+pub(crate) struct Preamble {
     pub(crate) sizes: Sizes,
     pub(crate) notes: Vec<u8>,
     pub(crate) kinds: Vec<u8>,
     pub(crate) schema: Schema,
 }
 
-/// Makes what comes first in the body or the head of a segment, and lends the words after it; or none if no segment of
-/// this version begins so. A false length takes no memory.
-pub(crate) fn decode_front<'a>(
+/// Makes the preamble of the body or the head of a segment, and lends the words after it; or none if no segment of this
+/// version begins so. A false length takes no memory.
+pub(crate) fn decode_preamble<'a>(
     alloc: Global,
     version: FormatVersion,
     words: &'a [u64],
-) -> Result<Option<(Front, &'a [u64])>, NoMemory>
+) -> Result<Option<(Preamble, &'a [u64])>, NoMemory>
     ensures made { IfOk result (λ decoded. IfSome decoded (λ pair. words.now
-        ≡ front_words version pair.0.sizes.rows pair.0.sizes.feeders pair.0.sizes.limit
+        ≡ preamble_words version pair.0.sizes.rows pair.0.sizes.feeders pair.0.sizes.limit
         pair.0.notes.items pair.0.kinds.items pair.0.schema pair.1.now)) }
     ensures sizes { IfOk result (λ decoded. IfSome decoded (λ pair.
         AreSizes pair.0.sizes.rows pair.0.sizes.feeders pair.0.sizes.limit)) }
     ensures texts { IfOk result (λ decoded. IfSome decoded (λ pair.
         AreTexts version pair.0.notes.items pair.0.kinds.items pair.0.schema)) }
     ensures none { IfOk result (λ decoded. IfNone decoded ((t : Table) →
-        (notes kinds behind : List ℕ) → MayBeSaved version t notes kinds → words.now
-        ≡ front_words version (length t.rows) t.feeders t.limit notes kinds t.schema behind → ⊥)) }
+        (notes kinds behind : List ℕ) → MayBeSaved version t notes kinds → words.now ≡
+        preamble_words version (length t.rows) t.feeders t.limit notes kinds t.schema behind → ⊥)) }
 {
     let [rows, feeders, limit, rest @ ..] = words else {
         return Ok(None);
@@ -69,13 +70,13 @@ pub(crate) fn decode_front<'a>(
     if schema.columns() == 0 {
         return Ok(None);
     }
-    let front = Front {
+    let preamble = Preamble {
         sizes,
         notes,
         kinds,
         schema,
     };
-    Ok(Some((front, rest)))
+    Ok(Some((preamble, rest)))
 }
 
 /// Makes the sizes of an index of these numbers, or none if no index has them.
@@ -107,7 +108,7 @@ fn most_notes(version: FormatVersion) -> usize
 }
 
 /// Makes the text of kinds that comes first in a segment of version 2, and lends the words after it; or none if there is
-/// no such text. FormatVersion 1 has none, so no byte.
+/// no such text. Version 1 has none, so no byte.
 fn decode_kinds<'a>(
     alloc: Global,
     version: FormatVersion,

@@ -1,6 +1,6 @@
 use Rattle.std.proofs.Common.{◌≡◌, ◌*◌, ◌≤◌, take}
 use Rattle.bsi_storage.specs.Decoding.{bitmaps_in}
-use Rattle.bsi_storage.proofs.fronts.count_all_bitmaps.Given as goal
+use Rattle.bsi_storage.proofs.preambles.count_all_bitmaps.Given as goal
 
 -- the bitmaps of the columns so far
 abbrev pub invariant-columns : goal.invariant-columns

@@ -12,7 +12,7 @@ use Rattle.bsi_segments.specs.declared.format_version.FormatVersion.{FormatVersi
 use Rattle.bsi_segments.specs.declared.format_version.FormatVersion.TheVariants.{One, Two}
 use Rattle.bsi_segments.proofs.Coding.{behind, same_schema, same_text}
 use Rattle.bsi_storage.specs.Saved.{most_kinds, rows_words, AreRows, MayBeSaved}
-use Rattle.bsi_storage.specs.Decoding.{front_words, kinds_words, AreSizes, AreTexts, HasRowsOf}
+use Rattle.bsi_storage.specs.Decoding.{preamble_words, kinds_words, AreSizes, AreTexts, HasRowsOf}
 
 none_left : (text : List ℕ) → length text ≤ 0 → text ≡ []
 none_left [] few = refl
@@ -25,7 +25,7 @@ same_kinds One kinds others xs ys are others_are few others_few same = (none_lef
 same_kinds Two kinds others xs ys are others_are few others_few same = same_text kinds others xs ys are others_are same
 
 -- and so it is with all that comes first
-pub record AreSameFronts (rows feeders limit : ℕ) (notes kinds : List ℕ) (schema : Declared) (behind : List ℕ) (rows' feeders' limit' : ℕ) (notes' kinds' : List ℕ) (schema' : Declared) (behind' : List ℕ) : Type 0 where
+pub record AreSamePreambles (rows feeders limit : ℕ) (notes kinds : List ℕ) (schema : Declared) (behind : List ℕ) (rows' feeders' limit' : ℕ) (notes' kinds' : List ℕ) (schema' : Declared) (behind' : List ℕ) : Type 0 where
   pub rows_same : rows ≡ rows'
   pub feeders_same : feeders ≡ feeders'
   pub limit_same : limit ≡ limit'
@@ -36,7 +36,7 @@ pub record AreSameFronts (rows feeders limit : ℕ) (notes kinds : List ℕ) (sc
 
 module _ (version : FormatVersion) (rows feeders limit : ℕ) (notes kinds : List ℕ) (schema : Declared) (behind : List ℕ) (rows' feeders' limit' : ℕ) (notes' kinds' : List ℕ) (schema' : Declared) (behind' : List ℕ)
     (texts : AreTexts version notes kinds schema) (texts' : AreTexts version notes' kinds' schema')
-    (same : front_words version rows feeders limit notes kinds schema behind ≡ front_words version rows' feeders' limit' notes' kinds' schema' behind') where
+    (same : preamble_words version rows feeders limit notes kinds schema behind ≡ preamble_words version rows' feeders' limit' notes' kinds' schema' behind') where
   by_notes : (notes ≡ notes') × (kinds_words version kinds (encoded_schema schema ++ behind) ≡ kinds_words version kinds' (encoded_schema schema' ++ behind'))
   by_notes =
       same_text notes notes' (kinds_words version kinds (encoded_schema schema ++ behind)) (kinds_words version kinds' (encoded_schema schema' ++ behind'))
@@ -50,8 +50,8 @@ module _ (version : FormatVersion) (rows feeders limit : ℕ) (notes kinds : Lis
   by_schema : (schema ≡ schema') × (behind ≡ behind')
   by_schema = same_schema schema schema' behind behind' texts.declared texts'.declared by_kinds.1
 
-  pub same_fronts : AreSameFronts rows feeders limit notes kinds schema behind rows' feeders' limit' notes' kinds' schema' behind'
-  same_fronts = record {
+  pub same_preambles : AreSamePreambles rows feeders limit notes kinds schema behind rows' feeders' limit' notes' kinds' schema' behind'
+  same_preambles = record {
     rows_same = ap (λ ws. get_or ws 0 0) same;
     feeders_same = ap (λ ws. get_or ws 1 0) same;
     limit_same = ap (λ ws. get_or ws 2 0) same;
@@ -75,7 +75,7 @@ texts_of version t notes kinds valid = record {
 -- ---- decoding, word after word
 
 module _ (version : FormatVersion) (words : List ℕ) (t : Table) (notes kinds rest : List ℕ) (valid : MayBeSaved version t notes kinds)
-    (is : words ≡ front_words version (length t.rows) t.feeders t.limit notes kinds t.schema rest) where
+    (is : words ≡ preamble_words version (length t.rows) t.feeders t.limit notes kinds t.schema rest) where
   pub after_sizes : take (length words - 3) (drop 3 words) ≡ text_words notes ++ kinds_words version kinds (encoded_schema t.schema ++ rest)
   after_sizes = behind 3 words ∙ ap (drop 3) is
 
@@ -92,8 +92,8 @@ module _ (version : FormatVersion) (words : List ℕ) (t : Table) (notes kinds r
 
 -- what was decoded, as a table
 module _ (schema : Declared) (rows feeders limit : ℕ) (words : List ℕ) (t : Table) (holds : HasRowsOf schema rows feeders limit words t) where
-  pub front_of_table : (version : FormatVersion) (notes kinds behind : List ℕ) → front_words version rows feeders limit notes kinds schema behind ≡ front_words version (length t.rows) t.feeders t.limit notes kinds t.schema behind
-  front_of_table version notes kinds behind = λ i. front_words version (sym holds.many i) (sym holds.feeders_are i) (sym holds.limit_is i) notes kinds (sym holds.schema_is i) behind
+  pub preamble_of_table : (version : FormatVersion) (notes kinds behind : List ℕ) → preamble_words version rows feeders limit notes kinds schema behind ≡ preamble_words version (length t.rows) t.feeders t.limit notes kinds t.schema behind
+  preamble_of_table version notes kinds behind = λ i. preamble_words version (sym holds.many i) (sym holds.feeders_are i) (sym holds.limit_is i) notes kinds (sym holds.schema_is i) behind
 
   pub rows_of_table : words ≡ rows_words t.schema t.feeders t.rows
   rows_of_table = holds.words_are ∙ (λ i. rows_words (sym holds.schema_is i) (sym holds.feeders_are i) t.rows)
@@ -115,14 +115,14 @@ module _ (schema : Declared) (rows feeders limit : ℕ) (words : List ℕ) (t : 
 -- a table whose words begin so has these rows
 module _ (version : FormatVersion) (rows feeders limit : ℕ) (notes kinds : List ℕ) (schema : Declared) (behind' : List ℕ) (t : Table) (notes' kinds' rest : List ℕ)
     (texts : AreTexts version notes kinds schema) (valid : MayBeSaved version t notes' kinds')
-    (same : front_words version rows feeders limit notes kinds schema behind' ≡ front_words version (length t.rows) t.feeders t.limit notes' kinds' t.schema rest) where
-  pub fronts : AreSameFronts rows feeders limit notes kinds schema behind' (length t.rows) t.feeders t.limit notes' kinds' t.schema rest
-  fronts =
-      same_fronts version rows feeders limit notes kinds schema behind' (length t.rows) t.feeders t.limit notes' kinds' t.schema rest
+    (same : preamble_words version rows feeders limit notes kinds schema behind' ≡ preamble_words version (length t.rows) t.feeders t.limit notes' kinds' t.schema rest) where
+  pub preambles : AreSamePreambles rows feeders limit notes kinds schema behind' (length t.rows) t.feeders t.limit notes' kinds' t.schema rest
+  preambles =
+      same_preambles version rows feeders limit notes kinds schema behind' (length t.rows) t.feeders t.limit notes' kinds' t.schema rest
       texts (texts_of version t notes' kinds' valid) same
 
   pub rows_fit : AreRows schema feeders t.rows
-  rows_fit = subst (λ s. AreRows s feeders t.rows) (sym fronts.schema_same) (subst (λ n. AreRows t.schema n t.rows) (sym fronts.feeders_same) valid.rows)
+  rows_fit = subst (λ s. AreRows s feeders t.rows) (sym preambles.schema_same) (subst (λ n. AreRows t.schema n t.rows) (sym preambles.feeders_same) valid.rows)
 
   pub rows_words_are : rows_words t.schema t.feeders t.rows ≡ rows_words schema feeders t.rows
-  rows_words_are = λ i. rows_words (sym fronts.schema_same i) (sym fronts.feeders_same i) t.rows
+  rows_words_are = λ i. rows_words (sym preambles.schema_same i) (sym preambles.feeders_same i) t.rows

@@ -5,7 +5,7 @@ use Rattle.bsi_table.specs.Bitmaps.{bitmap_count}
 use Rattle.bsi_storage.specs.Decoding.{bitmaps_in}
 use Rattle.bsi_storage.proofs.BodyWords.{few_bitmaps, few_columns}
 use Rattle.bsi_storage.proofs.RowCounts.{bitmaps_more}
-use Rattle.bsi_storage.proofs.fronts.count_all_bitmaps.Goals as goal
+use Rattle.bsi_storage.proofs.preambles.count_all_bitmaps.Goals as goal
 
 pub overflow_add-count : goal.overflow_add-count
 overflow_add-count c =
