@@ -1,4 +1,4 @@
--- With what a body or a head begins follows from its words, and what a table of it may be.
+-- The words of a preamble determine it, and which tables may have it.
 use Rattle.std.proofs.Common.{◌≡◌, ℕ, ◌≤◌, ◌-◌, List, [], ◌∷◌, ◌++◌, length, get_or, drop, take, refl, sym, ap, subst, ◌∙◌, arith}
 use Rattle.std.specs.Prelude.{None}
 use Rattle.bsi_schema.specs.Columns.{Declared}
@@ -24,7 +24,7 @@ pub same_kinds : (version : FormatVersion) (kinds others xs ys : List ℕ) → A
 same_kinds One kinds others xs ys are others_are few others_few same = (none_left kinds few ∙ sym (none_left others others_few), same)
 same_kinds Two kinds others xs ys are others_are few others_few same = same_text kinds others xs ys are others_are same
 
--- and so it is with all that comes first
+-- and so it is with whole preambles
 pub record AreSamePreambles (rows feeders limit : ℕ) (notes kinds : List ℕ) (schema : Declared) (behind : List ℕ) (rows' feeders' limit' : ℕ) (notes' kinds' : List ℕ) (schema' : Declared) (behind' : List ℕ) : Type 0 where
   pub rows_same : rows ≡ rows'
   pub feeders_same : feeders ≡ feeders'

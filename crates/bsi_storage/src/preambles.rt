@@ -1,5 +1,5 @@
-//! Decodes the preamble of a segment, the first of its words (`Preamble`: sizes, notes, kinds and schema), and counts the
-//! words of its rows: of its bitmaps and its feeders.
+//! Decodes the preamble of a segment (`Preamble`: sizes, notes, kinds, schema), and counts the words of its rows, those
+//! of bitmaps and of feeders.
 
 ghost use Rattle.std.specs.Prelude.{◌≡◌, ◌^◌, ◌≤◌, ◌++◌, ℕ, List, IfNone, IfOk, IfSome, length};
 ghost use Rattle.bsi_schema.specs.Columns.{IsDeclared};
