@@ -19,7 +19,7 @@ use Rattle.bsi_input.specs.BufferedOutput.{AppendsPrefix}
 use Rattle.bsi_input.specs.Formats.{max_records}
 use Rattle.bsi_input.specs.RecordSources.{RecordSource}
 use Rattle.bsi_input.specs.Sources.{HasReadRecords}
-use Rattle.bsi_answers.specs.ReadAhead.{GaveRecords, GivesRecords, ReadsAhead, ReadsMore, ReadsOne, FailsAhead, WritesFirstLines, WritesLines}
+use Rattle.bsi_answers.specs.ReadAhead.{FailsAhead, GaveRecords, GivesRecords, ReadsAhead, ReadsMore, ReadsOne, WritesFirstLines, WritesLines}
 use Rattle.bsi_rows.specs.Fields.{Field}
 use Rattle.bsi_syntax.specs.Bytes.{Bytes, KnownBytes}
 use Rattle.bsi_syntax.specs.Notations.{AppendsText}

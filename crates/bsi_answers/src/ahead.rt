@@ -5,7 +5,7 @@ ghost use Rattle.csv.specs.Records.{fields_of};
 ghost use Rattle.bsi_input.specs.Formats.{max_records};
 ghost use Rattle.bsi_input.specs.Sources.{HasNext};
 ghost use Rattle.bsi_answers.specs.Faults.{may_follow_output};
-ghost use Rattle.bsi_answers.specs.ReadAhead.{ReadsAhead, ReadsOne, FailsAhead};
+ghost use Rattle.bsi_answers.specs.ReadAhead.{FailsAhead, ReadsAhead, ReadsOne};
 
 use crate::{FilesFault, Which};
 use bsi_input::{RecordAwareReader, RecordSource};

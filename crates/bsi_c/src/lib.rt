@@ -3,7 +3,7 @@
 #![tactic(auto)]
 
 ghost use Rattle.std.specs.Prelude.{◌≡◌, ◌≢◌, Err, None, drop, length, map};
-ghost use Rattle.bsi_ffi.specs.Calls.{IsAppending, IsAsking, IsHandleClosing, IsCounting, IsDescribing, IsOpening, IsReopening, IsReserving, IsSaving, IsSelecting, IsSettingKinds, IsSharing, IsTellingKinds, LeavesRest, LeavesWords};
+ghost use Rattle.bsi_ffi.specs.Calls.{IsAppending, IsAsking, IsCounting, IsDescribing, IsHandleClosing, IsOpening, IsReopening, IsReserving, IsSaving, IsSelecting, IsSettingKinds, IsSharing, IsTellingKinds, LeavesRest, LeavesWords};
 ghost use Rattle.bsi_ffi.specs.Groups.{IsGrouping};
 ghost use Rattle.bsi_ffi.specs.Lines.{IsAnsweringByLine};
 ghost use Rattle.bsi_ffi.specs.Memory.{IsMeasuring};

@@ -22,7 +22,7 @@ use Rattle.bsi_input.specs.SchemaTexts.{DeclaresNoColumn, DeclaresTooLong, IsBad
 use Rattle.bsi_storage.specs.Faults.{IsFirstSegmentFault, IsOpened}
 use Rattle.bsi_logical.specs.Logical.{Logical}
 use Rattle.bsi_segments.specs.declared.format_version.FormatVersion.TheVariants.{Two}
-use Rattle.bsi_storage.specs.Saved.{segment_with_head, max_kinds, max_notes, IsFileOf, MayBeSaved}
+use Rattle.bsi_storage.specs.Saved.{max_kinds, max_notes, segment_with_head, IsFileOf, MayBeSaved}
 use Rattle.bsi_storage.specs.declared.fault.OpenFault.{OpenFault}
 use Rattle.bsi_storage.specs.declared.fault.OpenFault.TheVariants as open_fault
 use Rattle.bsi_ffi.specs.Columns.{are_columns, first_unlike, input_rows, row_count, row_of, AreAccepted, IsFirstMisfit, IsFirstRefusing}

@@ -1,7 +1,7 @@
 //! The calls of the C library: each opens a closed handle, or appends to, asks, saves, shares or closes an open one.
 
 ghost use Rattle.std.specs.Prelude.{◌≡◌, ◌≢◌, None, drop, is_some, length, map, IfErr, OnErr, OnOk};
-ghost use Rattle.bsi_ffi.specs.Calls.{IsAppending, IsAsking, IsHandleClosing, IsCounting, IsDescribing, IsOpening, IsReopening, IsReserving, IsSaving, IsSelecting, IsSettingKinds, IsSharing, IsTellingKinds, LeavesRest, LeavesWords};
+ghost use Rattle.bsi_ffi.specs.Calls.{IsAppending, IsAsking, IsCounting, IsDescribing, IsHandleClosing, IsOpening, IsReopening, IsReserving, IsSaving, IsSelecting, IsSettingKinds, IsSharing, IsTellingKinds, LeavesRest, LeavesWords};
 ghost use Rattle.bsi_ffi.specs.Groups.{IsGrouping};
 ghost use Rattle.bsi_ffi.specs.Lines.{IsAnsweringByLine};
 ghost use Rattle.bsi_ffi.specs.Memory.{IsMeasuring};

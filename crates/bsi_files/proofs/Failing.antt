@@ -24,7 +24,7 @@ use Rattle.bsi_input.proofs.FirstRecords.{first_join_by, HasReadFirstBy}
 use Rattle.bsi_files.specs.Begun.{Begins}
 use Rattle.bsi_files.specs.Ends.{tasks, AreEndsOf}
 use Rattle.bsi_answers.specs.Faults.{may_follow_output, raised_at_headers, raised_while_loading}
-use Rattle.bsi_files.specs.Feeding.{HasFailed, FailsAfter}
+use Rattle.bsi_files.specs.Feeding.{FailsAfter, HasFailed}
 use Rattle.bsi_files.specs.Headers.{HasHeader, IsHeadersFault}
 use Rattle.bsi_answers.specs.RowFiles.{RowFile}
 use Rattle.bsi_files.specs.RunFaults.{is_of_loading, AreOverLimit, AreRowFiles, FailsAt, GaveRows, HasFirstRows, IsEndFault, IsFaultOf, IsFaultOfTexts, IsLoadFault, IsTooLongFile, RowTextsAreValid, WasReadOut}

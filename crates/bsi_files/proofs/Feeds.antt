@@ -9,7 +9,7 @@ use Rattle.bsi_input.specs.Formats.{Format}
 use Rattle.bsi_input.specs.Sources.{layout_by, source_by, Counts, GivesFirst, GivesFirstRows, HasEndedBy, HasGivenRows, HasReadAll, HasReadRows, HasReadToFault, IsOverBy, IsWithoutFault, Layout, LayoutOf, SourceEnd, SourceOf}
 use Rattle.bsi_input.specs.declared.rows.SourceFault.{SourceFault}
 use Rattle.bsi_files.specs.declared.feeding.FeedEnd.{FeedEnd}
-use Rattle.bsi_files.specs.Feeding.{CountsBad, FailsNow, GaveAllRows, GivesNext, GivesNone, GivesRows, HasFailed, HasFed, IsReadOut, ReadsOn, FailsAfter}
+use Rattle.bsi_files.specs.Feeding.{CountsBad, FailsAfter, FailsNow, GaveAllRows, GivesNext, GivesNone, GivesRows, HasFailed, HasFed, IsReadOut, ReadsOn}
 use Rattle.bsi_syntax.specs.Bytes.{KnownBytes}
 
 -- what follows for each value follows for one that is there

@@ -12,7 +12,7 @@ use Rattle.bsi_rows.specs.Rows.{Entries}
 use Rattle.bsi_syntax.specs.Bytes.{KnownBytes}
 use Rattle.bsi_rows.specs.Fields.{Field}
 use Rattle.bsi_input.specs.Formats.{good_row}
-use Rattle.bsi_input.specs.RecordSources.{ReadsRecordBy, FailsBy}
+use Rattle.bsi_input.specs.RecordSources.{FailsBy, ReadsRecordBy}
 use Rattle.bsi_input.specs.Sources.{counts_of, end_after, end_after_call, with_fed_rows, AreCounts, Counts, Fills, HasReadRows, HasReadToFault, IsOverBy, IsReaderBy, Layout, PutsRows, Source, SourceEnd}
 use Rattle.bsi_input.specs.declared.rows.SourceFault.{SourceFault}
 use Rattle.bsi_input.specs.declared.rows.SourceFault.TheVariants.{NoMemory}

@@ -6,7 +6,7 @@ ghost use Rattle.csv.specs.Records.{fields_of};
 ghost use Rattle.bsi_schema.specs.Columns.{fits};
 ghost use Rattle.bsi_rows.specs.RowBlocks.{max_block_rows, no_block_rows, with_block_row, HaveSameLimits};
 ghost use Rattle.bsi_input.specs.Formats.{fitting, given, good_row, in_order};
-ghost use Rattle.bsi_input.specs.RecordSources.{ReadsRecordBy, FailsBy};
+ghost use Rattle.bsi_input.specs.RecordSources.{FailsBy, ReadsRecordBy};
 ghost use Rattle.bsi_input.specs.Sources.{IsReadFault, IsReaderBy};
 
 use crate::NoMemory;

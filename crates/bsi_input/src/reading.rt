@@ -6,7 +6,7 @@ ghost use Rattle.csv.specs.Reading.{ReadRecord, error_kind, reader_state, source
 ghost use Rattle.csv.specs.Records.{fields_of};
 ghost use Rattle.csv.specs.declared.parser.State.TheVariants as st;
 ghost use Rattle.bsi_input.specs.Formats.{config_of};
-ghost use Rattle.bsi_input.specs.RecordSources.{ReadsRecord, Fails};
+ghost use Rattle.bsi_input.specs.RecordSources.{Fails, ReadsRecord};
 ghost use Rattle.bsi_input.specs.Sources.{end_after, IsPlainReader, IsReadFault, IsReaderBy};
 
 use crate::format::RowFormat;

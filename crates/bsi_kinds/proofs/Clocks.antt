@@ -9,7 +9,7 @@ use Rattle.std.specs.List.{before_first, list_all}
 use Rattle.std.specs.Str.Parse.{digits_value}
 use Rattle.bsi_kinds.specs.Dates.{date_number}
 use Rattle.bsi_kinds.specs.Decimals.{mantissa_of, scanned, units_of, Digits}
-use Rattle.bsi_kinds.specs.Clocks.{clock_of, minutes_of, moved, scanned_time, seconds_behind, subsecond_behind, two_digits, time_zone_offset, Moment}
+use Rattle.bsi_kinds.specs.Clocks.{clock_of, minutes_of, moved, scanned_time, seconds_behind, subsecond_behind, time_zone_offset, two_digits, Moment}
 use Rattle.bsi_kinds.specs.Times.{from_first, is_clock_sign, is_time_zone_sign, moment_behind, moment_of, moment_on}
 use Rattle.bsi_kinds.specs.declared.decimal.Scanned.{Scanned}
 use Rattle.bsi_kinds.specs.declared.clock.ScannedTime.{ScannedTime}

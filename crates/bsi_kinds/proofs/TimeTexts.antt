@@ -17,7 +17,7 @@ use Rattle.jiff_core.specs.declared.civil.time.Time.{Time}
 use Rattle.bsi_kinds.specs.Dates.{date_number, date_text}
 use Rattle.bsi_kinds.specs.Decimals.{Represents}
 use Rattle.bsi_kinds.specs.DecimalTexts.{last_digits, places_text}
-use Rattle.bsi_kinds.specs.Clocks.{clock_of, minutes_of, moment_value, moved, seconds_behind, subsecond_behind, two_digits, time_zone_offset, Moment}
+use Rattle.bsi_kinds.specs.Clocks.{clock_of, minutes_of, moment_value, moved, seconds_behind, subsecond_behind, time_zone_offset, two_digits, Moment}
 use Rattle.bsi_kinds.specs.TimeTexts.{clock_text, time_text, WritesTime}
 use Rattle.bsi_kinds.specs.Times.{from_first, is_clock_sign, is_time_zone_sign, moment_behind, moment_of, moment_on, unit_places, SpellsTime}
 use Rattle.bsi_kinds.specs.declared.date.DateOrder.TheVariants.{YearFirst}

@@ -3,7 +3,7 @@ use Rattle.std.specs.Prelude.{ℕ, ◌*◌, ◌^◌, Bool, ◌||◌, ◌&&◌, �
 use Rattle.std.specs.Int.{int_div_euclid}
 use Rattle.std.specs.List.{before_first, position_or_len}
 use Rattle.jiff_core.specs.Calendar.{IsEpochDay}
-use Rattle.bsi_kinds.specs.Clocks.{clock_of, moment_value, moved, scanned_time, whole_moment, time_zone_offset, Moment}
+use Rattle.bsi_kinds.specs.Clocks.{clock_of, moment_value, moved, scanned_time, time_zone_offset, whole_moment, Moment}
 use Rattle.bsi_kinds.specs.Dates.{date_number}
 use Rattle.bsi_rows.specs.Fields.{Field}
 use Rattle.bsi_kinds.specs.Decimals.{Decimal, Represents}

@@ -3,7 +3,7 @@
 
 ghost use Rattle.std.specs.Prelude.{◌≡◌, ℕ, ◌<◌, ◌≤◌, ◌^◌, option_map, IfSome};
 ghost use Rattle.jiff_core.specs.Calendar.{IsWithin};
-ghost use Rattle.bsi_kinds.specs.Clocks.{clock_of, minutes_of, scanned_time, seconds_behind, subsecond_behind, two_digits, whole_moment, time_zone_of, time_zone_offset, IsWithinSeconds};
+ghost use Rattle.bsi_kinds.specs.Clocks.{clock_of, minutes_of, scanned_time, seconds_behind, subsecond_behind, time_zone_of, time_zone_offset, two_digits, whole_moment, IsWithinSeconds};
 ghost use Rattle.bsi_kinds.specs.Decimals.{scanned};
 
 use crate::decimal::{Scanned, read_short_number, scan_mantissa, split_at_byte};

@@ -12,7 +12,7 @@ use Rattle.bsi_rows.specs.declared.query.Query.{Query}
 use Rattle.bsi_rows.specs.declared.query.Total.{Total}
 use Rattle.bsi_rows.specs.declared.query.Total.TheVariants.{Count, Sum, Least, Greatest, Median, Rank, Rows}
 use Rattle.bsi_schema.specs.Columns.{Declared}
-use Rattle.bsi_rows.specs.Rows.{FedRow, feeders_of, selected, values}
+use Rattle.bsi_rows.specs.Rows.{feeders_of, selected, values, FedRow}
 
 -- the answer is a number or none, as `Is` describes
 abbrev pub IsValue : (Option ℤ → Type 0) → Answer → Type 0

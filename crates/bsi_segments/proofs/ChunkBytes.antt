@@ -11,7 +11,7 @@ use Rattle.bsi_input.specs.BufferedOutput.{AppendsPrefix}
 use Rattle.bsi_input.proofs.Waiting.{cut_front, cut_whole}
 use Rattle.bsi_segments.specs.declared.fault.SegmentFault.{SegmentFault}
 use Rattle.bsi_segments.specs.declared.fault.SegmentFault.TheVariants.{CutShort, Damaged, NoMemory, NotASegment, OtherVersion, Read}
-use Rattle.bsi_segments.specs.Segments.{bytes_of, checksum_of, counted_rest, magic, AreWords, EndsWithin, IsRestFault, MeetsFault, ReadsToEnd, ReadsWords, FailsBefore}
+use Rattle.bsi_segments.specs.Segments.{bytes_of, checksum_of, counted_rest, magic, AreWords, EndsWithin, FailsBefore, IsRestFault, MeetsFault, ReadsToEnd, ReadsWords}
 use Rattle.bsi_segments.specs.declared.format_version.FormatVersion.{FormatVersion}
 use Rattle.bsi_segments.proofs.Eights.{length-bytes_of}
 use Rattle.bsi_syntax.specs.Bytes.{KnownBytes}

@@ -4,7 +4,7 @@
 ghost use Rattle.std.specs.Prelude.{◌≡◌, ◌≢◌, ◌+◌, ◌*◌, ◌^◌, ◌<◌, ◌≤◌, ◌∷◌, [], true, false, length, take, IfErr, IfNone, IfOk, IfSome, OnOk};
 ghost use Rattle.std.specs.Io.KnownBytes.{Consumes, IsAtEnd};
 ghost use Rattle.bsi_segments.specs.declared.format_version.FormatVersion.{FormatVersion};
-ghost use Rattle.bsi_segments.specs.Segments.{bytes_of, checksum_of, counted, counted_rest, magic, signature, AreWords, IsFirstWordFault, IsRestFault, IsShortWordFault, MayBegin, MeetsFault, ReadsToEnd, ReadsWords, FailsBefore, FailsInFirstWord};
+ghost use Rattle.bsi_segments.specs.Segments.{bytes_of, checksum_of, counted, counted_rest, magic, signature, AreWords, FailsBefore, FailsInFirstWord, IsFirstWordFault, IsRestFault, IsShortWordFault, MayBegin, MeetsFault, ReadsToEnd, ReadsWords};
 
 use crate::checksums::checksum;
 use crate::fault::SegmentFault;

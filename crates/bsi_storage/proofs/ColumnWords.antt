@@ -12,7 +12,7 @@ use Rattle.bsi_shift.specs.Shifted.{shifted_entries, OffsetColumn}
 use Rattle.bsi_rows.specs.Rows.{column_of, feeders_of, FedRow}
 use Rattle.bsi_rows.specs.Table.{AreFrom}
 use Rattle.bsi_table.specs.Bitmaps.{bitmaps_of, entries_bitmaps}
-use Rattle.bsi_table.specs.Encoded.{fed_rows, encoded_at, no_entries, AreEncoded, Encodes}
+use Rattle.bsi_table.specs.Encoded.{encoded_at, fed_rows, no_entries, AreEncoded, Encodes}
 use Rattle.bsi_table.proofs.RowBitmaps.{column_accepted, fed-bitmaps, fed-feeders}
 use Rattle.bsi_segments.specs.Bitmaps.{packed}
 use Rattle.bsi_segments.proofs.Chunks.{same_rest}

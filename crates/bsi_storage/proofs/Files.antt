@@ -7,7 +7,7 @@ use Rattle.std.proofs.lemmas.Grind.{flat_map-append}
 use Rattle.std.proofs.lemmas.List.Elements.{All-append, All-cons, All-nil}
 use Rattle.bsi_rows.specs.Rows.{FedRow}
 use Rattle.bsi_rows.specs.Table.{with_rows, Table}
-use Rattle.bsi_segments.specs.Segments.{bytes_of, counted, AreWords, MeetsFault, FailsBefore}
+use Rattle.bsi_segments.specs.Segments.{bytes_of, counted, AreWords, FailsBefore, MeetsFault}
 use Rattle.bsi_segments.specs.declared.format_version.FormatVersion.{FormatVersion}
 use Rattle.bsi_segments.specs.declared.format_version.FormatVersion.TheVariants.{Two}
 use Rattle.bsi_segments.proofs.ChunkBytes.{only_more}

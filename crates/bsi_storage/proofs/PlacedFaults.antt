@@ -14,7 +14,7 @@ use Rattle.bsi_schema.specs.Columns.{column_at, Declared, NamedColumn}
 use Rattle.bsi_segments.specs.Bitmaps.{packed}
 use Rattle.bsi_segments.specs.Bytes.{packed_bytes}
 use Rattle.bsi_segments.specs.Lanes.{lanes_of}
-use Rattle.bsi_segments.specs.Segments.{bytes_of, counted, AreWords, EndsWithin, MeetsFault, FailsBefore}
+use Rattle.bsi_segments.specs.Segments.{bytes_of, counted, AreWords, EndsWithin, FailsBefore, MeetsFault}
 use Rattle.bsi_segments.specs.declared.fault.SegmentFault.{SegmentFault}
 use Rattle.bsi_segments.specs.declared.fault.SegmentFault.TheVariants.{CutShort, Damaged, NoMemory, NotASegment, OtherVersion, Read}
 use Rattle.bsi_segments.specs.declared.format_version.FormatVersion.{FormatVersion}
@@ -23,7 +23,7 @@ use Rattle.bsi_segments.proofs.Chunks.{length-all, length-packed}
 use Rattle.bsi_segments.proofs.Eights.{length-bytes_of}
 use Rattle.bsi_segments.proofs.Unique.{no_fault}
 use Rattle.bsi_table.specs.Bitmaps.{bitmap_count, bitmaps_of}
-use Rattle.bsi_storage.specs.ChosenColumns.{column_position, feeders_position, feeders_in_head, zone_in_head, BeginsAt, BeginsBy, IsHeadOf}
+use Rattle.bsi_storage.specs.ChosenColumns.{column_position, feeders_in_head, feeders_position, zone_in_head, BeginsAt, BeginsBy, IsHeadOf}
 use Rattle.bsi_storage.specs.Decoding.{bitmaps_in, feeder_word_count}
 use Rattle.bsi_storage.specs.Faults.{open_fault}
 use Rattle.bsi_storage.specs.Heads.{column_head, column_heads, feeder_checksum, head, numbers_of, zone_words}

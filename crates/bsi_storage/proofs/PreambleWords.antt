@@ -12,7 +12,7 @@ use Rattle.bsi_segments.specs.declared.format_version.FormatVersion.{FormatVersi
 use Rattle.bsi_segments.specs.declared.format_version.FormatVersion.TheVariants.{One, Two}
 use Rattle.bsi_segments.proofs.Coding.{behind, same_schema, same_text}
 use Rattle.bsi_storage.specs.Saved.{most_kinds, rows_words, AreRows, MayBeSaved}
-use Rattle.bsi_storage.specs.Decoding.{preamble_words, kinds_words, AreSizes, AreTexts, HasRowsOf}
+use Rattle.bsi_storage.specs.Decoding.{kinds_words, preamble_words, AreSizes, AreTexts, HasRowsOf}
 
 none_left : (text : List ℕ) → length text ≤ 0 → text ≡ []
 none_left [] few = refl

@@ -6,7 +6,7 @@ use Rattle.bsi_segments.specs.declared.format_version.FormatVersion.{FormatVersi
 use Rattle.bsi_segments.specs.declared.format_version.FormatVersion.TheVariants.{One, Two}
 use Rattle.bsi_segments.proofs.Eights.{length-bytes_of}
 use Rattle.bsi_storage.specs.Heads.{head}
-use Rattle.bsi_storage.specs.Saved.{body, segment_with_head, rows_words, segment, table_segment}
+use Rattle.bsi_storage.specs.Saved.{body, rows_words, segment, segment_with_head, table_segment}
 
 -- the words that are counted
 abbrev pub first_words : FormatVersion → Table → List ℕ → List ℕ → List ℕ

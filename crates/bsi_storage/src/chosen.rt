@@ -11,7 +11,7 @@ ghost use Rattle.bsi_segments.specs.Bitmaps.{packed};
 ghost use Rattle.bsi_segments.specs.Lanes.{lanes_of};
 ghost use Rattle.bsi_shift.specs.Shifted.{shifted_entries};
 ghost use Rattle.bsi_storage.specs.Choices.{IsChoice};
-ghost use Rattle.bsi_storage.specs.ChosenColumns.{column_position, feeders_position, feeders_in_head, said_sums, AreChosenColumns, BeginsAt, IsHeadOf, SaysChosen};
+ghost use Rattle.bsi_storage.specs.ChosenColumns.{column_position, feeders_in_head, feeders_position, said_sums, AreChosenColumns, BeginsAt, IsHeadOf, SaysChosen};
 ghost use Rattle.bsi_storage.specs.Decoding.{AreSizes};
 ghost use Rattle.bsi_storage.specs.Heads.{feeder_checksum};
 ghost use Rattle.bsi_storage.specs.Opens.{IsReadOrNoMemory};

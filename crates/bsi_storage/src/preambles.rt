@@ -6,7 +6,7 @@ ghost use Rattle.bsi_schema.specs.Columns.{IsDeclared};
 ghost use Rattle.bsi_rows.specs.Table.{Table};
 ghost use Rattle.bsi_segments.specs.Bytes.{text_words, AreBytes};
 ghost use Rattle.bsi_storage.specs.Saved.{most_kinds, most_notes, MayBeSaved};
-ghost use Rattle.bsi_storage.specs.Decoding.{bitmaps_in, feeder_word_count, preamble_words, kinds_words, rows_word_count, AreSizes, AreTexts};
+ghost use Rattle.bsi_storage.specs.Decoding.{bitmaps_in, feeder_word_count, kinds_words, preamble_words, rows_word_count, AreSizes, AreTexts};
 
 use crate::NoMemory;
 use crate::writing::{MAX_KINDS, MAX_NOTES};

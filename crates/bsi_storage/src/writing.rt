@@ -4,7 +4,7 @@ ghost use Rattle.std.specs.Prelude.{◌≡◌, ◌≤◌, IfErr, OnErr, OnOk, le
 ghost use Rattle.std.specs.Io.KnownBytes.{Appends};
 ghost use Rattle.bsi_table.specs.Index.{table_of};
 ghost use Rattle.bsi_input.specs.BufferedOutput.{AppendsPrefix};
-ghost use Rattle.bsi_storage.specs.Saved.{segment_with_head, max_kinds, max_notes, MayBeSaved};
+ghost use Rattle.bsi_storage.specs.Saved.{max_kinds, max_notes, segment_with_head, MayBeSaved};
 
 use crate::SaveFault;
 use crate::heads::encode_head;

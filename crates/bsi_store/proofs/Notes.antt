@@ -5,7 +5,7 @@ use Rattle.bsi_rows.specs.Table.{Table}
 use Rattle.bsi_segments.specs.declared.format_version.FormatVersion.{FormatVersion}
 use Rattle.bsi_segments.specs.declared.format_version.FormatVersion.TheVariants.{One, Two}
 use Rattle.bsi_storage.specs.Faults.{HasReadTable}
-use Rattle.bsi_storage.specs.Saved.{most_kinds, max_kinds, max_notes, most_notes, IsPartOf, Part}
+use Rattle.bsi_storage.specs.Saved.{max_kinds, max_notes, most_kinds, most_notes, IsPartOf, Part}
 use Rattle.bsi_syntax.specs.Bytes.{KnownBytes}
 
 last_of : (P : Part → Type 0) (before : List Part) (last : Part) → All P (before ++ last ∷ []) → P last

@@ -7,7 +7,7 @@ ghost use Rattle.bsi_answers.specs.Runs.{HasLoaded};
 ghost use Rattle.bsi_logical.specs.TableSchemas.{format_of};
 ghost use Rattle.bsi_rows.specs.Table.{max_feeders, no_rows, with_rows};
 ghost use Rattle.bsi_storage.specs.Faults.{AcceptsRowsOf};
-ghost use Rattle.bsi_storage.specs.Saved.{segment_with_head, max_kinds, max_notes, MayBeSaved};
+ghost use Rattle.bsi_storage.specs.Saved.{max_kinds, max_notes, segment_with_head, MayBeSaved};
 ghost use Rattle.bsi_store.specs.Saving.{HasAdded, HasAddedBeside, IsAddFault, IsMet, IsNotAboutBytes, IsReadOf, IsRunFaultOver, LeavesReported, ReportsOn};
 ghost use Rattle.std.specs.List.{Contains};
 ghost use Rattle.bsi_store.specs.Faults.{IsFileFault, NamesPath};

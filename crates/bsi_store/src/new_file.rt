@@ -3,7 +3,7 @@
 ghost use Rattle.std.specs.Prelude.{◌≡◌, ◌≤◌, [], IfErr, IfOk, OnOk, length};
 ghost use Rattle.std.specs.Io.KnownBytes.{Appends};
 ghost use Rattle.bsi_table.specs.Index.{table_of};
-ghost use Rattle.bsi_storage.specs.Saved.{segment_with_head, max_kinds, MayBeSaved};
+ghost use Rattle.bsi_storage.specs.Saved.{max_kinds, segment_with_head, MayBeSaved};
 ghost use Rattle.bsi_store.specs.Saving.{IsNotAboutBytes};
 ghost use Rattle.bsi_store.specs.Faults.{NamesPath};
 

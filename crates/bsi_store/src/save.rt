@@ -6,7 +6,7 @@ ghost use Rattle.std.specs.List.{Contains};
 ghost use Rattle.bsi_logical.specs.LogicalTexts.{IsLogicalText};
 ghost use Rattle.bsi_logical.specs.SchemaFiles.{DeclaresSchema};
 ghost use Rattle.bsi_rows.specs.Table.{max_feeders};
-ghost use Rattle.bsi_storage.specs.Saved.{segment_with_head, max_kinds, MayBeSaved};
+ghost use Rattle.bsi_storage.specs.Saved.{max_kinds, segment_with_head, MayBeSaved};
 ghost use Rattle.bsi_store.specs.Faults.{NamesPath};
 ghost use Rattle.bsi_store.specs.Saving.{declaration_fault, HasSaved, HasSavedBeside, HasSavedFiles, HasSavedKinds, HasSavedKindsBeside, IsDeclarationFault, IsNotAboutBytes, IsSaveFault, IsSaveFilesFault, IsSaveKindsFault, LeavesReported, ReportsOn, SaysKinds};
 ghost use Rattle.bsi_table.specs.Index.{table_of};

@@ -3,7 +3,7 @@
 ghost use Rattle.std.specs.Prelude.{◌≡◌, ◌≤◌, IfErr, OnOk, length};
 ghost use Rattle.std.specs.Io.KnownBytes.{Appends};
 ghost use Rattle.bsi_segments.specs.declared.format_version.FormatVersion.{FormatVersion};
-ghost use Rattle.bsi_storage.specs.Saved.{segment_with_head, max_kinds, max_notes, MayBeSaved};
+ghost use Rattle.bsi_storage.specs.Saved.{max_kinds, max_notes, segment_with_head, MayBeSaved};
 ghost use Rattle.bsi_store.specs.Faults.{NamesPath};
 ghost use Rattle.bsi_store.specs.Saving.{IsNotAboutBytes};
 ghost use Rattle.bsi_table.specs.Index.{table_of};

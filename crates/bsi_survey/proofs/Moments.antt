@@ -5,7 +5,7 @@ use Rattle.std.specs.Int.{int_div_euclid}
 use Rattle.std.specs.List.{before_first}
 use Rattle.std.proofs.lemmas.Bool.{and_from}
 use Rattle.jiff_core.specs.Calendar.{IsEpochDay}
-use Rattle.bsi_kinds.specs.Clocks.{clock_of, minutes_of, moment_value, moved, scanned_time, seconds_behind, subsecond_behind, two_digits, whole_moment, time_zone_offset, Moment}
+use Rattle.bsi_kinds.specs.Clocks.{clock_of, minutes_of, moment_value, moved, scanned_time, seconds_behind, subsecond_behind, time_zone_offset, two_digits, whole_moment, Moment}
 use Rattle.bsi_kinds.specs.Dates.{date_number}
 use Rattle.bsi_kinds.specs.Decimals.{mantissa_of, scanned, Digits, Represents}
 use Rattle.bsi_kinds.specs.Times.{day_of, from_first, is_clock_sign, is_epoch_day, is_time_zone_sign, moment_behind, moment_of, moment_on, time_i64, time_number, unit_places, units_at, IsTimeNumber, SpellsTime}

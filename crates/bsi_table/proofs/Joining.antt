@@ -14,7 +14,7 @@ use Rattle.bsi_rows.specs.RowBlocks.{HaveSameLimits}
 use Rattle.bsi_rows.specs.Rows.{feeders_of, FedRow}
 use Rattle.bsi_origins.specs.Origins.{OriginList}
 use Rattle.bsi_table.specs.Joined.{feeders_as, rows_as, AreEnough}
-use Rattle.bsi_table.specs.Encoded.{fed_rows, encoded_at, encoded_form, AreAlikeColumns, AreEncoded, HasMore, HaveMore, HaveRows, IsTable}
+use Rattle.bsi_table.specs.Encoded.{encoded_at, encoded_form, fed_rows, AreAlikeColumns, AreEncoded, HasMore, HaveMore, HaveRows, IsTable}
 use Rattle.bsi_rows.specs.Table.{encoded_as, AreFitting, AreFrom, AreEncodedAlike}
 use Rattle.bsi_rows.proofs.CallerLemmas.{fitting-alike}
 use Rattle.bsi_table.proofs.Keeping.{row_in-fits}

@@ -17,7 +17,7 @@ use Rattle.bsi_shift.specs.Shifted.{shifted_entries, OffsetColumn}
 use Rattle.bsi_rows.specs.Rows.{column_of, feeders_of, FedRow}
 use Rattle.bsi_rows.specs.Table.{AreFitting}
 use Rattle.bsi_table.specs.Bitmaps.{bitmaps_of, entries_bitmaps, stored_entry, HaveNoEntries}
-use Rattle.bsi_table.specs.Encoded.{fed_rows, encoded_at, encoded_form, row_in, AreEncoded}
+use Rattle.bsi_table.specs.Encoded.{encoded_at, encoded_form, fed_rows, row_in, AreEncoded}
 use Rattle.bsi_table.proofs.BitmapRows.{entries_back, size_some, stored_below, Accepted}
 use Rattle.bsi_table.proofs.Keeping.{row_in-fits}
 use Rattle.bsi_table.proofs.TableRows.{column-fed_rows, feeders-fed_rows}

@@ -10,7 +10,7 @@ use Rattle.bsi_digits.specs.Orders.{values_at}
 use Rattle.bsi_shift.specs.Shifted.{shifted_entries, OffsetColumn}
 use Rattle.bsi_rows.specs.Rows.{column_of, entry_at, feeders_of, row_at, Entries, FedRow}
 use Rattle.bsi_rows.proofs.BlockRows.{map_twice, same_below}
-use Rattle.bsi_table.specs.Encoded.{fed_rows, encoded_at, no_entries, row_in, rows_in, HaveMore}
+use Rattle.bsi_table.specs.Encoded.{encoded_at, fed_rows, no_entries, row_in, rows_in, HaveMore}
 use Rattle.std.proofs.lemmas.Bool.Decides.{nat_tests}
 
 -- a column as it is read

@@ -2,7 +2,7 @@ use Rattle.std.proofs.Common.{◌≡◌, ◌∷◌, ◌++◌, [], ap, map, rules
 use Rattle.std.specs.Prelude.{Bool, IfOk, Result}
 use Rattle.std.proofs.lemmas.List.{map-append}
 use Rattle.csv.specs.Records.{fields_of}
-use Rattle.bsi_input.specs.RecordSources.{ReadsNextRecord, FailsAt}
+use Rattle.bsi_input.specs.RecordSources.{FailsAt, ReadsNextRecord}
 use Rattle.bsi_answers.proofs.Asking.{only_long}
 use Rattle.bsi_answers.specs.ReadAhead.{ReadsOne}
 use Rattle.bsi_answers.specs.declared.faults.FilesFault.{FilesFault}

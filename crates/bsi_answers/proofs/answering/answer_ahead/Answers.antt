@@ -5,7 +5,7 @@ use Rattle.bsi_rows.specs.Fields.{Field}
 use Rattle.bsi_answers.proofs.Asking.{wrote_all, wrote_none, wrote_part}
 use Rattle.bsi_answers.proofs.Passing.{if_err}
 use Rattle.bsi_answers.specs.AskLines.{IsAskLineBy}
-use Rattle.bsi_answers.specs.ReadAhead.{ReadsAhead, FailsAhead, WritesFirstLines, WritesLines}
+use Rattle.bsi_answers.specs.ReadAhead.{FailsAhead, ReadsAhead, WritesFirstLines, WritesLines}
 use Rattle.bsi_answers.proofs.ReadingAhead.{ahead_prefix, ahead_stands, gave_some}
 use Rattle.bsi_answers.proofs.answering.answer_ahead.Goals as goal
 

@@ -2,7 +2,7 @@ use Rattle.std.proofs.Common.{◌+◌, ◌≤◌, false, true, refl, rules, arit
 use Rattle.csv.specs.Reading.{source_of}
 use Rattle.csv.specs.Records.{fields_of}
 use Rattle.bsi_syntax.specs.Setups.{declared_table, table_after, IsChange}
-use Rattle.bsi_input.specs.RecordSources.{ReadsNextRecord, FailsAt}
+use Rattle.bsi_input.specs.RecordSources.{FailsAt, ReadsNextRecord}
 use Rattle.bsi_input.proofs.Declaring.{declared_bad, declared_fault, declared_more, declared_none, passed_on}
 use Rattle.bsi_input.proofs.schema_text.declare_all.Goals as goal
 use Rattle.bsi_input.specs.Formats.{max_records}

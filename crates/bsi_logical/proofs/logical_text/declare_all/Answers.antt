@@ -1,7 +1,7 @@
 use Rattle.std.proofs.Common.{◌+◌, ◌≤◌, true, subst, sym, rules, arith, ◌∙◌}
 use Rattle.csv.specs.Reading.{source_of}
 use Rattle.csv.specs.Records.{fields_of}
-use Rattle.bsi_input.specs.RecordSources.{ReadsNextRecord, FailsAt}
+use Rattle.bsi_input.specs.RecordSources.{FailsAt, ReadsNextRecord}
 use Rattle.bsi_input.specs.Formats.{max_records}
 use Rattle.bsi_logical.specs.LogicalTexts.{IsLogicalFault}
 use Rattle.bsi_logical.proofs.Saying.{passed_on, said_fault, said_more, said_none, source_fault}

@@ -2,7 +2,7 @@ use Rattle.std.proofs.Common.{◌≡◌, List, ℕ, arith, map, rules, subst, sy
 use Rattle.std.specs.Prelude.{IfErr}
 use Rattle.csv.specs.Records.{fields_of}
 use Rattle.bsi_answers.specs.AskLines.{IsAskLineBy}
-use Rattle.bsi_answers.specs.ReadAhead.{ReadsAhead, FailsAhead, WritesFirstLines, WritesLines}
+use Rattle.bsi_answers.specs.ReadAhead.{FailsAhead, ReadsAhead, WritesFirstLines, WritesLines}
 use Rattle.std.specs.List.{AllZip}
 use Rattle.bsi_answers.specs.Writing.{WritesFirst}
 use Rattle.bsi_answers.proofs.Asking.{wrote_all, wrote_none, wrote_part}

@@ -3,7 +3,7 @@ use Rattle.bsi_table.specs.Index.{table_of}
 use Rattle.bsi_segments.specs.declared.format_version.FormatVersion.TheVariants.{One}
 use Rattle.bsi_storage.specs.Decoding.{preamble_words}
 use Rattle.bsi_storage.specs.Saved.{rows_words}
-use Rattle.bsi_storage.proofs.PreambleWords.{preamble_of_table, preambles, may_be_saved, rows_fit, rows_of_table, rows_words_are}
+use Rattle.bsi_storage.proofs.PreambleWords.{may_be_saved, preamble_of_table, preambles, rows_fit, rows_of_table, rows_words_are}
 use Rattle.bsi_storage.proofs.decoding.decode_body.Goals as goal
 
 pub returns-in_default-clause-none : goal.returns-in_default-clause-none

@@ -9,7 +9,7 @@ use Rattle.bsi_segments.specs.declared.format_version.FormatVersion.TheVariants.
 use Rattle.bsi_storage.specs.Heads.{head, rows_head}
 use Rattle.bsi_storage.specs.Decoding.{preamble_words, AreSizes, AreTexts, HasRowsOf}
 use Rattle.bsi_storage.specs.Saved.{rows_words, MayBeSaved}
-use Rattle.bsi_storage.proofs.PreambleWords.{preamble_of_table, preambles, may_be_saved, rows_fit, rows_of_table, rows_words_are}
+use Rattle.bsi_storage.proofs.PreambleWords.{may_be_saved, preamble_of_table, preambles, rows_fit, rows_of_table, rows_words_are}
 use Rattle.bsi_storage.proofs.OneTable.{content_same}
 use Rattle.bsi_storage.proofs.decoding.decode_headed.Goals as goal
 

@@ -2,7 +2,7 @@ use Rattle.std.proofs.Common.{◌≡◌, ◌+◌, ◌*◌, ◌++◌, [], ℕ, Li
 use Rattle.std.specs.Prelude.{IfErr}
 use Rattle.std.specs.Io.KnownBytes.{Consumes}
 use Rattle.bsi_table.specs.Index.{table_of}
-use Rattle.bsi_segments.specs.Segments.{bytes_of, counted, ReadsWords, FailsBefore}
+use Rattle.bsi_segments.specs.Segments.{bytes_of, counted, FailsBefore, ReadsWords}
 use Rattle.bsi_segments.specs.declared.format_version.FormatVersion.TheVariants.{Two}
 use Rattle.bsi_storage.specs.Decoding.{IsPreamble}
 use Rattle.bsi_storage.specs.Faults.{open_fault, IsAny, IsNextSegmentFault}

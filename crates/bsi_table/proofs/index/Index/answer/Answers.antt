@@ -4,7 +4,7 @@ use Rattle.bsi_shift.specs.Shifted.{shifted_entries}
 use Rattle.bsi_rows.specs.declared.query.Answer.TheVariants.{Count}
 use Rattle.bsi_rows.specs.Answers.{IsTotal}
 use Rattle.bsi_rows.specs.Rows.{holds}
-use Rattle.bsi_table.specs.Encoded.{fed_rows, encoded_at, rows_in}
+use Rattle.bsi_table.specs.Encoded.{encoded_at, fed_rows, rows_in}
 use Rattle.std.proofs.lemmas.List.{length-map}
 use Rattle.std.proofs.lemmas.Result.{IfOk-weaker}
 use Rattle.bsi_table.specs.Totals.{IsTotalAt}

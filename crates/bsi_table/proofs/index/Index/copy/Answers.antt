@@ -3,7 +3,7 @@ use Rattle.bsi_shift.specs.Shifted.{OffsetColumn}
 use Rattle.bsi_schema.specs.Columns.{Declared}
 use Rattle.bsi_rows.specs.Rows.{FedRow}
 use Rattle.bsi_table.specs.Index.{table_of}
-use Rattle.bsi_table.specs.Encoded.{fed_rows, encoded_at, IsSameColumn, IsTable}
+use Rattle.bsi_table.specs.Encoded.{encoded_at, fed_rows, IsSameColumn, IsTable}
 use Rattle.bsi_rows.specs.Table.{Table}
 use Rattle.bsi_table.proofs.Keeping.{are_encoded_same}
 use Rattle.bsi_table.proofs.TableRows.{fed_rows-same}
