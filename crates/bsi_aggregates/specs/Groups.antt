@@ -1,4 +1,5 @@
--- Groups of selected rows by their entries in several columns, and the reply to a query for them.
+-- Groups of selected rows by their entries in several columns (`AreGroups`), and why rows are not grouped
+-- (`IsRefusedOver`), or a query for groups is refused (`IsGroupRefusal`).
 use Rattle.std.specs.Prelude.{◌≡◌, ◌<◌, ◌++◌, ◌∷◌, ◌||◌, ◌&&◌, [], ℕ, ℤ, Bool, false, List, Option, Some, None, All, Contains, IsTrue, drop, length, map, take}
 use Rattle.std.specs.List.{items_where_true, AllPairs}
 use Rattle.bsi_schema.specs.Columns.{entry_at, Declared}

@@ -1,4 +1,5 @@
-//! Counts the different numbers that a column has at the rows that a predicate selects (`distinct`).
+//! Counts the different numbers that a column has at the rows that a predicate selects (`distinct`), and tests whether
+//! selected rows have more than so many (`has_more_numbers`).
 
 ghost use Rattle.std.specs.Prelude.{◌≡◌, ◌++◌, ◌<◌, ◌^◌, All, Contains, int_lt, length, nat_lt, IfOk, IsTrue, OnOk};
 ghost use Rattle.std.specs.List.{items_where_true, AllPairs};

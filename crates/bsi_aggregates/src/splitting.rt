@@ -1,4 +1,5 @@
-//! Splits off a selection the rows that have its first entry in a column (`split_off_rows`).
+//! Finds the first entry of selected rows in a column (`first_entry`), and splits the rows of an entry off a selection
+//! (`split_off_rows`).
 
 ghost use Rattle.std.specs.Prelude.{◌≡◌, ◌&&◌, length, map, IfOk, OnOk};
 ghost use Rattle.std.specs.List.{items_where_true};

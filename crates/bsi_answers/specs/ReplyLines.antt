@@ -1,5 +1,5 @@
--- The line of each kind of reply: totals, groups, first rows, numbers; of whole numbers (`question_reply_line`), and by
--- the notation of each column (`IsReplyLine`).
+-- The line of each kind of reply, of whole numbers (`question_reply_line`) or by the notation of each column
+-- (`IsReplyLine`); a question's columns (`asked_column`), and that a reply's rows are of a table (`HasRowsWithin`).
 use Rattle.std.specs.Prelude.{◌≡◌, ◌<◌, ⊤, ℕ, ℤ, All, List, [], ◌∷◌, ◌++◌, Option, Some, None, Result, Ok, Err, codes, decimal, drop, slice_index}
 use Rattle.std.specs.Fmt.{signed_decimal}
 use Rattle.std.specs.List.{concat, flat_map, AllZip}

@@ -1,5 +1,5 @@
--- The lines of a run over row files, by the bytes of its files (`IsRun`): one for each file, and an answer to each
--- question.
+-- What a load of row files leaves (`HasLoaded`), and the lines of a run over them, by the bytes of its files (`IsRun`):
+-- one for each file, and an answer to each question.
 use Rattle.std.specs.Prelude.{◌≡◌, ◌≤◌, ℕ, suc, List, [], ◌∷◌, ◌++◌, length, map}
 use Rattle.bsi_syntax.specs.Bytes.{Bytes}
 use Rattle.bsi_syntax.specs.Lines.{fed_line}

@@ -1,4 +1,5 @@
--- What a contract sees of `Bitmaps`, bit vectors of one length: the bits of each, and the room that all of them have.
+-- What a contract sees of `Bitmaps` (`BitLists`): bit vectors that grow together (`AreEven`), the bits and the room of
+-- each, and that vectors have the bits of others (`AreSame`).
 use Rattle.std.specs.Prelude.{◌≡◌, ℕ, ◌+◌, ◌<◌, ◌≤◌, Bool, List, [], length, slice_index_or}
 use Rattle.bsi_bits.specs.BitList.{max_len, BitList}
 

@@ -1,4 +1,5 @@
--- Bits that are packed into words of 64 (`IsPacked`): which bits the words have, and for how many more there is room.
+-- Bits that are packed into words of 64 (`IsPacked`): which bits the words have, which positions of them are set
+-- (`positions_from`), and for how many more bits there is room.
 use Rattle.std.specs.Prelude.{◌≡◌, ℕ, ◌-◌, ◌*◌, ◌/◌, ◌%◌, ◌^◌, ◌≤◌, ◌==◌, Bool, false, List, length, map, filter, min, slice_index}
 use Rattle.std.specs.Int.{bit_at}
 use Rattle.std.specs.List.{range_with_len}

@@ -1,4 +1,5 @@
-//! The trait of an encoding by bitmaps (`Marking`): which digits have a bitmap, and which rows such a bitmap has.
+//! The trait of an encoding by bitmaps (`Marking`): which digits have a bitmap, which bitmaps have the rows of a digit
+//! or a block of digits, and how a bitmap is made from the digits' binary places.
 
 ghost use Rattle.std.specs.Prelude.{◌≡◌, ℕ, ◌+◌, ◌-◌, ◌<◌, ◌≤◌, ◌^◌, ◌&&◌, Bool, length, map, nat_le, nat_lt, slice_index, IfOk};
 ghost use Rattle.bsi_bits.specs.BitList.{max_block};

@@ -1,4 +1,5 @@
--- Bytes that are read from any offset: which words stand there (`StandAt`), and why no bitmap does (`IsNoBitmap`).
+-- Bytes that are read from any offset (`ReadsFrom`): which words stand there (`StandAt`), and why a bitmap does not
+-- (`IsNoBitmap`), or not all of several do (`AreNoBitmaps`).
 use Rattle.std.specs.Prelude.{◌≡◌, ℕ, ◌+◌, ◌*◌, ◌<◌, ◌⊎◌, Bool, List, Result, length, drop, slice_index, take, IfOk, IfSome}
 use Rattle.std.specs.Option.{option_map}
 use Rattle.std.specs.Io.KnownBytes.{Consumes, IsAtEnd}

@@ -1,4 +1,5 @@
--- What `bsi save` and `bsi add` write to the index file and report (`HasSaved`, `HasAdded`), and their faults.
+-- What `bsi save` and `bsi add` read and write (`IsReadOf`, `HasSaved`, `HasAdded`), their faults (`IsSaveFault`,
+-- `IsAddFault`), and what a fault leaves of their report (`LeavesReported`).
 use Rattle.std.specs.Borrow.{Bor}
 use Rattle.std.specs.Prelude.{◌≡◌, ◌≢◌, ◌⊎◌, ◌+◌, ◌-◌, ◌^◌, ◌<◌, ◌≤◌, ◌++◌, ℕ, Bool, false, true, List, [], Some, IfSome, codes, length, map, min}
 use Rattle.std.specs.Io.KnownBytes.{Appends}

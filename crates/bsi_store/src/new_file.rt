@@ -1,4 +1,5 @@
-//! A new file beside the one that it replaces, so that a crash leaves the one or the other.
+//! A new file beside the one that it replaces, so that a crash leaves the one or the other (`NewFile`): it is created,
+//! written, and put in the other's place or removed.
 
 ghost use Rattle.std.specs.Prelude.{◌≡◌, ◌≤◌, [], IfErr, IfOk, OnOk, length};
 ghost use Rattle.std.specs.Io.KnownBytes.{Appends};

@@ -1,5 +1,5 @@
-//! Tests of feeders that read row files, on systems of their own. A test tolerates one refused allocation, and then
-//! makes a further system.
+//! Tests of feeders of row files, on systems of their own: two side by side, a reader that breaks, a gate that stops a
+//! feeder, a row that does not fit. A test tolerates one refused allocation, and then makes a further system.
 
 ghost use Rattle.std.specs.Prelude.{◌≡◌, [], IfSome, length};
 ghost use Rattle.bsi_rows.specs.Table.{no_rows};
