@@ -24,7 +24,7 @@ use Rattle.bsi_bits.specs.Packed.{bit_of}
 use Rattle.bsi_digits.specs.Blocks.{value_entry}
 use Rattle.bsi_digits.specs.Orders.{values_at}
 use Rattle.bsi_aggregates.specs.Entries.{is_entry}
-use Rattle.bsi_aggregates.specs.Replies.{block_numbers}
+use Rattle.bsi_aggregates.specs.ColumnReplies.{block_numbers}
 use Rattle.bsi_aggregates.proofs.Order.{entry_is}
 use Rattle.bsi_shift.proofs.ColumnComparisons.{and_bit, word_bit}
 

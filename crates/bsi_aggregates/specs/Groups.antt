@@ -11,7 +11,7 @@ use Rattle.bsi_rows.specs.declared.query.Total.{Total}
 use Rattle.bsi_table.specs.Totals.{IsTotalAt}
 use Rattle.bsi_aggregates.specs.ColumnGroups.{rows_with_entry}
 use Rattle.bsi_aggregates.specs.Entries.{comes_before, is_entry}
-use Rattle.bsi_aggregates.specs.Replies.{selection_of}
+use Rattle.bsi_aggregates.specs.ColumnReplies.{selection_of}
 use Rattle.bsi_aggregates.specs.declared.column_groups.ColumnGroup.{ColumnGroup}
 use Rattle.bsi_aggregates.specs.declared.grouping.GroupError.{GroupError}
 use Rattle.bsi_aggregates.specs.declared.grouping.GroupError.TheVariants.{BadColumn, TooMany, NoMemory}

@@ -1,8 +1,8 @@
 pub mod ColumnGroups
+pub mod ColumnReplies
 pub mod Entries
 pub mod Groups
 pub mod Quantiles
 pub mod QuestionReplies
-pub mod Replies
 pub mod Tallies
 pub mod Tops

@@ -18,7 +18,7 @@ use Rattle.bsi_rows.specs.declared.question.Question.{Question}
 use Rattle.bsi_rows.specs.declared.question.Question.TheVariants as question
 use Rattle.bsi_aggregates.specs.Groups.{missing_grouped, selected_by, AreGroups, GroupList, IsGroupRefusal}
 use Rattle.bsi_aggregates.specs.Quantiles.{IsQuantileOf}
-use Rattle.bsi_aggregates.specs.Replies.{selected_numbers, selection_of, IsReplyOn}
+use Rattle.bsi_aggregates.specs.ColumnReplies.{selected_numbers, selection_of, IsReplyOn}
 use Rattle.bsi_aggregates.specs.Tops.{AreTop}
 use Rattle.bsi_aggregates.specs.declared.answering.QuestionReply.{QuestionReply}
 use Rattle.bsi_aggregates.specs.declared.answering.QuestionReply.TheVariants as reply

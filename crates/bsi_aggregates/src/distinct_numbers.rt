@@ -9,7 +9,7 @@ ghost use Rattle.bsi_bits.specs.BitList.{max_block};
 ghost use Rattle.bsi_digits.specs.Orders.{values_at};
 ghost use Rattle.bsi_shift.specs.Shifted.{shifted_entries};
 ghost use Rattle.bsi_aggregates.specs.ColumnGroups.{AreMoreEntries};
-ghost use Rattle.bsi_aggregates.specs.Replies.{block_numbers, selected_numbers, IsReplyOn};
+ghost use Rattle.bsi_aggregates.specs.ColumnReplies.{block_numbers, selected_numbers, IsReplyOn};
 
 use crate::selecting::select_for;
 use crate::splitting::split_off_rows;

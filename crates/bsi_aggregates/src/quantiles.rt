@@ -4,7 +4,7 @@ ghost use Rattle.std.specs.Prelude.{◌≡◌, length, IfOk};
 ghost use Rattle.bsi_digits.specs.Orders.{values_at};
 ghost use Rattle.bsi_shift.specs.Shifted.{shifted_entries};
 ghost use Rattle.bsi_aggregates.specs.Quantiles.{IsQuantileOf};
-ghost use Rattle.bsi_aggregates.specs.Replies.{selected_numbers, IsReplyOn};
+ghost use Rattle.bsi_aggregates.specs.ColumnReplies.{selected_numbers, IsReplyOn};
 
 use crate::selecting::select_for;
 use bsi_bits::Bits;

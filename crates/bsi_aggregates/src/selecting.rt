@@ -1,7 +1,7 @@
 //! The rows that a predicate selects, for a call that reads a column of them.
 
 ghost use Rattle.std.specs.Prelude.{◌≡◌};
-ghost use Rattle.bsi_aggregates.specs.Replies.{selection_of, IsReplyOn};
+ghost use Rattle.bsi_aggregates.specs.ColumnReplies.{selection_of, IsReplyOn};
 
 use bsi_bits::Bits;
 use bsi_table::{AskError, Index, Pred};

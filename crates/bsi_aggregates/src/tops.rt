@@ -6,7 +6,7 @@ ghost use Rattle.std.specs.Ordering.{is_lt};
 ghost use Rattle.bsi_bits.specs.BitList.{set_positions};
 ghost use Rattle.bsi_rows.specs.Rows.{column_of};
 ghost use Rattle.bsi_shift.specs.Shifted.{shifted_entries};
-ghost use Rattle.bsi_aggregates.specs.Replies.{selection_of, IsReplyOn};
+ghost use Rattle.bsi_aggregates.specs.ColumnReplies.{selection_of, IsReplyOn};
 ghost use Rattle.bsi_aggregates.specs.Tops.{compared, is_ahead, op_beyond, rows_at, AreFirst, AreTop, HaveNumbers, IsBoundRank, IsReadBlock};
 
 use crate::selecting::select_for;

@@ -1,5 +1,5 @@
 pub mod Adders
 pub mod BitList
 pub mod BitLists
-pub mod SetRows
 pub mod Packed
+pub mod SetRows

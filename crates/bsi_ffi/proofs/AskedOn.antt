@@ -1,7 +1,7 @@
 -- A predicate and a column that were read are there, so that a call on them is refused for memory alone.
 use Rattle.std.proofs.Common.{◌≡◌, ℕ, [], ◌∷◌, List, Option, None, Err, length, codes, refl, subst, sym, ◌∙◌}
 use Rattle.std.specs.Prelude.{MatchOption}
-use Rattle.bsi_aggregates.specs.Replies.{missing_on, IsReplyOn}
+use Rattle.bsi_aggregates.specs.ColumnReplies.{missing_on, IsReplyOn}
 use Rattle.bsi_syntax.proofs.Ranked.{question_is_there}
 use Rattle.bsi_syntax.proofs.Spelling.{not_missing}
 use Rattle.bsi_rows.specs.Fields.{Field}

@@ -4,7 +4,7 @@ use Rattle.std.specs.Prelude.{◌≡◌, ℕ, ◌+◌, ◌*◌, ◌%◌, ◌<◌
 use Rattle.std.specs.Int.{cast_unsigned, w128}
 use Rattle.bsi_bits.specs.BitList.{word_count}
 use Rattle.bsi_bits.specs.Packed.{bit_of, end_of_u64}
-use Rattle.bsi_aggregates.specs.Replies.{selection_of}
+use Rattle.bsi_aggregates.specs.ColumnReplies.{selection_of}
 use Rattle.bsi_syntax.specs.Bytes.{Bytes, KnownBytes}
 use Rattle.bsi_rows.specs.Fields.{Field}
 use Rattle.bsi_syntax.specs.Predicates.{IsPredicate}

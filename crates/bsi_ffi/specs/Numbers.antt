@@ -5,7 +5,7 @@ use Rattle.std.specs.Ordering.{int_eq}
 use Rattle.std.specs.Set.{distinct_count}
 use Rattle.bsi_aggregates.specs.Quantiles.{IsQuantileOf}
 use Rattle.bsi_rows.specs.Shares.{share_of, Share}
-use Rattle.bsi_aggregates.specs.Replies.{selected_numbers, AreRanked}
+use Rattle.bsi_aggregates.specs.ColumnReplies.{selected_numbers, AreRanked}
 use Rattle.bsi_rows.specs.Fields.{Field}
 use Rattle.bsi_syntax.specs.Predicates.{IsPredicate}
 use Rattle.bsi_syntax.specs.Vocabularies.{schema_vocabulary}

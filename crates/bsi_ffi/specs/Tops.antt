@@ -1,7 +1,7 @@
 -- What the call `first_rows` writes for C: the selected rows with the least or greatest numbers of a column.
 use Rattle.std.specs.Prelude.{◌≡◌, ℕ, Bool, true, false, List, Option, Ok, Err, length, take}
 use Rattle.std.specs.List.{AllZip}
-use Rattle.bsi_aggregates.specs.Replies.{selection_of}
+use Rattle.bsi_aggregates.specs.ColumnReplies.{selection_of}
 use Rattle.bsi_aggregates.specs.Tops.{AreTop}
 use Rattle.bsi_digits.specs.declared.extreme.Extreme.{Extreme}
 use Rattle.bsi_digits.specs.declared.extreme.Extreme.TheVariants.{Greatest, Least}

@@ -1,7 +1,7 @@
 pub use Rattle.bsi_columns.specs.Decomposed
 pub use Rattle.bsi_aggregates.specs.Groups
 pub use Rattle.bsi_aggregates.specs.QuestionReplies
-pub use Rattle.bsi_aggregates.specs.Replies as ColumnReplies
+pub use Rattle.bsi_aggregates.specs.ColumnReplies
 pub use Rattle.bsi_aggregates.specs.Tops
 pub use Rattle.bsi_load.specs.Runs
 pub use Rattle.bsi_load.specs.Shown

@@ -33,7 +33,7 @@ use Rattle.bsi_aggregates.specs.Entries.{rows_having}
 use Rattle.bsi_aggregates.specs.Groups.{keys_of, missing_grouped, row_key, rows_with, selected_by, selected_keys, AreGroups, AreMore, Grouped, GroupList}
 use Rattle.bsi_aggregates.specs.Quantiles.{IsQuantileOf}
 use Rattle.bsi_aggregates.specs.QuestionReplies.{max_groups, IsArrangedAnswer, IsArrangedReply, IsGroupReply, IsQuestionReply}
-use Rattle.bsi_aggregates.specs.Replies.{missing_on, selected_numbers, selection_of, IsReplyOn}
+use Rattle.bsi_aggregates.specs.ColumnReplies.{missing_on, selected_numbers, selection_of, IsReplyOn}
 use Rattle.bsi_aggregates.specs.Tops.{AreTop}
 use Rattle.bsi_aggregates.specs.declared.answering.QuestionReply.{QuestionReply}
 use Rattle.bsi_aggregates.specs.declared.answering.QuestionReply.TheVariants as reply

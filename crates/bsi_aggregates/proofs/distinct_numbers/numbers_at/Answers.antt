@@ -1,7 +1,7 @@
 use Rattle.std.proofs.Common.{◌++◌, get_or, ap, sym, ◌∙◌}
 use Rattle.std.specs.Prelude.{bit_and}
 use Rattle.bsi_shift.specs.Shifted.{shifted_entries}
-use Rattle.bsi_aggregates.specs.Replies.{block_numbers}
+use Rattle.bsi_aggregates.specs.ColumnReplies.{block_numbers}
 use Rattle.bsi_aggregates.proofs.DistinctNumbers.{block_read, no_row_read}
 use Rattle.bsi_aggregates.proofs.distinct_numbers.numbers_at.Goals.{else-rows-ne0, then-rows-ne0+in_ok-push_block}
 use Rattle.bsi_aggregates.proofs.distinct_numbers.numbers_at.Goals as goal

@@ -3,7 +3,7 @@ use Rattle.std.specs.Prelude.{◌==◌}
 use Rattle.std.proofs.lemmas.Int.{to_z-of_z}
 use Rattle.std.proofs.lemmas.List.{append-nil, append_assoc}
 use Rattle.std.proofs.lemmas.Nat.Bits.{shr_and_one}
-use Rattle.bsi_aggregates.specs.Replies.{block_numbers}
+use Rattle.bsi_aggregates.specs.ColumnReplies.{block_numbers}
 use Rattle.bsi_aggregates.proofs.DistinctNumbers.{no_numbers, with_number, without_number}
 use Rattle.bsi_aggregates.proofs.Tallied.{not_one}
 use Rattle.bsi_aggregates.proofs.distinct_numbers.push_block.Goals.{else-rows-r-eq1, then-rows-r-eq1+in_ok-push}

@@ -1,5 +1,5 @@
 use Rattle.std.proofs.Common.{◌≡◌, ◌++◌}
-use Rattle.bsi_aggregates.specs.Replies.{block_numbers}
+use Rattle.bsi_aggregates.specs.ColumnReplies.{block_numbers}
 use Rattle.bsi_aggregates.proofs.distinct_numbers.push_block.Given as goal
 
 -- the numbers at the places so far are appended

@@ -1,7 +1,7 @@
 use Rattle.std.proofs.Common.{length, ap, ap₂, sym, subst, ◌∙◌}
 use Rattle.std.proofs.lemmas.List.{length-map}
 use Rattle.bsi_digits.specs.Orders.{values_at}
-use Rattle.bsi_aggregates.specs.Replies.{AreRanked}
+use Rattle.bsi_aggregates.specs.ColumnReplies.{AreRanked}
 use Rattle.bsi_aggregates.proofs.ranking.ranks.Goals as goal
 
 pub ranks_at-requires : goal.ranks_at-requires

@@ -2,7 +2,7 @@ use Rattle.std.proofs.Common.{◌≡◌, ℕ, Err, List, map, subst, sym}
 use Rattle.std.specs.Ordering.{int_eq}
 use Rattle.std.specs.Set.{distinct_count}
 use Rattle.bsi_rows.specs.Table.{Table}
-use Rattle.bsi_aggregates.specs.Replies.{selected_numbers, IsReplyOn}
+use Rattle.bsi_aggregates.specs.ColumnReplies.{selected_numbers, IsReplyOn}
 use Rattle.bsi_ffi.specs.Numbers.{IsUnasked}
 use Rattle.bsi_ffi.proofs.AskedOn.{for_memory}
 use Rattle.bsi_ffi.proofs.numbers.reply_distinct.Goals as goal

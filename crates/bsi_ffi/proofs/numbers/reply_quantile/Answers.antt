@@ -1,7 +1,7 @@
 use Rattle.std.proofs.Common.{◌≡◌, ℕ, Err, List, map, subst, sym}
 use Rattle.bsi_rows.specs.Table.{Table}
 use Rattle.bsi_aggregates.specs.Quantiles.{IsQuantileOf}
-use Rattle.bsi_aggregates.specs.Replies.{selected_numbers, IsReplyOn}
+use Rattle.bsi_aggregates.specs.ColumnReplies.{selected_numbers, IsReplyOn}
 use Rattle.bsi_ffi.specs.Numbers.{HasQuantile}
 use Rattle.bsi_ffi.proofs.AskedOn.{for_memory}
 use Rattle.bsi_ffi.proofs.numbers.reply_quantile.Goals as goal

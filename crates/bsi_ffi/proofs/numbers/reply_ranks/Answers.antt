@@ -1,6 +1,6 @@
 use Rattle.std.proofs.Common.{◌≡◌, ℕ, ℤ, Err, Global, List, Option, Vec, map, subst, sym}
 use Rattle.bsi_rows.specs.Table.{Table}
-use Rattle.bsi_aggregates.specs.Replies.{selected_numbers, AreRanked, IsReplyOn}
+use Rattle.bsi_aggregates.specs.ColumnReplies.{selected_numbers, AreRanked, IsReplyOn}
 use Rattle.bsi_ffi.specs.Numbers.{AreRankedBy}
 use Rattle.bsi_ffi.proofs.AskedOn.{for_memory}
 use Rattle.bsi_ffi.proofs.numbers.reply_ranks.Goals as goal

@@ -1,7 +1,7 @@
 use Rattle.std.proofs.Common.{◌≡◌, ℕ, Err, Global, List, Vec, length, map, subst, sym, take, ◌∙◌}
 use Rattle.std.specs.List.{AllZip}
 use Rattle.bsi_rows.specs.Table.{Table}
-use Rattle.bsi_aggregates.specs.Replies.{IsReplyOn}
+use Rattle.bsi_aggregates.specs.ColumnReplies.{IsReplyOn}
 use Rattle.bsi_aggregates.specs.Tops.{AreTop}
 use Rattle.bsi_aggregates.specs.declared.tops.TopRow.{TopRow}
 use Rattle.bsi_rows.specs.Rows.{column_of, holds, row_entries}
