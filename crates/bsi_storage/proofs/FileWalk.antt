@@ -61,7 +61,7 @@ one_of : {X : Type 0} (P : X → Type 0) (xs : List X) (y : X) (ys : List X) →
 one_of P xs y ys all =
     subst P (get_or-append_seam xs y ys y) (all (length xs) y (omega (arith, length-append xs (y ∷ ys))))
 
--- ---- places
+-- ---- positions
 
 -- the words of the rows end where the segment does
 pub behind_rows : (known : KnownBytes) (at : ℕ) (t : Table) (notes kinds : List ℕ) → BeginsAt known at t notes kinds → (first : SegmentHead) → IsHeadOf first at t notes kinds
@@ -78,7 +78,7 @@ stands_behind (Some bytes) at front rest is =
 
 -- ---- the walk
 
--- The heads are those of the first segments of a file, and the others stand from a place on.
+-- The heads are those of the first segments of a file, and the others stand from a position on.
 pub record HasWalked (known : KnownBytes) (t : Table) (notes kinds : List ℕ) (keeps : KeepsTable known t notes kinds) (heads : List SegmentHead) (at : ℕ) : Type 0 where
   pub done : List Part
   pub left : List Part
@@ -97,7 +97,7 @@ module _ (known : KnownBytes) (t : Table) (notes kinds : List ℕ) (keeps : Keep
   }
 
   module _ (heads : List SegmentHead) (at : ℕ) (walked : HasWalked known t notes kinds keeps heads at) where
-    -- The next segment begins at the place.
+    -- The next segment begins at the position.
     pub record HasNext : Type 0 where
       pub p : Part
       pub ps : List Part
@@ -196,7 +196,7 @@ module _ (known : KnownBytes) (heads : List SegmentHead) (t : Table) (notes kind
   pub some_heads : length heads ≡ 0 → ⊥
   some_heads none = omega (arith, none, heads_long, length-append are.keeps.file.before (are.keeps.file.last ∷ []))
 
-  -- the head of a place
+  -- the head at a position
   pub head_at : (k : ℕ) (d : SegmentHead) → k < length heads → IsHeadAt known t kinds (get_or heads k d) (get_or (parts_in are.keeps) k are.keeps.file.last)
   head_at k d within = zip-at (IsHeadAt known t kinds) heads (parts_in are.keeps) k d are.keeps.file.last are.each within
 

@@ -78,7 +78,7 @@ module _ (known : KnownBytes) (first : SegmentHead) (chosen : List ℕ) (old new
     sums = λ k within. (of_each (encodes, stands, sums) k within).2;
   }
 
--- ---- what stands at a place
+-- ---- what stands at a position
 
 pub some-of : (x y : List ℕ) → Some x ≡ Some y → x ≡ y
 some-of x y same = cc

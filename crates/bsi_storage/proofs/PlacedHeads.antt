@@ -1,4 +1,4 @@
--- The head that stands at a place is that of the table whose segment begins there.
+-- The head that stands at a position is that of the table whose segment begins there.
 use Rattle.std.proofs.Common.{◌≡◌, ℕ, List, [], ◌++◌, Some, ap, subst, ◌∙◌}
 use Rattle.std.specs.Io.KnownBytes.{Consumes}
 use Rattle.bsi_pread.specs.Offsets.{known_from}

@@ -12,7 +12,7 @@ last_of : (P : Part → Type 0) (before : List Part) (last : Part) → All P (be
 last_of P [] last all = all 0 last (omega arith)
 last_of P (p ∷ before) last all = last_of P before last (λ k d lt. all (suc k) d (omega (arith, lt)))
 
--- no version has place for more
+-- no version has room for more
 at_most : (version : FormatVersion) → (most_notes version ≤ max_notes) × (most_kinds version ≤ max_kinds)
 at_most One = (omega arith, omega arith)
 at_most Two = (omega arith, omega arith)
