@@ -4,7 +4,7 @@ use Rattle.std.specs.Prelude.{count_by}
 use Rattle.std.specs.List.{items_where_true}
 use Rattle.std.proofs.lemmas.List.{length-map}
 use Rattle.std.proofs.lemmas.List.Elements.{All-cons, All-get_or, All-map, All-nil, All-weaker, Contains-get_or, Contains-push}
-use Rattle.bsi_rows.specs.Rows.{FedRow}
+use Rattle.bsi_rows.specs.Rows.{SourcedRow}
 use Rattle.bsi_rows.specs.declared.query.Answer.{Answer}
 use Rattle.bsi_rows.specs.declared.query.Total.{Total}
 use Rattle.bsi_table.specs.Totals.{IsTotalAt}
@@ -12,7 +12,7 @@ use Rattle.bsi_aggregates.specs.Groups.{row_key, rows_with, selected_keys, AreGr
 use Rattle.bsi_aggregates.proofs.FirstEntries.{entries_counted}
 use Rattle.bsi_aggregates.proofs.SplitRows.{found_map}
 
-module _ (total : Total) (selection : List Bool) (rows : List FedRow) (same : length selection ≡ length rows) where
+module _ (total : Total) (selection : List Bool) (rows : List SourcedRow) (same : length selection ≡ length rows) where
   keys : List (List (Option ℤ))
   keys = selected_keys selection [] rows
 

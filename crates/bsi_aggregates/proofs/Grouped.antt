@@ -6,7 +6,7 @@ use Rattle.std.specs.Simd.Lanes.{zip2}
 use Rattle.std.proofs.lemmas.List.{length-map, map-append}
 use Rattle.std.proofs.lemmas.List.Elements.{All-nil, All-push}
 use Rattle.bsi_bits.specs.BitList.{without}
-use Rattle.bsi_rows.specs.Rows.{column_of, FedRow}
+use Rattle.bsi_rows.specs.Rows.{column_of, SourcedRow}
 use Rattle.bsi_rows.specs.declared.query.Answer.{Answer}
 use Rattle.bsi_rows.specs.declared.query.Total.{Total}
 use Rattle.bsi_table.specs.Totals.{IsTotalAt}
@@ -16,12 +16,12 @@ use Rattle.bsi_aggregates.specs.declared.column_groups.ColumnGroup.{ColumnGroup}
 use Rattle.bsi_aggregates.proofs.Order.{comes_after}
 use Rattle.bsi_aggregates.proofs.Remaining.{all_left, all_taken, entries_passing, first_after, none_taken, nothing_taken, one_taken, passing, rows_left, AreTaken}
 
-pub record AreMade (total : Total) (selection : List Bool) (by : ℕ) (rows : List FedRow) (groups : List ColumnGroup) (rest : List Bool) : Type 0 where
+pub record AreMade (total : Total) (selection : List Bool) (by : ℕ) (rows : List SourcedRow) (groups : List ColumnGroup) (rest : List Bool) : Type 0 where
   pub rest_is : rest ≡ passing (comes_after (column_keys_of groups)) (column_of rows by) selection
   pub split_off : AreTaken (selected_entries selection by rows) (column_keys_of groups)
   pub answers : All (λ group. IsTotalAt total (rows_with_entry selection by rows group.entry) rows group.answer) groups
 
-module _ (total : Total) (selection : List Bool) (by : ℕ) (rows : List FedRow) where
+module _ (total : Total) (selection : List Bool) (by : ℕ) (rows : List SourcedRow) where
   pub none_made : length (column_of rows by) ≡ length selection → AreMade total selection by rows [] selection
   none_made same = record {
     rest_is = none_taken (column_of rows by) selection same;

@@ -7,7 +7,7 @@ use Rattle.std.proofs.lemmas.List.{append-nil, length-map, map-append}
 use Rattle.std.proofs.lemmas.List.Elements.{All-append, All-contains, All-contains_itself, All-filter, All-weaker, Contains-append_left, Contains-append_right, filter_passes}
 use Rattle.std.proofs.lemmas.List.Quantifiers.{all_pairs_push}
 use Rattle.std.proofs.lemmas.List.Sums.{AllPass-from_list_all}
-use Rattle.bsi_rows.specs.Rows.{column_of, FedRow}
+use Rattle.bsi_rows.specs.Rows.{column_of, SourcedRow}
 use Rattle.bsi_rows.specs.declared.query.Total.{Total}
 use Rattle.bsi_table.specs.Totals.{IsTotalAt}
 use Rattle.bsi_aggregates.specs.Entries.{comes_before, is_entry}
@@ -29,7 +29,7 @@ rise_on keys (x ∷ others) rise later after =
     (λ i j d before within. later (suc i) (suc j) d (omega arith) (omega arith))
     (λ j d within. after_more keys x (get_or others j d) ∙ ap₂ ◌&&◌ (after (suc j) d (omega arith)) (later 0 (suc j) d (omega arith) (omega arith))))
 
-module _ (total : Total) (selection : List Bool) (by : ℕ) (rows : List FedRow) (groups : List ColumnGroup) (rest : List Bool) (made : AreMade total selection by rows groups rest) where
+module _ (total : Total) (selection : List Bool) (by : ℕ) (rows : List SourcedRow) (groups : List ColumnGroup) (rest : List Bool) (made : AreMade total selection by rows groups rest) where
   -- what is left comes after the groups that were split off
   all_after : All (λ x. comes_after (column_keys_of groups) x ≡ true) (selected_entries rest by rows)
   all_after = subst (All (λ x. comes_after (column_keys_of groups) x ≡ true)) (sym (left total selection by rows groups rest made)) (filter_passes (comes_after (column_keys_of groups)) (selected_entries selection by rows))

@@ -7,7 +7,7 @@ use Rattle.std.proofs.lemmas.List.{length-map, map-append}
 use Rattle.std.proofs.lemmas.Simd.{map-map}
 use Rattle.std.proofs.lemmas.List.Elements.{All-append, All-contains, All-contains_itself, All-filter, All-map, All-nil, All-push, All-weaker, Contains-append_left, Contains-append_right, Contains-push, Contains-push_cases}
 use Rattle.bsi_bits.specs.BitList.{without}
-use Rattle.bsi_rows.specs.Rows.{column_of, FedRow}
+use Rattle.bsi_rows.specs.Rows.{column_of, SourcedRow}
 use Rattle.bsi_rows.specs.declared.query.Total.{Total}
 use Rattle.bsi_table.specs.Totals.{IsTotalAt}
 use Rattle.bsi_aggregates.specs.Entries.{comes_before, is_entry, IsFirst}
@@ -19,7 +19,7 @@ use Rattle.bsi_aggregates.proofs.SplitRows.{both, entry_in, firsts_are, of_other
 use Rattle.bsi_aggregates.proofs.Remaining.{all_left, all_taken, entries_passing, first_after, none_taken, nothing_taken, one_taken, passing, rows_left, AreTaken}
 
 -- each first entry split off so far has its groups
-pub record AreGroupsMade (total : Total) (selection : List Bool) (first : ℕ) (others : List ℕ) (rows : List FedRow) (kept : List Grouped) (rest : List Bool) : Type 0 where
+pub record AreGroupsMade (total : Total) (selection : List Bool) (first : ℕ) (others : List ℕ) (rows : List SourcedRow) (kept : List Grouped) (rest : List Bool) : Type 0 where
   pub firsts : List (Option ℤ)
   pub rest_is : rest ≡ passing (comes_after firsts) (column_of rows first) selection
   pub split_off : AreTaken (selected_entries selection first rows) firsts
@@ -38,7 +38,7 @@ key_with e y some there =
     All-contains (λ y. Contains (keys_with e some) (e ∷ y)) some y
     (unmapped (Contains (keys_with e some)) (λ y. e ∷ y) some (All-contains_itself (keys_with e some))) there
 
-module _ (total : Total) (selection : List Bool) (first : ℕ) (others : List ℕ) (rows : List FedRow) where
+module _ (total : Total) (selection : List Bool) (first : ℕ) (others : List ℕ) (rows : List SourcedRow) where
   abbrev by : List ℕ
   by = first ∷ others
 

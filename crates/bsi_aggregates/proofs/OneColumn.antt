@@ -5,7 +5,7 @@ use Rattle.std.specs.List.{AllPairs}
 use Rattle.std.proofs.lemmas.List.{length-map}
 use Rattle.std.proofs.lemmas.Simd.{map-map}
 use Rattle.std.proofs.lemmas.List.Elements.{All-contains, All-contains_itself, All-map, All-weaker}
-use Rattle.bsi_rows.specs.Rows.{column_of, FedRow}
+use Rattle.bsi_rows.specs.Rows.{column_of, SourcedRow}
 use Rattle.bsi_rows.specs.declared.query.Total.{Total}
 use Rattle.bsi_table.specs.Totals.{IsTotalAt}
 use Rattle.bsi_aggregates.specs.ColumnGroups.{column_keys_of, selected_entries, AreColumnGroups, AreMoreEntries, EntriesRise, IsRefusedColumn}
@@ -40,7 +40,7 @@ keys_alone : (groups : List ColumnGroup) → keys_of (map as_group groups) ≡ m
 keys_alone groups =
     map-map (λ (group : Grouped). group.entries) as_group groups ∙ sym (map-map alone (λ (group : ColumnGroup). group.entry) groups)
 
-module _ (selection : List Bool) (c : ℕ) (rows : List FedRow) where
+module _ (selection : List Bool) (c : ℕ) (rows : List SourcedRow) where
   entries_alone : selected_keys selection (c ∷ []) rows ≡ map alone (selected_entries selection c rows)
   entries_alone = found_map (row_key (c ∷ [])) selection rows ∙ sym (map-map alone (entry_in c) _) ∙ ap (map alone) (sym (found_map (entry_in c) selection rows))
 

@@ -6,7 +6,7 @@ use Rattle.std.specs.Simd.Lanes.{zip2}
 use Rattle.std.proofs.lemmas.Simd.{map-map}
 use Rattle.std.proofs.lemmas.List.Elements.{All-cons, All-contains, All-contains_itself, All-filter, All-head, All-map, All-nil, All-tail, All-weaker, filter_passes}
 use Rattle.bsi_schema.specs.Columns.{entry_at}
-use Rattle.bsi_rows.specs.Rows.{row_entries, FedRow}
+use Rattle.bsi_rows.specs.Rows.{row_entries, SourcedRow}
 use Rattle.bsi_aggregates.specs.Entries.{is_entry}
 use Rattle.bsi_aggregates.specs.ColumnGroups.{rows_with_entry, selected_entries}
 use Rattle.bsi_aggregates.specs.Groups.{row_key, selected_keys}
@@ -34,12 +34,12 @@ module _ {X : Type 0} where
       All-cons R x xs (then_so x (All-head P x xs all) (All-head Q x xs others)) (both P Q R then_so xs (All-tail P x xs all) (All-tail Q x xs others))
 
 -- a row's entry in a column
-abbrev pub entry_in : ℕ → FedRow → Option ℤ
+abbrev pub entry_in : ℕ → SourcedRow → Option ℤ
 entry_in c row = entry_at (row_entries row) c
 
-module _ (selection : List Bool) (first : ℕ) (others : List ℕ) (rows : List FedRow) where
+module _ (selection : List Bool) (first : ℕ) (others : List ℕ) (rows : List SourcedRow) where
   -- the found rows
-  abbrev pub found_rows : List FedRow
+  abbrev pub found_rows : List SourcedRow
   found_rows = items_where_true selection rows
 
   pub firsts_are : selected_entries selection first rows ≡ map (entry_in first) found_rows
@@ -49,7 +49,7 @@ module _ (selection : List Bool) (first : ℕ) (others : List ℕ) (rows : List 
   keys_are = found_map (row_key (first ∷ others)) selection rows
 
   module _ (e : Option ℤ) where
-    has : FedRow → Bool
+    has : SourcedRow → Bool
     has row = is_entry e (entry_in first row)
 
     -- the other entries of the rows that have this first one
@@ -88,7 +88,7 @@ module _ (selection : List Bool) (first : ℕ) (others : List ℕ) (rows : List 
         P : List (Option ℤ) → Type 0
         P ys = Contains keys (e ∷ ys)
 
-        There : FedRow → Type 0
+        There : SourcedRow → Type 0
         There row = Contains keys (row_key (first ∷ others) row)
 
     -- a first entry has others

@@ -11,7 +11,7 @@ use Rattle.std.proofs.lemmas.List.Elements.{All-cons, All-contains, All-contains
 use Rattle.std.proofs.lemmas.Simd.{length-zip2}
 use Rattle.std.proofs.lemmas.List.Quantifiers.{all_pairs_push}
 use Rattle.bsi_digits.specs.Offsets.{number_of, IsInRange}
-use Rattle.bsi_rows.specs.Rows.{column_of, FedRow}
+use Rattle.bsi_rows.specs.Rows.{column_of, SourcedRow}
 use Rattle.bsi_rows.specs.declared.query.Answer.{Answer}
 use Rattle.bsi_rows.specs.declared.query.Answer.TheVariants.{Count as count_answer}
 use Rattle.bsi_rows.specs.declared.query.Total.{Total}
@@ -67,7 +67,7 @@ module _ (offset : ℤ) (size : ℕ) where
 
 -- ---- the rows of a tally
 
-module _ (selection : List Bool) (by : ℕ) (rows : List FedRow) (same : length (column_of rows by) ≡ length selection) where
+module _ (selection : List Bool) (by : ℕ) (rows : List SourcedRow) (same : length (column_of rows by) ≡ length selection) where
   with_counted : (e : Option ℤ) → length (filter (is_entry e) (selected_entries selection by rows)) ≡ count_by (λ b. b) (rows_with_entry selection by rows e)
   with_counted e =
       let once = length-map (column_of rows by) (is_entry e) in
@@ -90,10 +90,10 @@ module _ (selection : List Bool) (by : ℕ) (rows : List FedRow) (same : length 
       omega (arith, here.1, with_counted e)
 
 -- the entries that are read for a total
-abbrev pub total_entries : Total → List FedRow → List Bool → List (Option ℤ)
+abbrev pub total_entries : Total → List SourcedRow → List Bool → List (Option ℤ)
 total_entries total rows selection = entries_or_nulls selection (option_map (column_of rows) (total_column total))
 
-pub entries_long : (total : Total) (rows : List FedRow) (selection : List Bool) → length selection ≡ length rows → length (total_entries total rows selection) ≡ length selection
+pub entries_long : (total : Total) (rows : List SourcedRow) (selection : List Bool) → length selection ≡ length rows → length (total_entries total rows selection) ≡ length selection
 entries_long Count rows selection same = length-map selection _
 entries_long (Sum c) rows selection same = length-map rows _ ∙ sym same
 entries_long (Least c) rows selection same = length-map rows _ ∙ sym same
@@ -103,7 +103,7 @@ entries_long (Rank c rank) rows selection same = length-map rows _ ∙ sym same
 entries_long Rows rows selection same = length-map selection _
 
 -- the answer that a tally gives is the total of its rows
-pub total_at : (total : Total) (rows : List FedRow) (selection bits : List Bool) (answer : Answer) → length (total_entries total rows selection) ≡ length bits
+pub total_at : (total : Total) (rows : List SourcedRow) (selection bits : List Bool) (answer : Answer) → length (total_entries total rows selection) ≡ length bits
     → IsTotalOf total (items_where_true bits (total_entries total rows selection)) answer → IsTotalAt total bits rows answer
 total_at Count rows selection bits answer same is = is ∙ ap count_answer (entries_counted bits (map (λ _. None) selection) same)
 total_at (Sum c) rows selection bits answer same is = is
@@ -120,14 +120,14 @@ abbrev pub IsAt : ℤ → ℕ → ℕ → Option ℤ → Type 0
 IsAt offset size k e = (j : ℕ) × (j < k) × (e ≡ tally_entry offset size j)
 
 -- the groups of the first k tallies that have rows
-pub record AreTallied (total : Total) (selection : List Bool) (by : ℕ) (rows : List FedRow) (offset : ℤ) (size : ℕ) (tallies : List Tally) (k : ℕ) (groups : List ColumnGroup) : Type 0 where
+pub record AreTallied (total : Total) (selection : List Bool) (by : ℕ) (rows : List SourcedRow) (offset : ℤ) (size : ℕ) (tallies : List Tally) (k : ℕ) (groups : List ColumnGroup) : Type 0 where
   pub places : All (IsAt offset size k) (column_keys_of groups)
   pub rise : EntriesRise (column_keys_of groups)
   pub had : All (Contains (selected_entries selection by rows)) (column_keys_of groups)
   pub all : (j : ℕ) (d : Tally) → j < k → 0 < (get_or tallies j d).rows → Contains (column_keys_of groups) (tally_entry offset size j)
   pub answers : All (λ group. IsTotalAt total (rows_with_entry selection by rows group.entry) rows group.answer) groups
 
-module _ (total : Total) (selection : List Bool) (by : ℕ) (rows : List FedRow) (offset : ℤ) (size : ℕ) (tallies : List Tally) where
+module _ (total : Total) (selection : List Bool) (by : ℕ) (rows : List SourcedRow) (offset : ℤ) (size : ℕ) (tallies : List Tally) where
   module _ (same : length selection ≡ length rows) (keys : OffsetColumn) (offset_is : keys.offset ≡ offset) (size_is : shifted_size keys ≡ size) (keys_are : shifted_entries keys ≡ column_of rows by) (entries : List (Option ℤ)) (entries_are : entries ≡ total_entries total rows selection)
       (are : AreEntryTallies keys entries selection (length selection) tallies) where
     long : length (column_of rows by) ≡ length selection

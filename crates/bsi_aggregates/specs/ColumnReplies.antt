@@ -6,7 +6,7 @@ use Rattle.bsi_digits.specs.Orders.{values_at}
 use Rattle.bsi_digits.specs.Ranks.{IsSignedRankOf}
 use Rattle.bsi_schema.specs.Columns.{Declared}
 use Rattle.bsi_rows.specs.Answers.{columns_of_pred, missing_of}
-use Rattle.bsi_rows.specs.Rows.{column_of, holds, row_entries, FedRow}
+use Rattle.bsi_rows.specs.Rows.{column_of, holds, row_entries, SourcedRow}
 use Rattle.bsi_rows.specs.declared.errors.AskError.{AskError}
 use Rattle.bsi_rows.specs.declared.errors.AskError.TheVariants.{BadColumn, NoMemory}
 use Rattle.bsi_rows.specs.declared.query.Pred.{Pred}
@@ -22,11 +22,11 @@ IsReplyOn schema c pred Is (Err (BadColumn missing)) = missing_on schema c pred 
 IsReplyOn schema c pred Is (Err NoMemory) = missing_on schema c pred ≡ None
 
 -- The selection of a predicate: for each row, whether the predicate holds of it.
-abbrev pub selection_of : Pred → List FedRow → List Bool
+abbrev pub selection_of : Pred → List SourcedRow → List Bool
 selection_of pred rows = map (λ row. holds pred (row_entries row)) rows
 
 -- The numbers of a column at the selected rows, in order of the rows. A null is no number.
-abbrev pub selected_numbers : ℕ → Pred → List FedRow → List ℤ
+abbrev pub selected_numbers : ℕ → Pred → List SourcedRow → List ℤ
 selected_numbers c pred rows = values_at (selection_of pred rows) (column_of rows c)
 
 -- For each rank, the number of that rank, or none if there are fewer numbers.

@@ -4,7 +4,7 @@ use Rattle.std.specs.Prelude.{◌≡◌, ◌<◌, ◌++◌, ◌∷◌, ◌||◌,
 use Rattle.std.specs.List.{items_where_true, AllPairs}
 use Rattle.bsi_schema.specs.Columns.{entry_at, Declared}
 use Rattle.bsi_rows.specs.Answers.{columns_of_pred, columns_of_total, missing_of}
-use Rattle.bsi_rows.specs.Rows.{row_entries, FedRow}
+use Rattle.bsi_rows.specs.Rows.{row_entries, SourcedRow}
 use Rattle.bsi_rows.specs.declared.query.Answer.{Answer}
 use Rattle.bsi_rows.specs.declared.query.Query.{Query}
 use Rattle.bsi_rows.specs.declared.query.Total.{Total}
@@ -33,11 +33,11 @@ grouped columns entries (answer ∷ answers) =
     record { entries = take columns entries; answer = answer } ∷ grouped columns (drop columns entries) answers
 
 -- The key of a row: its entries in the columns `by`.
-abbrev pub row_key : List ℕ → FedRow → List (Option ℤ)
+abbrev pub row_key : List ℕ → SourcedRow → List (Option ℤ)
 row_key by row = map (λ c. entry_at (row_entries row) c) by
 
 -- The keys of the selected rows.
-abbrev pub selected_keys : List Bool → List ℕ → List FedRow → List (List (Option ℤ))
+abbrev pub selected_keys : List Bool → List ℕ → List SourcedRow → List (List (Option ℤ))
 selected_keys selection by rows = items_where_true selection (map (row_key by) rows)
 
 -- Keys are ordered by the first entry that differs.
@@ -47,7 +47,7 @@ all_come_before (x ∷ entries) [] = false
 all_come_before (x ∷ entries) (y ∷ others) = comes_before x y || (is_entry x y && all_come_before entries others)
 
 -- The selected rows that have a given key.
-abbrev pub rows_with : List Bool → List ℕ → List FedRow → List (Option ℤ) → List Bool
+abbrev pub rows_with : List Bool → List ℕ → List SourcedRow → List (Option ℤ) → List Bool
 rows_with selection [] rows entries = selection
 rows_with selection (c ∷ by) rows [] = selection
 rows_with selection (c ∷ by) rows (e ∷ entries) = rows_with (rows_with_entry selection c rows e) by rows entries
@@ -69,7 +69,7 @@ abbrev pub KeysRise : List (List (Option ℤ)) → Type 0
 KeysRise keys = AllPairs (λ earlier later. IsTrue (all_come_before earlier later)) keys
 
 -- The groups of the selected rows: a key, and the total over the rows that have it.
-pub record AreGroups (total : Total) (selection : List Bool) (by : List ℕ) (rows : List FedRow) (groups : List Grouped) : Type 0 where
+pub record AreGroups (total : Total) (selection : List Bool) (by : List ℕ) (rows : List SourcedRow) (groups : List Grouped) : Type 0 where
   -- The groups come in order of key, each key once.
   pub rise : KeysRise (keys_of groups)
   -- Each group is of a key that some selected row has.
@@ -91,7 +91,7 @@ pub record AreMore (most : ℕ) (keys : List (List (Option ℤ))) : Type 0 where
   pub many : most < length some
 
 -- Why the selected rows are not grouped: there would be more than `most` groups, or memory was refused.
-abbrev pub IsRefusedOver : List Bool → List ℕ → List FedRow → ℕ → GroupError → Type 0
+abbrev pub IsRefusedOver : List Bool → List ℕ → List SourcedRow → ℕ → GroupError → Type 0
 IsRefusedOver selection by rows most (BadColumn c) = ⊥
 IsRefusedOver selection by rows most TooMany = AreMore most (selected_keys selection by rows)
 IsRefusedOver selection by rows most NoMemory = Unit {0}
@@ -101,11 +101,11 @@ abbrev pub missing_grouped : ℕ → Query → List ℕ → Option ℕ
 missing_grouped count query by = missing_of count ((columns_of_total query.total ++ columns_of_pred query.pred) ++ by)
 
 -- For each row, whether the query selects it.
-abbrev pub selected_by : Query → List FedRow → List Bool
+abbrev pub selected_by : Query → List SourcedRow → List Bool
 selected_by query rows = selection_of query.pred rows
 
 -- Why the rows that a query selects are not grouped: a missing column, or else as in `IsRefusedOver`.
-abbrev pub IsGroupRefusal : Declared → List FedRow → Query → List ℕ → ℕ → GroupError → Type 0
+abbrev pub IsGroupRefusal : Declared → List SourcedRow → Query → List ℕ → ℕ → GroupError → Type 0
 IsGroupRefusal schema rows query by most (BadColumn c) = missing_grouped (length schema.columns) query by ≡ Some c
 IsGroupRefusal schema rows query by most why =
     (missing_grouped (length schema.columns) query by ≡ None) × IsRefusedOver (selected_by query rows) by rows most why

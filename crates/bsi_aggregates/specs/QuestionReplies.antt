@@ -7,7 +7,7 @@ use Rattle.bsi_schema.specs.Columns.{Declared}
 use Rattle.bsi_rows.specs.Answers.{missing_column, CountsConjunction, IsAnswer, IsReply}
 use Rattle.bsi_rows.specs.ByFeeder.{by_origin}
 use Rattle.bsi_rows.specs.Numbering.{numbered_at}
-use Rattle.bsi_rows.specs.Rows.{column_of, feeders_of, selected as selected_places, FedRow}
+use Rattle.bsi_rows.specs.Rows.{column_of, feeders_of, selected as selected_places, SourcedRow}
 use Rattle.bsi_rows.specs.declared.errors.AskError.{AskError}
 use Rattle.bsi_rows.specs.declared.errors.AskError.TheVariants.{NoMemory}
 use Rattle.bsi_rows.specs.declared.query.Answer.{Answer}
@@ -25,14 +25,14 @@ use Rattle.bsi_aggregates.specs.declared.answering.QuestionReply.TheVariants as 
 use Rattle.bsi_aggregates.specs.declared.grouping.GroupError.{GroupError}
 
 -- An answer, whose rows are sorted by feeder and by number within the feeder's.
-abbrev pub IsArrangedAnswer : Query → List FedRow → Answer → Type 0
+abbrev pub IsArrangedAnswer : Query → List SourcedRow → Answer → Type 0
 IsArrangedAnswer query rows (rows_answer listed) =
     (query.total ≡ total.Rows) × IsPermutation (numbered_at (feeders_of rows) (selected_places query.pred rows)) listed.items
     × IsSorted by_origin listed.items
 IsArrangedAnswer query rows answer = IsAnswer query rows answer
 
 -- The reply to a query, with sorted rows. A count without `or` and `not` is never refused memory.
-abbrev pub IsArrangedReply : Declared → List FedRow → Query → Result Answer AskError → Type 0
+abbrev pub IsArrangedReply : Declared → List SourcedRow → Query → Result Answer AskError → Type 0
 IsArrangedReply schema rows query (Ok answer) =
     (missing_column (length schema.columns) query ≡ None) × IsArrangedAnswer query rows answer
 IsArrangedReply schema rows query (Err refused) =
@@ -43,14 +43,14 @@ abbrev pub max_groups : ℕ
 max_groups = 65536
 
 -- The groups of a query by columns, at most 65,536 of them, or why there are none.
-abbrev pub IsGroupReply : Declared → List FedRow → Query → List ℕ → Result GroupList GroupError → Type 0
+abbrev pub IsGroupReply : Declared → List SourcedRow → Query → List ℕ → Result GroupList GroupError → Type 0
 IsGroupReply schema rows query by (Ok made) =
     (missing_grouped (length schema.columns) query by ≡ None)
     × AreGroups query.total (selected_by query rows) by rows made.groups × (length made.groups ≤ max_groups)
 IsGroupReply schema rows query by (Err why) = IsGroupRefusal schema rows query by max_groups why
 
 -- A reply to a question over the rows of a table: it is of the same kind as the question, and right.
-abbrev pub IsQuestionReply : Declared → List FedRow → Question → QuestionReply → Type 0
+abbrev pub IsQuestionReply : Declared → List SourcedRow → Question → QuestionReply → Type 0
 IsQuestionReply schema rows (question.Total query) (reply.Total replied) = IsArrangedReply schema rows query replied
 IsQuestionReply schema rows (question.Groups query by) (reply.Groups replied) = IsGroupReply schema rows query by.items replied
 IsQuestionReply schema rows (question.Top extreme c most pred) (reply.Top replied) =

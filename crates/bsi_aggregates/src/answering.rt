@@ -3,7 +3,7 @@
 
 ghost use Rattle.std.specs.Prelude.{List};
 ghost use Rattle.bsi_rows.specs.Answers.{IsAnswer};
-ghost use Rattle.bsi_rows.specs.Rows.{FedRow};
+ghost use Rattle.bsi_rows.specs.Rows.{SourcedRow};
 ghost use Rattle.bsi_rows.specs.declared.query.Query.{Query};
 ghost use Rattle.bsi_aggregates.specs.QuestionReplies.{IsArrangedAnswer, IsQuestionReply};
 
@@ -58,7 +58,7 @@ pub fn answer(alloc: Global, index: &Index, question: &Question) -> QuestionRepl
 
 /// Arranges the rows of an answer in order of feeder, and then of their numbers.
 pub fn arrange_answer(alloc: Global, answer: Answer) -> Answer
-    ensures { (query : Query) → (rows : List FedRow) → IsAnswer query rows answer →
+    ensures { (query : Query) → (rows : List SourcedRow) → IsAnswer query rows answer →
         IsArrangedAnswer query rows result }
 {
     match answer {

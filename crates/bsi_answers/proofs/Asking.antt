@@ -22,7 +22,7 @@ use Rattle.bsi_input.specs.BufferedOutput.{AppendsPrefix}
 use Rattle.bsi_input.proofs.Waiting.{cut_all, cut_whole}
 use Rattle.bsi_input.proofs.FirstRecords.{first_all, first_more, first_none, HasReadFirst}
 use Rattle.bsi_schema.specs.Columns.{Declared}
-use Rattle.bsi_rows.specs.Rows.{FedRow}
+use Rattle.bsi_rows.specs.Rows.{SourcedRow}
 use Rattle.bsi_answers.specs.AskLines.{IsAskLine}
 use Rattle.bsi_syntax.specs.declared.grammar.Grammar.TheVariants.{Script}
 use Rattle.bsi_answers.specs.Faults.{may_follow_output, text_fault}
@@ -123,7 +123,7 @@ module _ (Is : List Field → List ℕ → Type 0) {R : Type 0} (rem : R → Kno
 
 -- ---- the lines of the feeders stand before them
 
-module _ (schema : Declared) (rows : List FedRow) (counts : List FedCounts) (bytes : List ℕ) (before middle after : KnownBytes) where
+module _ (schema : Declared) (rows : List SourcedRow) (counts : List FedCounts) (bytes : List ℕ) (before middle after : KnownBytes) where
   pub headed_all : Appends before middle (concat (fed_lines 0 counts)) → WritesAll (AllZip (IsAskLine Script schema rows)) bytes middle after
       → WritesAll (AreLines schema rows counts) bytes before after
   headed_all written all = record {
@@ -151,7 +151,7 @@ module _ (schema : Declared) (rows : List FedRow) (counts : List FedCounts) (byt
   }
 
 -- some lines of the feeders alone
-pub head_part : (schema : Declared) (rows : List FedRow) (counts : List FedCounts) (bytes : List ℕ) (before after : KnownBytes) (fault : FilesFault)
+pub head_part : (schema : Declared) (rows : List SourcedRow) (counts : List FedCounts) (bytes : List ℕ) (before after : KnownBytes) (fault : FilesFault)
     → fault ≢ TooLong AsksFile → AreWrittenBefore fault (fed_lines 0 counts) before after → WritesFirst (AreLines schema rows counts) bytes fault before after
 unfolding Reached
 head_part schema rows counts bytes before after fault short out = record {

@@ -12,7 +12,7 @@ use Rattle.bsi_syntax.specs.declared.setups.DeclaredTable.{DeclaredTable}
 use Rattle.bsi_rows.specs.Numbering.{numbered_at}
 use Rattle.bsi_rows.specs.Answers.{missing_column, IsAnswer, IsTotal}
 use Rattle.bsi_schema.specs.Columns.{AreNamed, Declared}
-use Rattle.bsi_rows.specs.Rows.{feeders_of, holds, selected, Entries, FedRow}
+use Rattle.bsi_rows.specs.Rows.{feeders_of, holds, selected, Entries, SourcedRow}
 use Rattle.bsi_rows.specs.declared.errors.AskError.{AskError}
 use Rattle.bsi_rows.specs.declared.errors.AskError.TheVariants as ask
 use Rattle.bsi_rows.specs.declared.query.Answer.{Answer}
@@ -94,7 +94,7 @@ last_all : (xs ys : List (List ℕ)) → All IsFound (xs ++ ys) → All IsFound 
 last_all [] ys all = all
 last_all (x ∷ xs) ys all = last_all xs ys (All-tail IsFound x (xs ++ ys) all)
 
-module _ (schema : Declared) (rows : List FedRow) where
+module _ (schema : Declared) (rows : List SourcedRow) where
   -- the answer, where memory was found and the columns are there
   shown : (query : Query) (r : Result Answer AskError) → missing_column (length schema.columns) query ≡ None → IsArrangedReply schema rows query r
       → ask_line r ≢ no_memory_line → (answer : Answer) × (r ≡ Ok answer) × IsArrangedAnswer query rows answer

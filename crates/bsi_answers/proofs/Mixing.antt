@@ -5,7 +5,7 @@ use Rattle.std.specs.Prelude.{nat_eq, if◌then◌else◌}
 use Rattle.std.specs.List.{cons_option}
 use Rattle.std.proofs.lemmas.Bool.Decides.{nat_tests}
 use Rattle.bsi_rows.specs.Runs.{rows_from}
-use Rattle.bsi_rows.specs.Rows.{Entries, FedRow}
+use Rattle.bsi_rows.specs.Rows.{Entries, SourcedRow}
 use Rattle.bsi_answers.specs.Mixes.{HaveSameFeederRows}
 use Rattle.bsi_answers.proofs.Perms.{as_long, flipped, join, keep, stay, swap, Perm}
 
@@ -20,7 +20,7 @@ bump c f = λ g. if nat_eq f g then suc (c g) else c g
 abbrev pub Tag : Type 0
 Tag = (ℕ × ℕ) × Entries
 
-abbrev pub tags : RowCounts → List FedRow → List Tag
+abbrev pub tags : RowCounts → List SourcedRow → List Tag
 tags c [] = []
 tags c (row ∷ rows) = ((row.0, c row.0), row.1) ∷ tags (bump c row.0) rows
 
@@ -52,20 +52,20 @@ bumps c f g i = λ h. at h i
 
 -- ---- the rows of a feeder
 
-pub rows_here : (f : ℕ) (row : FedRow) (rows : List FedRow) → nat_eq row.0 f ≡ true → rows_from f (row ∷ rows) ≡ row.1 ∷ rows_from f rows
+pub rows_here : (f : ℕ) (row : SourcedRow) (rows : List SourcedRow) → nat_eq row.0 f ≡ true → rows_from f (row ∷ rows) ≡ row.1 ∷ rows_from f rows
 rows_here f row rows e = ap (λ b. cons_option (if b then Some row.1 else None) (rows_from f rows)) e
 
-pub rows_there : (f : ℕ) (row : FedRow) (rows : List FedRow) → nat_eq row.0 f ≡ false → rows_from f (row ∷ rows) ≡ rows_from f rows
+pub rows_there : (f : ℕ) (row : SourcedRow) (rows : List SourcedRow) → nat_eq row.0 f ≡ false → rows_from f (row ∷ rows) ≡ rows_from f rows
 rows_there f row rows e = ap (λ b. cons_option (if b then Some row.1 else None) (rows_from f rows)) e
 
 -- the first row of a feeder can stand first
-pub record IsPulled (c : RowCounts) (b : List FedRow) (f : ℕ) (x : Entries) (rest : List Entries) : Type 0 where
-  pub others : List FedRow
+pub record IsPulled (c : RowCounts) (b : List SourcedRow) (f : ℕ) (x : Entries) (rest : List Entries) : Type 0 where
+  pub others : List SourcedRow
   pub moved : Perm (tags c b) (((f, c f), x) ∷ tags (bump c f) others)
   pub own : rows_from f others ≡ rest
   pub same : (g : ℕ) → nat_eq f g ≡ false → rows_from g others ≡ rows_from g b
 
-module _ (c : RowCounts) (row : FedRow) (b : List FedRow) (f : ℕ) (x : Entries) (rest : List Entries) (is : rows_from f (row ∷ b) ≡ x ∷ rest) where
+module _ (c : RowCounts) (row : SourcedRow) (b : List SourcedRow) (f : ℕ) (x : Entries) (rest : List Entries) (is : rows_from f (row ∷ b) ≡ x ∷ rest) where
   pull_here : nat_eq row.0 f ≡ true → IsPulled c (row ∷ b) f x rest
   pull_here e =
       let here : row.1 ∷ rows_from f b ≡ x ∷ rest = sym (rows_here f row b e) ∙ is in
@@ -79,7 +79,7 @@ module _ (c : RowCounts) (row : FedRow) (b : List FedRow) (f : ℕ) (x : Entries
         same = λ g other. sym (rows_there g row b (subst (λ h. nat_eq h g ≡ false) (sym feeder) other));
       }
 
-  same_behind : (h : ℕ) (t : Bool) → nat_eq row.0 h ≡ t → (others : List FedRow) → rows_from h others ≡ rows_from h b
+  same_behind : (h : ℕ) (t : Bool) → nat_eq row.0 h ≡ t → (others : List SourcedRow) → rows_from h others ≡ rows_from h b
       → rows_from h (row ∷ others) ≡ rows_from h (row ∷ b)
   same_behind h true d others same = rows_here h row others d ∙ (ap (λ xs. row.1 ∷ xs) same ∙ sym (rows_here h row b d))
   same_behind h false d others same = rows_there h row others d ∙ (same ∙ sym (rows_there h row b d))
@@ -107,15 +107,15 @@ module _ (c : RowCounts) (row : FedRow) (b : List FedRow) (f : ℕ) (x : Entries
   pull_by true e pull = pull_here e
   pull_by false e pull = pull_there e pull
 
-pulled : (c : RowCounts) (b : List FedRow) (f : ℕ) (x : Entries) (rest : List Entries) → rows_from f b ≡ x ∷ rest → IsPulled c b f x rest
+pulled : (c : RowCounts) (b : List SourcedRow) (f : ℕ) (x : Entries) (rest : List Entries) → rows_from f b ≡ x ∷ rest → IsPulled c b f x rest
 pulled c [] f x rest is = absurd (cc (is))
 pulled c (row ∷ b) f x rest is = pull_by c row b f x rest is (nat_eq row.0 f) refl (λ there. pulled (bump c row.0) b f x rest there)
 
-no_rows_left : (b : List FedRow) → ((f : ℕ) → [] ≡ rows_from f b) → b ≡ []
+no_rows_left : (b : List SourcedRow) → ((f : ℕ) → [] ≡ rows_from f b) → b ≡ []
 no_rows_left [] none = refl
 no_rows_left (row ∷ b) none = (let no : [] ≡ row.1 ∷ rows_from row.0 b = none row.0 ∙ rows_here row.0 row b (eq_self row.0) in absurd (cc))
 
-module _ (row : FedRow) (a b : List FedRow) (alike : HaveSameFeederRows (row ∷ a) b) (c : RowCounts) (one : IsPulled c b row.0 row.1 (rows_from row.0 a)) where
+module _ (row : SourcedRow) (a b : List SourcedRow) (alike : HaveSameFeederRows (row ∷ a) b) (c : RowCounts) (one : IsPulled c b row.0 row.1 (rows_from row.0 a)) where
   alike_by : (g : ℕ) (t : Bool) → nat_eq row.0 g ≡ t → rows_from g a ≡ rows_from g one.others
   alike_by g true e = subst (λ h. rows_from h a ≡ rows_from h one.others) (eq_is row.0 g e) (sym one.own)
   alike_by g false e = sym (rows_there g row a e) ∙ (alike g ∙ sym (one.same g e))
@@ -129,18 +129,18 @@ module _ (row : FedRow) (a b : List FedRow) (alike : HaveSameFeederRows (row ∷
       join (tags c (row ∷ a)) (tag ∷ tags (bump c row.0) one.others) (tags c b) (keep tag (tags (bump c row.0) a) (tags (bump c row.0) one.others) more)
       (flipped (tags c b) (tag ∷ tags (bump c row.0) one.others) one.moved)
 
-pub same_tags : (c : RowCounts) (a b : List FedRow) → HaveSameFeederRows a b → Perm (tags c a) (tags c b)
+pub same_tags : (c : RowCounts) (a b : List SourcedRow) → HaveSameFeederRows a b → Perm (tags c a) (tags c b)
 same_tags c [] b alike = subst (λ rows. Perm [] (tags c rows)) (sym (no_rows_left b alike)) (stay [])
 same_tags c (row ∷ a) b alike =
     let one = pulled c b row.0 row.1 (rows_from row.0 a) (sym (alike row.0) ∙ rows_here row.0 row a (eq_self row.0)) in
     joined row a b alike c one (same_tags (bump c row.0) a one.others (alike_behind row a b alike c one))
 
 -- they are equally long
-tags_long : (c : RowCounts) (rows : List FedRow) → length (tags c rows) ≡ length rows
+tags_long : (c : RowCounts) (rows : List SourcedRow) → length (tags c rows) ≡ length rows
 tags_long c [] = refl
 tags_long c (row ∷ rows) = ap suc (tags_long (bump c row.0) rows)
 
-pub same_length : (a b : List FedRow) → HaveSameFeederRows a b → length a ≡ length b
+pub same_length : (a b : List SourcedRow) → HaveSameFeederRows a b → length a ≡ length b
 same_length a b alike =
     let none : RowCounts = λ f. 0 in
     sym (tags_long none a) ∙ (as_long (tags none a) (tags none b) (same_tags none a b alike) ∙ tags_long none b)

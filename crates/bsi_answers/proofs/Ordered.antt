@@ -5,11 +5,11 @@ use Rattle.std.proofs.lemmas.Bool.Decides.{nat_tests}
 use Rattle.std.proofs.lemmas.List.{append-nil}
 use Rattle.std.proofs.lemmas.List.Elements.{filter_map-append}
 use Rattle.bsi_rows.specs.Runs.{rows_from}
-use Rattle.bsi_rows.specs.Rows.{Entries, FedRow}
+use Rattle.bsi_rows.specs.Rows.{Entries, SourcedRow}
 use Rattle.bsi_answers.specs.Mixes.{file_by_file}
 use Rattle.bsi_answers.proofs.Mixing.{rows_here, rows_there}
 
-abbrev own : ℕ → List Entries → List FedRow
+abbrev own : ℕ → List Entries → List SourcedRow
 own n rows = map (λ row. (n, row)) rows
 
 own_same : (n : ℕ) (rows : List Entries) → nat_eq n n ≡ true → rows_from n (own n rows) ≡ rows
@@ -20,8 +20,8 @@ own_other : (f n : ℕ) (rows : List Entries) → nat_eq n f ≡ false → rows_
 own_other f n [] e = refl
 own_other f n (row ∷ rows) e = rows_there f (n, row) (own n rows) e ∙ own_other f n rows e
 
-from_append : (f : ℕ) (xs ys : List FedRow) → rows_from f (xs ++ ys) ≡ rows_from f xs ++ rows_from f ys
-from_append f xs ys = filter_map-append (λ (row : FedRow). if nat_eq row.0 f then Some row.1 else None) xs ys
+from_append : (f : ℕ) (xs ys : List SourcedRow) → rows_from f (xs ++ ys) ≡ rows_from f xs ++ rows_from f ys
+from_append f xs ys = filter_map-append (λ (row : SourcedRow). if nat_eq row.0 f then Some row.1 else None) xs ys
 
 self_eq : (n : ℕ) → nat_eq n n ≡ true
 self_eq n = grind (arith, nat_tests)

@@ -6,7 +6,7 @@ use Rattle.bsi_aggregates.specs.declared.answering.QuestionReply.{QuestionReply}
 use Rattle.bsi_answers.specs.AskLines.{IsAskLineBy}
 use Rattle.bsi_answers.specs.ReplyLines.{IsReplyLine}
 use Rattle.bsi_rows.specs.Fields.{Field}
-use Rattle.bsi_rows.specs.Rows.{feeders_of, FedRow}
+use Rattle.bsi_rows.specs.Rows.{feeders_of, SourcedRow}
 use Rattle.bsi_rows.specs.declared.question.Question.{Question}
 use Rattle.bsi_schema.specs.Columns.{Declared}
 use Rattle.bsi_syntax.specs.Bytes.{Bytes}
@@ -15,7 +15,7 @@ use Rattle.bsi_syntax.specs.Questions.{IsQuestion}
 use Rattle.bsi_syntax.specs.Vocabularies.{Words}
 use Rattle.bsi_syntax.specs.declared.grammar.Grammar.{Grammar}
 
-module _ (grammar : Grammar) (words : Words) (Of : NumberTexts) (schema : Declared) (rows : List FedRow) (fields : List Field) {E : Type 0} where
+module _ (grammar : Grammar) (words : Words) (Of : NumberTexts) (schema : Declared) (rows : List SourcedRow) (fields : List Field) {E : Type 0} where
   -- a record that asks a question
   pub asked_record : (r : Result (Unit {0}) E) (old new : Bytes) (asked : Question) (replied : QuestionReply) → IsQuestion grammar words fields asked
       → IsQuestionReply schema rows asked replied → OnOk r (AppendsText (IsReplyLine Of (feeders_of rows) asked replied) old new)

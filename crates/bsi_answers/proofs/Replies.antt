@@ -6,7 +6,7 @@ use Rattle.std.proofs.lemmas.List.{length-map}
 use Rattle.bsi_schema.specs.Columns.{entry_at}
 use Rattle.bsi_aggregates.proofs.TopsPlaces.{none_past}
 use Rattle.bsi_syntax.specs.Lines.{ask_line}
-use Rattle.bsi_rows.specs.Rows.{column_of, feeders_of, row_entries, FedRow}
+use Rattle.bsi_rows.specs.Rows.{column_of, feeders_of, row_entries, SourcedRow}
 use Rattle.bsi_rows.specs.declared.errors.AskError.{AskError}
 use Rattle.bsi_rows.specs.declared.query.Answer.{Answer}
 use Rattle.bsi_rows.specs.declared.query.Query.{Query}
@@ -23,7 +23,7 @@ use Rattle.bsi_syntax.specs.Notations.{whole_texts, AppendsText, NumberTexts}
 use Rattle.bsi_answers.proofs.WholeNumbers.{only_total}
 
 -- a row that has a number in a column is one of the rows
-row_within : (rows : List FedRow) (c r : ℕ) (n : ℤ) → slice_index_or (column_of rows c) r None ≡ Some n → r < length rows
+row_within : (rows : List SourcedRow) (c r : ℕ) (n : ℤ) → slice_index_or (column_of rows c) r None ≡ Some n → r < length rows
 row_within rows c r n some = by (nat_lt r (length rows)) refl
   where
     long : length (column_of rows c) ≡ length rows
@@ -34,7 +34,7 @@ row_within rows c r n some = by (nat_lt r (length rows)) refl
     by false e =
         absurd (subst (λ o. IfSome o (λ m. ⊥)) some (none_past (column_of rows c) r (λ m. ⊥) (grind (arith, nat_tests, long))))
 
-module _ (schema : Declared) (rows : List FedRow) where
+module _ (schema : Declared) (rows : List SourcedRow) where
   -- the rows of a reply are rows of the index
   pub rows_within : (asked : Question) (replied : QuestionReply) → IsQuestionReply schema rows asked replied → HasRowsWithin (length rows) replied
   rows_within asked (reply.Total replied) is = tt

@@ -8,7 +8,7 @@ use Rattle.bsi_rows.specs.Numbering.{number_within, numbered_at}
 use Rattle.bsi_digits.specs.Ranks.{IsSignedRankOf}
 use Rattle.bsi_digits.specs.WholeNumbers.{IsSignedGreatestOf, IsSignedLeastOf, IsSignedMedianOf}
 use Rattle.bsi_rows.specs.Answers.{IsTotal}
-use Rattle.bsi_rows.specs.Rows.{entry_at, feeders_of, holds, row_at, selected, values, Entries, FedRow}
+use Rattle.bsi_rows.specs.Rows.{entry_at, feeders_of, holds, row_at, selected, values, Entries, SourcedRow}
 use Rattle.bsi_rows.specs.declared.query.Answer.{Answer}
 use Rattle.bsi_rows.specs.declared.query.Answer.TheVariants.{Count as count_answer, Sum as sum_answer, Value as value_answer, Rows as rows_answer}
 use Rattle.bsi_rows.specs.declared.query.Pred.{Pred}
@@ -60,24 +60,24 @@ pick_map f p (x ∷ xs) = pick_by f x (filter (λ y. p (f y)) xs) (filter p (map
 
 -- ---- each row with its feeder and its number
 
-tag_at : List FedRow → ℕ → Tag
+tag_at : List SourcedRow → ℕ → Tag
 tag_at rows r = ((slice_index (feeders_of rows) r, number_within (feeders_of rows) r), (row_at rows r).1)
 
-abbrev counted : List FedRow → RowCounts
+abbrev counted : List SourcedRow → RowCounts
 counted before = λ g. count_by (λ f. nat_eq f g) (feeders_of before)
 
-tag_here : (before : List FedRow) (row : FedRow) (rows : List FedRow) → tag_at (before ++ row ∷ rows) (length before) ≡ ((row.0, counted before row.0), row.1)
+tag_here : (before : List SourcedRow) (row : SourcedRow) (rows : List SourcedRow) → tag_at (before ++ row ∷ rows) (length before) ≡ ((row.0, counted before row.0), row.1)
 unfolding tag_at
 tag_here before row rows =
     let n : ℕ = length before in
     let fs : List ℕ = feeders_of (before ++ row ∷ rows) in
-    let parts : fs ≡ feeders_of before ++ row.0 ∷ feeders_of rows = map_append (λ (r : FedRow). r.0) before (row ∷ rows) in
-    let long : n ≡ length (feeders_of before) = sym (map_long (λ (r : FedRow). r.0) before) in
+    let parts : fs ≡ feeders_of before ++ row.0 ∷ feeders_of rows = map_append (λ (r : SourcedRow). r.0) before (row ∷ rows) in
+    let long : n ≡ length (feeders_of before) = sym (map_long (λ (r : SourcedRow). r.0) before) in
     let feeder : slice_index fs n ≡ row.0 =
     ap₂ (λ xs m. slice_index xs m) parts long ∙ at_middle (feeders_of before) row.0 (feeders_of rows) 0 in
     let first_rows : take n fs ≡ feeders_of before = ap₂ (λ xs m. take m xs) parts long ∙ take_front (feeders_of before) (row.0 ∷ feeders_of rows) in
     let number : number_within fs n ≡ counted before row.0 = ap₂ (λ f xs. count_by (λ g. nat_eq g f) xs) feeder first_rows in
-    let entries : (row_at (before ++ row ∷ rows) n).1 ≡ row.1 = ap (λ (r : FedRow). r.1) (at_middle before row rows (0, [])) in
+    let entries : (row_at (before ++ row ∷ rows) n).1 ≡ row.1 = ap (λ (r : SourcedRow). r.1) (at_middle before row rows (0, [])) in
     let pair : ℕ → ℕ → ℕ × ℕ = λ f m. (f, m) in
     let tag : ℕ × ℕ → Entries → Tag = λ place e. (place, e) in
     ap₂ tag (ap₂ pair feeder number) entries
@@ -86,50 +86,50 @@ count_by_one : (b : Bool) (n : ℕ) → n + (0 + cond b 1 0) ≡ cond b (suc n) 
 count_by_one true n = omega arith
 count_by_one false n = omega arith
 
-counted_at : (before : List FedRow) (row : FedRow) (g : ℕ) → counted (before ++ row ∷ []) g ≡ bump (counted before) row.0 g
+counted_at : (before : List SourcedRow) (row : SourcedRow) (g : ℕ) → counted (before ++ row ∷ []) g ≡ bump (counted before) row.0 g
 counted_at before row g =
-    ap (λ xs. count_by (λ f. nat_eq f g) xs) (map_append (λ (r : FedRow). r.0) before (row ∷ []))
+    ap (λ xs. count_by (λ f. nat_eq f g) xs) (map_append (λ (r : SourcedRow). r.0) before (row ∷ []))
     ∙ (sum_by-append (λ f. cond (nat_eq f g) 1 0) (feeders_of before) (row.0 ∷ []) ∙ count_by_one (nat_eq row.0 g) (counted before g))
 
-counted_push : (before : List FedRow) (row : FedRow) → counted (before ++ row ∷ []) ≡ bump (counted before) row.0
+counted_push : (before : List SourcedRow) (row : SourcedRow) → counted (before ++ row ∷ []) ≡ bump (counted before) row.0
 counted_push before row i = λ g. counted_at before row g i
 
-tags_are : (before rows : List FedRow) → map (tag_at (before ++ rows)) (range_with_len (length before) (length rows)) ≡ tags (counted before) rows
+tags_are : (before rows : List SourcedRow) → map (tag_at (before ++ rows)) (range_with_len (length before) (length rows)) ≡ tags (counted before) rows
 tags_are before [] = refl
 tags_are before (row ∷ rows) =
-    let more : List FedRow = before ++ row ∷ [] in
+    let more : List SourcedRow = before ++ row ∷ [] in
     let whole : more ++ rows ≡ before ++ row ∷ rows = push_assoc before row rows in
     let long : length more ≡ length before + 1 = omega (arith, length-append before (row ∷ [])) in
     let rest : map (tag_at (before ++ row ∷ rows)) (range_with_len (length before + 1) (length rows)) ≡ tags (bump (counted before) row.0) rows =
-    ap₂ (λ (all : List FedRow) n. map (tag_at all) (range_with_len n (length rows))) (sym whole) (sym long)
+    ap₂ (λ (all : List SourcedRow) n. map (tag_at all) (range_with_len n (length rows))) (sym whole) (sym long)
     ∙ (tags_are more rows ∙ ap (λ (c : RowCounts). tags c rows) (counted_push before row)) in
     ap₂ (λ (t : Tag) ts. t ∷ ts) (tag_here before row rows) rest
 
 -- ---- what a predicate finds
 
-found : Pred → List FedRow → List Tag
+found : Pred → List SourcedRow → List Tag
 found pred rows = filter (λ tag. holds pred tag.1) (tags (counted []) rows)
 
-found_is : (pred : Pred) (rows : List FedRow) → map (tag_at rows) (selected pred rows) ≡ found pred rows
+found_is : (pred : Pred) (rows : List SourcedRow) → map (tag_at rows) (selected pred rows) ≡ found pred rows
 unfolding found tag_at
 found_is pred rows =
     pick_map (tag_at rows) (λ (tag : Tag). holds pred tag.1) (range_with_len 0 (length rows)) ∙ ap (λ ts. filter (λ (tag : Tag). holds pred tag.1) ts) (tags_are [] rows)
 
-numbers_are : (pred : Pred) (rows : List FedRow) → numbered_at (feeders_of rows) (selected pred rows) ≡ map (λ tag. tag.0) (found pred rows)
+numbers_are : (pred : Pred) (rows : List SourcedRow) → numbered_at (feeders_of rows) (selected pred rows) ≡ map (λ tag. tag.0) (found pred rows)
 unfolding tag_at
 numbers_are pred rows = map_map (tag_at rows) (λ (tag : Tag). tag.0) (selected pred rows) ∙ ap (λ ts. map (λ (tag : Tag). tag.0) ts) (found_is pred rows)
 
-values_are : (c : ℕ) (pred : Pred) (rows : List FedRow) → values c pred rows ≡ filter_map (λ tag. entry_at tag.1 c) (found pred rows)
+values_are : (c : ℕ) (pred : Pred) (rows : List SourcedRow) → values c pred rows ≡ filter_map (λ tag. entry_at tag.1 c) (found pred rows)
 unfolding tag_at
 values_are c pred rows =
     choose_map (tag_at rows) (λ (tag : Tag). entry_at tag.1 c) (selected pred rows) ∙ ap (λ ts. filter_map (λ (tag : Tag). entry_at tag.1 c) ts) (found_is pred rows)
 
-many_are : (pred : Pred) (rows : List FedRow) → length (selected pred rows) ≡ length (found pred rows)
+many_are : (pred : Pred) (rows : List SourcedRow) → length (selected pred rows) ≡ length (found pred rows)
 many_are pred rows = sym (map_long (tag_at rows) (selected pred rows)) ∙ ap (λ (ts : List Tag). length ts) (found_is pred rows)
 
 -- ---- two lists with the same rows of each feeder
 
-module _ (a b : List FedRow) (alike : HaveSameFeederRows a b) (pred : Pred) where
+module _ (a b : List SourcedRow) (alike : HaveSameFeederRows a b) (pred : Pred) where
   same_found : Perm (found pred a) (found pred b)
   unfolding found
   same_found = filtered (λ (tag : Tag). holds pred tag.1) (tags (counted []) a) (tags (counted []) b) (same_tags (counted []) a b alike)
@@ -190,7 +190,7 @@ module _ (xs ys : List ℤ) (p : Perm xs ys) where
 
 -- ---- answers
 
-module _ (a b : List FedRow) (alike : HaveSameFeederRows a b) (pred : Pred) where
+module _ (a b : List SourcedRow) (alike : HaveSameFeederRows a b) (pred : Pred) where
   -- a total that is no list of rows
   plain_too : (total : Total) (answer : Answer) → IsTotal total pred a answer → (total ≡ Rows → ⊥) → IsTotal total pred b answer
   plain_too Count answer is plain = is ∙ ap (λ n. count_answer n) (same_many a b alike pred)
@@ -214,7 +214,7 @@ module _ (a b : List FedRow) (alike : HaveSameFeederRows a b) (pred : Pred) wher
   plain_too Rows answer is plain = absurd (plain refl)
 
 -- an answer as its line shows it is so for any list with the same rows of each feeder
-pub shown_too : (a b : List FedRow) → HaveSameFeederRows a b → (query : Query) (answer : Answer) → IsArrangedAnswer query a answer → IsArrangedAnswer query b answer
+pub shown_too : (a b : List SourcedRow) → HaveSameFeederRows a b → (query : Query) (answer : Answer) → IsArrangedAnswer query a answer → IsArrangedAnswer query b answer
 shown_too a b alike query (rows_answer listed) is = (
   is.0,
   IsPermutation-trans (numbered_at (feeders_of b) (selected query.pred b)) (numbered_at (feeders_of a) (selected query.pred a)) listed.items

@@ -3,7 +3,7 @@ use Rattle.std.proofs.Common.{◌≡◌, ℕ, zero, suc, ◌+◌, List, [], ◌�
 use Rattle.bsi_rows.specs.Runs.{rows_from}
 use Rattle.bsi_rows.specs.Fields.{Field}
 use Rattle.bsi_schema.specs.Columns.{Declared}
-use Rattle.bsi_rows.specs.Rows.{FedRow}
+use Rattle.bsi_rows.specs.Rows.{SourcedRow}
 use Rattle.bsi_rows.specs.declared.errors.AskError.{AskError}
 use Rattle.bsi_rows.specs.declared.errors.AskError.TheVariants as ask
 use Rattle.bsi_rows.specs.declared.query.Answer.{Answer}
@@ -28,7 +28,7 @@ use Rattle.bsi_answers.specs.ReplyLines.{total_column}
 use Rattle.bsi_syntax.specs.Notations.{whole_texts}
 use Rattle.bsi_answers.proofs.Selecting.{shown_too}
 
-reply_too : (schema : Declared) (a b : List FedRow) → HaveSameFeederRows a b → (query : Query) (reply : Result Answer AskError) → IsArrangedReply schema a query reply
+reply_too : (schema : Declared) (a b : List SourcedRow) → HaveSameFeederRows a b → (query : Query) (reply : Result Answer AskError) → IsArrangedReply schema a query reply
     → IsArrangedReply schema b query reply
 reply_too schema a b alike query (Ok answer) is = (is.0, shown_too a b alike query answer is.1)
 reply_too schema a b alike query (Err ask.NoMemory) is = is
@@ -43,7 +43,7 @@ its_query schema fields (question.Top end c most pred) is = absurd is
 its_query schema fields (question.Distinct c pred) is = absurd is
 its_query schema fields (question.Quantile share c pred) is = absurd is
 
-line_too : (schema : Declared) (a b : List FedRow) → HaveSameFeederRows a b → (fields : List Field) (line : List ℕ) → IsAskLine Script schema a fields line → IsAskLine Script schema b fields line
+line_too : (schema : Declared) (a b : List SourcedRow) → HaveSameFeederRows a b → (fields : List Field) (line : List ℕ) → IsAskLine Script schema a fields line → IsAskLine Script schema b fields line
 line_too schema a b alike fields line (inl none) = inl none
 line_too schema a b alike fields line (inr asks) =
     let it = its_query schema fields asks.asked asks.is in
@@ -54,7 +54,7 @@ line_too schema a b alike fields line (inr asks) =
       answered = (reply.Total of_query.0, reply_too schema a b alike it.0 of_query.0 of_query.1, its_total (total_column it.0.total) of_query.0 line of_query.2);
     })
 
-each_too : (schema : Declared) (a b : List FedRow) → HaveSameFeederRows a b → (records : List (List Field)) (lines : List (List ℕ)) → AllZip (IsAskLine Script schema a) records lines
+each_too : (schema : Declared) (a b : List SourcedRow) → HaveSameFeederRows a b → (records : List (List Field)) (lines : List (List ℕ)) → AllZip (IsAskLine Script schema a) records lines
     → AllZip (IsAskLine Script schema b) records lines
 each_too schema a b alike [] [] are = tt
 each_too schema a b alike [] (line ∷ lines) are = absurd are
@@ -62,7 +62,7 @@ each_too schema a b alike (fields ∷ records) [] are = absurd are
 each_too schema a b alike (fields ∷ records) (line ∷ lines) are = (line_too schema a b alike fields line are.0, each_too schema a b alike records lines are.1)
 
 -- the lines are those of any list with the same rows of each feeder
-pub lines_too : (schema : Declared) (a b : List FedRow) (counts : List FedCounts) (records : List (List Field)) (lines : List (List ℕ)) → HaveSameFeederRows a b
+pub lines_too : (schema : Declared) (a b : List SourcedRow) (counts : List FedCounts) (records : List (List Field)) (lines : List (List ℕ)) → HaveSameFeederRows a b
     → AreLines schema a counts records lines → AreLines schema b counts records lines
 lines_too schema a b counts records lines alike are = record {
   answers = are.answers;
@@ -76,7 +76,7 @@ rows_at (file ∷ files) zero = refl
 rows_at (file ∷ files) (suc f) = rows_at files f
 
 -- so they are those of the files' rows, one file after the other
-pub file_by_file_too : (files : List RowFile) (rows : List FedRow) → IsInterleavingOf files rows → HaveSameFeederRows rows (file_by_file 0 (map (λ file. file.rows) files))
+pub file_by_file_too : (files : List RowFile) (rows : List SourcedRow) → IsInterleavingOf files rows → HaveSameFeederRows rows (file_by_file 0 (map (λ file. file.rows) files))
 file_by_file_too files rows mix f =
     let at : 0 + f ≡ f = omega arith in
     mix f ∙ (sym (rows_at files f) ∙ (sym (from_order 0 (map (λ (file : RowFile). file.rows) files) f)

@@ -5,7 +5,7 @@ use Rattle.bsi_syntax.specs.Bytes.{Bytes}
 use Rattle.bsi_syntax.specs.Lines.{fed_line}
 use Rattle.bsi_rows.specs.Fields.{Field}
 use Rattle.bsi_schema.specs.Columns.{Declared}
-use Rattle.bsi_rows.specs.Rows.{FedRow}
+use Rattle.bsi_rows.specs.Rows.{SourcedRow}
 use Rattle.bsi_input.specs.Formats.{Format}
 use Rattle.bsi_input.specs.RowFiles.{plain_format}
 use Rattle.bsi_input.specs.SchemaTexts.{IsSchemaText}
@@ -21,14 +21,14 @@ fed_lines n [] = []
 fed_lines n (counts ∷ more) = fed_line n counts.accepted counts.bad ∷ fed_lines (suc n) more
 
 -- The lines of a run: one for each row file, and one for each record of the asks file after them.
-pub record AreLines (schema : Declared) (rows : List FedRow) (counts : List FedCounts) (records : List (List Field))
+pub record AreLines (schema : Declared) (rows : List SourcedRow) (counts : List FedCounts) (records : List (List Field))
     (lines : List Bytes) : Type 0 where
   pub answers : List (List ℕ)
   pub each : AllZip (IsAskLine Script schema rows) records answers
   pub lines_are : lines ≡ fed_lines 0 counts ++ answers
 
 -- What a load of files of a format leaves: rows, and counts of each file. `texts` are the bytes of the files.
-pub record HasLoaded (format : Format) (limit : ℕ) (texts : List Bytes) (rows : List FedRow) (counts : List FedCounts)
+pub record HasLoaded (format : Format) (limit : ℕ) (texts : List Bytes) (rows : List SourcedRow) (counts : List FedCounts)
     : Type 0 where
   -- The rows and the number of bad records of each file.
   pub files : List RowFile

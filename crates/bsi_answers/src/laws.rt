@@ -6,7 +6,7 @@ ghost use Rattle.std.specs.Prelude.{◌≡◌, ◌↔◌, ℕ, List, map};
 ghost use Rattle.bsi_syntax.specs.Notations.{whole_texts};
 ghost use Rattle.bsi_rows.specs.Fields.{Field};
 ghost use Rattle.bsi_schema.specs.Columns.{Declared};
-ghost use Rattle.bsi_rows.specs.Rows.{FedRow};
+ghost use Rattle.bsi_rows.specs.Rows.{SourcedRow};
 ghost use Rattle.bsi_rows.specs.declared.question.Question.{Question};
 ghost use Rattle.bsi_aggregates.specs.declared.answering.QuestionReply.{QuestionReply};
 ghost use Rattle.bsi_input.specs.Pasts.{NoneIsNoMemory};
@@ -18,10 +18,10 @@ ghost use Rattle.bsi_answers.specs.Runs.{AreLines, IsRun};
 /// States that the lines of a run do not depend on how the rows of the files mix: what is a run's line for one list is
 /// so for each list with the same rows of each feeder, and so for the rows of the files, one file after the other.
 pub fn any_interleaving()
-    ensures alike { (schema : Declared) → (a b : List FedRow) → (counts : List FedCounts) →
+    ensures alike { (schema : Declared) → (a b : List SourcedRow) → (counts : List FedCounts) →
         (records : List (List Field)) → (lines : List (List ℕ)) → HaveSameFeederRows a b →
         AreLines schema a counts records lines → AreLines schema b counts records lines }
-    ensures order { (files : List RowFile) → (rows : List FedRow) → IsInterleavingOf files rows →
+    ensures order { (files : List RowFile) → (rows : List SourcedRow) → IsInterleavingOf files rows →
         HaveSameFeederRows rows (file_by_file 0 (map (λ file. file.rows) files)) }
 {}
 

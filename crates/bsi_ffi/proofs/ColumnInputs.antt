@@ -10,7 +10,7 @@ use Rattle.std.proofs.lemmas.List.Sums.{AllPass-from_list_all}
 use Rattle.bsi_digits.specs.Blocks.{value_entries, value_entry}
 use Rattle.bsi_schema.specs.Columns.{column_at, fits, is_accepted_by, NamedColumn}
 use Rattle.bsi_schema.proofs.Fitting.{fits-at}
-use Rattle.bsi_rows.specs.Rows.{column_of, entry_at, feeders_of, Entries, FedRow}
+use Rattle.bsi_rows.specs.Rows.{column_of, entry_at, feeders_of, Entries, SourcedRow}
 use Rattle.bsi_rows.specs.Table.{AreFitting}
 use Rattle.bsi_rows.proofs.BlockRows.{map_twice}
 use Rattle.bsi_ffi.specs.Columns.{are_columns, has_rows, input_entry, input_rows, row_count, row_of, AreAccepted, IsNotNullWord}
@@ -118,7 +118,7 @@ module _ (declared : List NamedColumn) (columns : List ColumnInput) (even : are_
   values_few = omega (arith, few, values_many (length declared) columns even c d within)
 
   -- has a value for each row
-  pub written-long : (rows : List FedRow) → feeders_of rows ≡ replicate n feeder → length (take m (drop from (get_or columns c d).values.now)) ≡ length rows
+  pub written-long : (rows : List SourcedRow) → feeders_of rows ≡ replicate n feeder → length (take m (drop from (get_or columns c d).values.now)) ≡ length rows
   written-long rows fed =
       values_from-long (get_or columns c d) from n m word many values_few is ∙ sym (sym (length-map rows (λ row. row.0)) ∙ ap length fed ∙ length-replicate n feeder)
 

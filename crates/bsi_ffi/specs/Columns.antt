@@ -4,7 +4,7 @@ use Rattle.std.specs.Int.{bit_at}
 use Rattle.std.specs.List.{list_all, prefix_len, range_with_len}
 use Rattle.bsi_ffi.specs.declared.columns.ColumnInput.{ColumnInput}
 use Rattle.bsi_schema.specs.Columns.{column_at, fits, is_accepted_by, NamedColumn}
-use Rattle.bsi_rows.specs.Rows.{entry_at, Entries, FedRow}
+use Rattle.bsi_rows.specs.Rows.{entry_at, Entries, SourcedRow}
 
 -- Bit r of a bitmap, the lowest bit of a byte first. A bitmap of no bytes has each bit.
 abbrev pub is_valid : List ℕ → ℕ → Bool
@@ -45,7 +45,7 @@ abbrev pub row_of : List ColumnInput → ℕ → Entries
 row_of columns r = map (input_entry r) columns
 
 -- The `count` rows from row `from` on, of a feeder.
-unfoldable pub input_rows : ℕ → List ColumnInput → ℕ → ℕ → List FedRow
+unfoldable pub input_rows : ℕ → List ColumnInput → ℕ → ℕ → List SourcedRow
 input_rows feeder columns from count = map (λ r. (feeder, row_of columns r)) (range_with_len from count)
 
 -- Each of the first n rows fits.

@@ -11,7 +11,7 @@ use Rattle.bsi_rows.specs.Table.{max_feeders}
 use Rattle.bsi_syntax.specs.Bytes.{KnownBytes}
 use Rattle.bsi_rows.specs.Fields.{Field}
 use Rattle.bsi_schema.specs.Columns.{Declared}
-use Rattle.bsi_rows.specs.Rows.{Entries, FedRow}
+use Rattle.bsi_rows.specs.Rows.{Entries, SourcedRow}
 use Rattle.bsi_input.specs.Formats.{Format}
 use Rattle.bsi_input.specs.SchemaTexts.{IsSchemaText}
 use Rattle.bsi_input.specs.RowFiles.{plain_format}
@@ -28,12 +28,12 @@ use Rattle.bsi_answers.specs.Runs.{AreLines, HasLoaded, IsRun}
 use Rattle.bsi_answers.specs.declared.fed.Fed.{Fed}
 
 -- the files that give the rows of a list
-files_from : List FedRow → ℕ → List Fed → List RowFile
+files_from : List SourcedRow → ℕ → List Fed → List RowFile
 files_from rows n [] = []
 files_from rows n (fed ∷ feds) = record { rows = rows_from n rows; bad = fed.bad } ∷ files_from rows (suc n) feds
 
 -- they are mixed in the list
-mixed_at : (rows : List FedRow) (n : ℕ) (feds : List Fed) (k : ℕ) → ((f : ℕ) → n + length feds ≤ f → rows_from f rows ≡ [])
+mixed_at : (rows : List SourcedRow) (n : ℕ) (feds : List Fed) (k : ℕ) → ((f : ℕ) → n + length feds ≤ f → rows_from f rows ≡ [])
     → rows_from (n + k) rows ≡ (file_at (files_from rows n feds) k).rows
 unfolding files_from
 mixed_at rows n [] k none = none (n + k) (omega arith)
@@ -46,7 +46,7 @@ abbrev fed_of : ℕ → ℕ → FedCounts
 fed_of accepted bad = record { accepted = accepted; bad = bad }
 
 module _ {R F : Type 0} (format_by : F → Format) (rem : R → KnownBytes) where
-  counts_from : (stops : Bool) (rows : List FedRow) (n : ℕ) (sources : List (SourceOf R F)) (feds : List Fed) → AreFedFrom format_by rem stops rows n sources feds
+  counts_from : (stops : Bool) (rows : List SourcedRow) (n : ℕ) (sources : List (SourceOf R F)) (feds : List Fed) → AreFedFrom format_by rem stops rows n sources feds
       → map file_counts (files_from rows n feds) ≡ map fed_counts feds
   unfolding files_from
   counts_from stops rows n [] [] fed = refl
@@ -55,7 +55,7 @@ module _ {R F : Type 0} (format_by : F → Format) (rem : R → KnownBytes) wher
   counts_from stops rows n (source ∷ sources) (x ∷ feds) fed =
       ap₂ (λ c cs. c ∷ cs) (ap (λ k. fed_of k x.bad) fed.0.many) (counts_from stops rows (suc n) sources feds fed.1)
 
-  pub as_many : (stops : Bool) (rows : List FedRow) (n : ℕ) (sources : List (SourceOf R F)) (feds : List Fed) → AreFedFrom format_by rem stops rows n sources feds
+  pub as_many : (stops : Bool) (rows : List SourcedRow) (n : ℕ) (sources : List (SourceOf R F)) (feds : List Fed) → AreFedFrom format_by rem stops rows n sources feds
       → length sources ≡ length feds
   as_many stops rows n [] [] fed = refl
   as_many stops rows n [] (x ∷ feds) fed = absurd fed
@@ -86,13 +86,13 @@ module _ {R F : Type 0} (format_by : F → Format) (rem : R → KnownBytes) wher
         bad_is = omega (arith, out.bad_is, no_bad, whole.bad);
       })
 
-  one_file : IsWholeLaw → (format : Format) (reader : R) (source : SourceOf R F) (text : List ℕ) (rows : List FedRow) (n : ℕ) (fed : Fed)
+  one_file : IsWholeLaw → (format : Format) (reader : R) (source : SourceOf R F) (text : List ℕ) (rows : List SourcedRow) (n : ℕ) (fed : Fed)
       → Begins format_by rem format reader source → rem reader ≡ Some text → IsFedFrom format_by rem false rows n source fed
       → IsRowFile format text (record { rows = rows_from n rows; bad = fed.bad })
   one_file law format reader source text rows n fed begins is has =
       row_file law format reader source text (rows_from n rows) fed.bad begins is (has.out refl begins.end_is)
 
-  all_files : IsWholeLaw → (format : Format) (readers : List R) (sources : List (SourceOf R F)) (texts : List (List ℕ)) (rows : List FedRow) (n : ℕ) (feds : List Fed)
+  all_files : IsWholeLaw → (format : Format) (readers : List R) (sources : List (SourceOf R F)) (texts : List (List ℕ)) (rows : List SourcedRow) (n : ℕ) (feds : List Fed)
       → AllZip (Begins format_by rem format) readers sources → map rem readers ≡ map (λ text. Some text) texts → AreFedFrom format_by rem false rows n sources feds
       → AllZip (IsRowFile format) texts (files_from rows n feds)
   unfolding files_from
@@ -110,7 +110,7 @@ module _ {R F : Type 0} (format_by : F → Format) (rem : R → KnownBytes) wher
 
   -- the rows of sources that were read out are those of the files
   pub loaded_of : IsWholeLaw → (stops : Bool) → stops ≡ false → (format : Format) (limit : ℕ) (readers : List R) (sources : List (SourceOf R F))
-      (texts : List (List ℕ)) (rows : List FedRow) (feds : List Fed) → AllZip (Begins format_by rem format) readers sources
+      (texts : List (List ℕ)) (rows : List SourcedRow) (feds : List Fed) → AllZip (Begins format_by rem format) readers sources
       → map rem readers ≡ map (λ text. Some text) texts → IsAllFed format_by rem stops limit rows sources feds
       → HasLoaded format limit texts rows (map fed_counts feds)
   loaded_of law stops never format limit readers sources texts rows feds begin is all =
@@ -127,7 +127,7 @@ module _ {R F : Type 0} (format_by : F → Format) (rem : R → KnownBytes) wher
       }
 
 -- the lines over the rows of files are those of a run over them
-pub run_of_loaded : (schema : Declared) (limit : ℕ) (declared : List ℕ) (texts : List (List ℕ)) (rows : List FedRow) (counts : List FedCounts)
+pub run_of_loaded : (schema : Declared) (limit : ℕ) (declared : List ℕ) (texts : List (List ℕ)) (rows : List SourcedRow) (counts : List FedCounts)
     → IsSchemaText declared schema limit → HasLoaded (plain_format schema) limit texts rows counts
     → (records : List (List Field)) (lines : List (List ℕ)) → AreLines schema rows counts records lines → IsRun declared texts records lines
 run_of_loaded schema limit declared texts rows counts schema_is loaded records lines are =

@@ -2,8 +2,8 @@
 use Rattle.std.proofs.Common.{◌≡◌, ℕ, ◌<◌, ◌≤◌, List, [], ◌∷◌, ◌++◌, Option, Some, None, OnOk, OnErr, IfErr, length, refl, sym, ap, ap₂, ◌∙◌, subst, arith}
 use Rattle.std.specs.Prelude.{◌≢◌, Result, Ok, Err, MatchOption}
 use Rattle.std.proofs.lemmas.List.{append-nil, length-map, map-append}
-use Rattle.bsi_rows.specs.RowBlocks.{entries_of, fed_rows_from, RowBlock}
-use Rattle.bsi_rows.specs.Rows.{Entries, FedRow}
+use Rattle.bsi_rows.specs.RowBlocks.{entries_of, sourced_from, RowBlock}
+use Rattle.bsi_rows.specs.Rows.{Entries, SourcedRow}
 use Rattle.bsi_input.specs.Formats.{Format}
 use Rattle.bsi_input.specs.Sources.{layout_by, source_by, Counts, Fills, GivesFirst, HasGivenRows, HasLeft, HasReadAll, HasReadRows, HasReadToFault, LayoutOf, SourceEnd, SourceOf}
 use Rattle.bsi_input.specs.declared.rows.SourceFault.{SourceFault}
@@ -13,7 +13,7 @@ use Rattle.bsi_files.proofs.Feeds.{is_open, passed_more, reads_ended, reads_open
 use Rattle.bsi_syntax.specs.Bytes.{KnownBytes}
 
 -- the entries of rows, each of which is a feeder's
-entries_fed : (feeder : ℕ) (rows : List Entries) → entries_of (fed_rows_from feeder rows) ≡ rows
+entries_fed : (feeder : ℕ) (rows : List Entries) → entries_of (sourced_from feeder rows) ≡ rows
 entries_fed feeder [] = refl
 entries_fed feeder (row ∷ rows) = ap (λ xs. row ∷ xs) (entries_fed feeder rows)
 
@@ -63,10 +63,10 @@ module _ {R F : Type 0} (format_by : F → Format) (rem : R → KnownBytes) (old
       (failed : (fault : SourceFault) → old.end ≡ Some (Err fault) → (r ≡ Err fault) × (new ≡ old))
       (ended : old.end ≡ Some (Ok tt) → (r ≡ Ok tt) × (new ≡ old) × (full ≡ start))
       (filled : old.end ≡ None → Fills rem (source_by format_by old) (source_by format_by new) feeder start full) where
-    all_fed : (going : old.end ≡ None) → full.rows ≡ fed_rows_from feeder (filled going).puts.rows
+    all_fed : (going : old.end ≡ None) → full.rows ≡ sourced_from feeder (filled going).puts.rows
     all_fed going =
         let fills = filled going in
-        ap (λ (block : RowBlock). block.rows) fills.puts.added ∙ ap (λ xs. xs ++ fed_rows_from feeder fills.puts.rows) empty
+        ap (λ (block : RowBlock). block.rows) fills.puts.added ∙ ap (λ xs. xs ++ sourced_from feeder fills.puts.rows) empty
 
     all_rows : (going : old.end ≡ None) → entries_of full.rows ≡ (filled going).puts.rows
     all_rows going = ap entries_of (all_fed going) ∙ entries_fed feeder (filled going).puts.rows
@@ -234,9 +234,9 @@ so_err (Ok x) is = tt
 so_err (Err x) is = is
 
 -- the entries of rows and of others behind them
-pub entries_append : (xs ys : List FedRow) → entries_of (xs ++ ys) ≡ entries_of xs ++ entries_of ys
-entries_append xs ys = map-append (λ (row : FedRow). row.1) xs ys
+pub entries_append : (xs ys : List SourcedRow) → entries_of (xs ++ ys) ≡ entries_of xs ++ entries_of ys
+entries_append xs ys = map-append (λ (row : SourcedRow). row.1) xs ys
 
-pub no_entries_of : (rows : List FedRow) → length rows ≡ 0 → entries_of rows ≡ []
+pub no_entries_of : (rows : List SourcedRow) → length rows ≡ 0 → entries_of rows ≡ []
 no_entries_of [] is = refl
 no_entries_of (row ∷ rows) is = absurd (omega (arith, is))

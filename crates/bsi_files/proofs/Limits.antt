@@ -8,7 +8,7 @@ use Rattle.std.proofs.lemmas.List.Sums.{sum_by-cons}
 use Rattle.bsi_rows.specs.Runs.{rows_from}
 use Rattle.bsi_system.specs.Rings.{FeederState, Sent}
 use Rattle.bsi_system.specs.LoaderSteps.{progress_at, AlwaysHolds, FeederProgress, LoaderState, SystemName}
-use Rattle.bsi_rows.specs.Rows.{Entries, FedRow}
+use Rattle.bsi_rows.specs.Rows.{Entries, SourcedRow}
 use Rattle.bsi_input.specs.Sources.{SourceOf}
 use Rattle.bsi_files.specs.Ends.{tasks, AreEndsOf, AreFeeders, IsFeedEnd}
 use Rattle.bsi_files.specs.Feeding.{HasFed}
@@ -31,7 +31,7 @@ at xs k = slice_index_or xs k []
 
 -- ---- how many rows lists have
 
-abbrev own : ℕ → List Entries → List FedRow
+abbrev own : ℕ → List Entries → List SourcedRow
 own n rows = map (λ row. (n, row)) rows
 
 own_long : (n : ℕ) (rows : List Entries) → length (own n rows) ≡ length rows

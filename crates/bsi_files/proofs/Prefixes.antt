@@ -1,7 +1,7 @@
 -- What a run has of each file, by what it has of its sources.
 use Rattle.std.proofs.Common.{◌≡◌, ℕ, suc, Bool, true, List, [], ◌∷◌, map, Some, IfSome, ap, sym, ◌∙◌, subst, arith}
 use Rattle.csv.specs.Reading.{reader_state, strip_bom}
-use Rattle.bsi_rows.specs.Rows.{Entries, FedRow}
+use Rattle.bsi_rows.specs.Rows.{Entries, SourcedRow}
 use Rattle.bsi_rows.specs.Runs.{rows_from}
 use Rattle.bsi_input.specs.Formats.{Format}
 use Rattle.bsi_input.specs.Sources.{layout_by, Counts, IsAfterHeader, SourceOf}
@@ -38,7 +38,7 @@ module _ {R F : Type 0} (format_by : F → Format) (rem : R → KnownBytes) wher
         bad_is = omega (arith, counted.bad_is, none, counted.read_so_far.bad);
       })
 
-  parts : (stops : Bool) (format : Format) (readers : List R) (sources : List (SourceOf R F)) (texts : List (List ℕ)) (rows : List FedRow) (n : ℕ) (feds : List Fed)
+  parts : (stops : Bool) (format : Format) (readers : List R) (sources : List (SourceOf R F)) (texts : List (List ℕ)) (rows : List SourcedRow) (n : ℕ) (feds : List Fed)
       → AllZip (Begins format_by rem format) readers sources → map rem readers ≡ map (λ text. Some text) texts → AreFedFrom format_by rem stops rows n sources feds
       → ArePrefixes format rows n texts (map fed_counts feds)
   parts stops format [] [] [] rows n [] begin is fed = tt
@@ -56,7 +56,7 @@ module _ {R F : Type 0} (format_by : F → Format) (rem : R → KnownBytes) wher
         parts stops format readers sources texts rows (suc n) feds begin.1 rest fed.1,
       )
 
-  pub loaded_prefixes : (stops : Bool) (format : Format) (limit : ℕ) (readers : List R) (sources : List (SourceOf R F)) (texts : List (List ℕ)) (rows : List FedRow) (feds : List Fed)
+  pub loaded_prefixes : (stops : Bool) (format : Format) (limit : ℕ) (readers : List R) (sources : List (SourceOf R F)) (texts : List (List ℕ)) (rows : List SourcedRow) (feds : List Fed)
       → AllZip (Begins format_by rem format) readers sources → map rem readers ≡ map (λ text. Some text) texts → IsAllFed format_by rem stops limit rows sources feds
       → HasLoadedPrefixes format limit texts rows (map fed_counts feds)
   loaded_prefixes stops format limit readers sources texts rows feds begin is all =

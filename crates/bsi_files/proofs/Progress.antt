@@ -6,7 +6,7 @@ use Rattle.std.proofs.lemmas.List.Elements.{All-head, All-tail}
 use Rattle.bsi_rows.specs.Runs.{rows_from}
 use Rattle.bsi_system.specs.Rings.{new_feeder_state, new_feeders, ChannelName, FeederState, Sent}
 use Rattle.bsi_system.specs.LoaderSteps.{progress_at, AlwaysHolds, FeederProgress, IsClosingOf, IsFeederOf, LoaderState, SystemName}
-use Rattle.bsi_rows.specs.Rows.{Entries, FedRow}
+use Rattle.bsi_rows.specs.Rows.{Entries, SourcedRow}
 use Rattle.bsi_input.specs.Sources.{SourceOf}
 use Rattle.bsi_files.specs.Ends.{tasks, AreClosings, AreEndsOf, AreFeeders, IsFeedEnd}
 use Rattle.bsi_files.specs.Feds.{AreFedFrom, IsAllFed, IsFedFrom}
@@ -149,7 +149,7 @@ module _ {R F : Type 0} (format_by : F → Format) (rem : R → KnownBytes) wher
         ap (λ k. slice_get system.channels k) number ∙ (own.0.1 ∙ ap (λ (l : ChannelName). Some l) (sym channel)),
       )
 
-  fed_one : (stops : Bool) (rows : List FedRow) (progress : List FeederProgress) (n : ℕ) (feeder : FeederState) (source : SourceOf R F) (end : FeedEnd) (fed : Fed)
+  fed_one : (stops : Bool) (rows : List SourcedRow) (progress : List FeederProgress) (n : ℕ) (feeder : FeederState) (source : SourceOf R F) (end : FeedEnd) (fed : Fed)
       → rows_from n rows ≡ (progress_at progress n).popped → feeder.sent ≡ [] → IsFeedEnd format_by rem feeder source end → IsLoaded progress n end fed → EndedWell stops fed
       → IsFedFrom format_by rem stops rows n source fed
   fed_one stops rows progress n feeder source end fed from fresh is loaded fine = by end.closing refl is.fed.sent loaded.popped
@@ -173,7 +173,7 @@ module _ {R F : Type 0} (format_by : F → Format) (rem : R → KnownBytes) wher
                 subst (λ xs. IsReadOut format_by rem source xs fed.bad) same (subst (λ b. IsReadOut format_by rem source has.rows b) (sym loaded.fed_is.bad) out);
           }
 
-  pub fed_all : (stops : Bool) (rows : List FedRow) (progress : List FeederProgress) (system : SystemName) (n : ℕ) (feeders : List FeederState) (sources : List (SourceOf R F))
+  pub fed_all : (stops : Bool) (rows : List SourcedRow) (progress : List FeederProgress) (system : SystemName) (n : ℕ) (feeders : List FeederState) (sources : List (SourceOf R F))
       (ends : List FeedEnd) (feds : List Fed)
       → ((f : ℕ) → rows_from f rows ≡ (progress_at progress f).popped) → length sources ≡ length feeders → AreFeeders system n feeders
       → AreEndsOf format_by rem (tasks feeders sources) ends → AreLoaded progress n ends feds → All (EndedWell stops) feds → AreFedFrom format_by rem stops rows n sources feds
@@ -195,7 +195,7 @@ module _ {R F : Type 0} (format_by : F → Format) (rem : R → KnownBytes) wher
       → AreFeeders system 0 feeders → AreEndsOf format_by rem (tasks feeders sources) ends → AreLoaded loaded.progress 0 ends feds → All (EndedWell stops) feds
       → length (loaded.published ++ loaded.staged) ≤ loaded.system.limit → system.limit ≡ limit → IsAllFed format_by rem stops limit (loaded.published ++ loaded.staged) sources feds
   all_fed stops limit loaded system feeders sources ends feds always same channels many own are popped fine few most =
-      let rows : List FedRow = loaded.published ++ loaded.staged in
+      let rows : List SourcedRow = loaded.published ++ loaded.staged in
       let long : length loaded.progress ≡ length sources = always.many ∙ (ap (λ (s : SystemName). length s.channels) same ∙ (channels ∙ sym many)) in
       record {
         each = fed_all stops rows loaded.progress system 0 feeders sources ends feds always.balanced many own are popped fine;

@@ -4,7 +4,7 @@ use Rattle.csv.specs.declared.parser.State.{State}
 use Rattle.bsi_schema.specs.Columns.{Declared}
 use Rattle.bsi_syntax.specs.Bytes.{Bytes}
 use Rattle.bsi_rows.specs.Fields.{Field}
-use Rattle.bsi_rows.specs.Rows.{Entries, FedRow}
+use Rattle.bsi_rows.specs.Rows.{Entries, SourcedRow}
 use Rattle.bsi_rows.specs.Runs.{rows_from}
 use Rattle.bsi_input.specs.Formats.{bad_count, good_rows, Format}
 use Rattle.bsi_input.specs.RowFiles.{plain_format}
@@ -35,7 +35,7 @@ pub record HasPrefix (format : Format) (bytes : Bytes) (rows : List Entries) (ba
   pub bad_is : bad ≡ bad_count format header records
 
 -- Each feeder from n on has as many rows as it accepted, and the good rows of its file begin with them.
-abbrev pub ArePrefixes : Format → List FedRow → ℕ → List (List ℕ) → List FedCounts → Type 0
+abbrev pub ArePrefixes : Format → List SourcedRow → ℕ → List (List ℕ) → List FedCounts → Type 0
 ArePrefixes format rows n [] [] = ⊤
 ArePrefixes format rows n (bytes ∷ texts) (counts ∷ others) =
     (length (rows_from n rows) ≡ counts.accepted) × HasPrefix format bytes (rows_from n rows) counts.bad
@@ -43,7 +43,7 @@ ArePrefixes format rows n (bytes ∷ texts) (counts ∷ others) =
 ArePrefixes format rows n texts counts = ⊥
 
 -- The rows are first good rows of each file and no others, within the limit.
-pub record HasLoadedPrefixes (format : Format) (limit : ℕ) (texts : List Bytes) (rows : List FedRow)
+pub record HasLoadedPrefixes (format : Format) (limit : ℕ) (texts : List Bytes) (rows : List SourcedRow)
     (counts : List FedCounts) : Type 0 where
   pub each : ArePrefixes format rows 0 texts counts
   pub none : (f : ℕ) → length texts ≤ f → rows_from f rows ≡ []
@@ -57,7 +57,7 @@ pub record IsPrefixRun (declared : List ℕ) (texts : List Bytes) (records : Lis
   -- The declared limit.
   pub limit : ℕ
   -- The loaded rows.
-  pub rows : List FedRow
+  pub rows : List SourcedRow
   -- The numbers of accepted rows and of bad records of each file.
   pub counts : List FedCounts
   -- The schema text declares this schema and this limit.

@@ -18,7 +18,7 @@ use Rattle.bsi_rows.specs.Answers.{IsAnswer, IsReply, IsTotal, missing_column}
 use Rattle.bsi_rows.specs.Numbering.{numbered_at}
 use Rattle.bsi_digits.specs.Ranks.{IsSignedRankOf}
 use Rattle.bsi_schema.specs.Columns.{Declared, AreNamed}
-use Rattle.bsi_rows.specs.Rows.{Entries, FedRow, entry_at, feeders_of, holds, row_at, selected, values}
+use Rattle.bsi_rows.specs.Rows.{Entries, SourcedRow, entry_at, feeders_of, holds, row_at, selected, values}
 use Rattle.bsi_rows.specs.declared.errors.AskError.{AskError}
 use Rattle.bsi_rows.specs.declared.errors.AskError.TheVariants as ask
 use Rattle.bsi_rows.specs.declared.query.Answer.{Answer}
@@ -46,7 +46,7 @@ use Rattle.bsi_rows.proofs.Ranks.{one_rank}
 
 -- ---- answers to queries of the same meaning
 
-module _ (p q : Pred) (same : (row : Entries) → holds p row ≡ holds q row) (rows : List FedRow) where
+module _ (p q : Pred) (same : (row : Entries) → holds p row ≡ holds q row) (rows : List SourcedRow) where
   pub same_selected : selected p rows ≡ selected q rows
   same_selected i = filter (λ r. same (row_at rows r).1 i) (range_with_len 0 (length rows))
 

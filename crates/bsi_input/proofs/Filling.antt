@@ -7,7 +7,7 @@ use Rattle.std.proofs.lemmas.List.{append-nil, append_assoc, map-append}
 use Rattle.std.proofs.lemmas.List.Elements.{All-nil, All-push}
 use Rattle.csv.specs.declared.reader.Reader.{Reader}
 use Rattle.bsi_schema.specs.Columns.{fits}
-use Rattle.bsi_rows.specs.RowBlocks.{fed_rows_from, with_block_row, RowBlock}
+use Rattle.bsi_rows.specs.RowBlocks.{sourced_from, with_block_row, RowBlock}
 use Rattle.bsi_rows.specs.Rows.{Entries}
 use Rattle.bsi_syntax.specs.Bytes.{KnownBytes}
 use Rattle.bsi_rows.specs.Fields.{Field}
@@ -36,7 +36,7 @@ put_row : (start now next : RowBlock) (feeder : ℕ) (rows : List Entries) (row 
 put_row start now next feeder rows row is more =
     more ∙ ap (λ (b : RowBlock). with_block_row b feeder row) is
     ∙ ap (λ fed. record start { rows = fed })
-    (append_assoc start.rows (fed_rows_from feeder rows) ((feeder, row) ∷ []) ∙ ap (λ fed. start.rows ++ fed) (sym (map-append (λ (r : Entries). (feeder, r)) rows (row ∷ []))))
+    (append_assoc start.rows (sourced_from feeder rows) ((feeder, row) ∷ []) ∙ ap (λ fed. start.rows ++ fed) (sym (map-append (λ (r : Entries). (feeder, r)) rows (row ∷ []))))
 
 module _ {R : Type 0} (rem : R → KnownBytes) (layout : Layout) where
   -- one record was read and counted, which is good

@@ -9,7 +9,7 @@ use Rattle.csv.specs.declared.parser.State.TheVariants as st
 use Rattle.csv.specs.declared.reader.Reader.{Reader}
 use Rattle.csv.specs.declared.reader.Trim.TheVariants as trim
 use Rattle.bsi_schema.specs.Columns.{fits, Declared}
-use Rattle.bsi_rows.specs.RowBlocks.{fed_rows_from, max_block_rows, RowBlock}
+use Rattle.bsi_rows.specs.RowBlocks.{sourced_from, max_block_rows, RowBlock}
 use Rattle.bsi_rows.specs.Rows.{Entries}
 use Rattle.bsi_syntax.specs.Bytes.{Bytes, KnownBytes}
 use Rattle.bsi_rows.specs.Fields.{Field}
@@ -209,7 +209,7 @@ GivesFirst rem old new next =
 
 -- A block with rows appended, each of one feeder.
 abbrev pub with_fed_rows : RowBlock → ℕ → List Entries → RowBlock
-with_fed_rows block feeder rows = record block { rows = block.rows ++ fed_rows_from feeder rows }
+with_fed_rows block feeder rows = record block { rows = block.rows ++ sourced_from feeder rows }
 
 -- How a source ended: all records that it had left were bad, or it failed.
 abbrev pub HasEndedBy : {R : Type 0} → (R → KnownBytes) → Layout → Reader R → Counts → Counts

@@ -2,7 +2,7 @@
 
 ghost use Rattle.std.specs.Prelude.{◌≡◌, ◌<◌, ◌≤◌, if◌then◌else◌, length, vec_capacity, Some, None, true, false, IfErr, IfOk, IsOk, IsTrue, OnOk};
 ghost use Rattle.csv.specs.Reading.{ReadRecord, error_kind};
-ghost use Rattle.csv.specs.Records.{fields_of};
+    ghost use Rattle.csv.specs.Records.{fields_of};
 ghost use Rattle.bsi_schema.specs.Columns.{fits};
 ghost use Rattle.bsi_rows.specs.RowBlocks.{max_block_rows, no_block_rows, with_block_row, HaveSameLimits};
 ghost use Rattle.bsi_input.specs.Formats.{fitting, given, good_row, in_order};

@@ -5,7 +5,7 @@ ghost use Rattle.csv.specs.Reading.{reader_state, source_of, strip_bom};
 ghost use Rattle.csv.specs.Records.{fields_of};
 ghost use Rattle.csv.specs.declared.parser.State.TheVariants as st;
 ghost use Rattle.bsi_input.specs.RecordSources.{FailsAt, ReadsNextRecord};
-ghost use Rattle.bsi_input.specs.Formats.{max_records};
+    ghost use Rattle.bsi_input.specs.Formats.{max_records};
 
 use crate::reading::{MAX_RECORDS, end_after_call, plain_reader, read_record};
 use crate::record_aware::{RecordAwareReader, has_buffered_record};

@@ -10,7 +10,7 @@ use Rattle.std.proofs.lemmas.Bool.Decides.{nat_tests}
 use Rattle.std.proofs.lemmas.List.{append_assoc, append-nil, get_or-set_other, get_or-set_same, length-set}
 use Rattle.std.proofs.lemmas.List.FromFn.{fill_by_all}
 use Rattle.circular_buffer.proofs.Places.{slice_get-append_right}
-use Rattle.bsi_rows.specs.Rows.{Entries, FedRow}
+use Rattle.bsi_rows.specs.Rows.{Entries, SourcedRow}
 use Rattle.bsi_rows.specs.Table.{Table}
 use Rattle.bsi_rows.specs.declared.errors.AskError.{AskError}
 use Rattle.bsi_rows.specs.declared.query.Answer.{Answer}
@@ -70,7 +70,7 @@ module _ (s : Shown) (e : Event) (r : Reply) where
               get_or-set_other s.feeders g f (after g) no_feeder not_same ∙ sym (left s f e r (others f other))
         ]))
 
-    changed : (rows : List FedRow) (w : Waiting) → rows ≡ loaded_row s [] e r → w ≡ feeder_after s ((e, r) ∷ []) g
+    changed : (rows : List SourcedRow) (w : Waiting) → rows ≡ loaded_row s [] e r → w ≡ feeder_after s ((e, r) ∷ []) g
         → record { index = record s.index { rows = s.index.rows ++ rows }; feeders = set s.feeders g w } ≡ shown_after s ((e, r) ∷ [])
     unfolding shown_after indexed
     changed rows w row_is w_is =

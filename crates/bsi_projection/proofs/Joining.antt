@@ -10,7 +10,7 @@ use Rattle.std.proofs.lemmas.List.{length-map}
 use Rattle.std.proofs.lemmas.List.Elements.{All-append, All-weaker, Contains-append_left, Contains-append_right, filter_map-append}
 use Rattle.bsi_digits.specs.WholeNumbers.{signed_sum, IsSignedGreatestOf, IsSignedLeastOf}
 use Rattle.bsi_rows.specs.Answers.{IsAnswer, IsTotal}
-use Rattle.bsi_rows.specs.Rows.{entry_at, holds, row_at, selected, values, FedRow}
+use Rattle.bsi_rows.specs.Rows.{entry_at, holds, row_at, selected, values, SourcedRow}
 use Rattle.bsi_rows.specs.declared.query.Answer.{Answer}
 use Rattle.bsi_rows.specs.declared.query.Answer.TheVariants.{Count as count_answer, Sum as sum_answer, Value as value_answer, Rows as rows_answer}
 use Rattle.bsi_rows.specs.declared.query.Pred.{Pred}
@@ -56,24 +56,24 @@ module _ {X : Type 0} (d : X) where
 
 module _ (pred : Pred) where
   -- what stands at the positions
-  rows-selected : (rows : List FedRow) → map (row_at rows) (selected pred rows) ≡ filter (λ row. holds pred row.1) rows
+  rows-selected : (rows : List SourcedRow) → map (row_at rows) (selected pred rows) ≡ filter (λ row. holds pred row.1) rows
   rows-selected rows =
       sym (filter-map (row_at rows) (λ row. holds pred row.1) (range_with_len 0 (length rows))) ∙ ap (filter (λ row. holds pred row.1)) (each (0, []) rows)
 
-  count-selected : (rows : List FedRow) → length (selected pred rows) ≡ length (filter (λ row. holds pred row.1) rows)
+  count-selected : (rows : List SourcedRow) → length (selected pred rows) ≡ length (filter (λ row. holds pred row.1) rows)
   count-selected rows = sym (length-map (selected pred rows) (row_at rows)) ∙ ap length (rows-selected rows)
 
-  values-selected : (c : ℕ) (rows : List FedRow) → values c pred rows ≡ filter_map (λ row. entry_at row.1 c) (filter (λ row. holds pred row.1) rows)
+  values-selected : (c : ℕ) (rows : List SourcedRow) → values c pred rows ≡ filter_map (λ row. entry_at row.1 c) (filter (λ row. holds pred row.1) rows)
   values-selected c rows =
       sym (filter_map-map (λ row. entry_at row.1 c) (row_at rows) (selected pred rows)) ∙ ap (filter_map (λ row. entry_at row.1 c)) (rows-selected rows)
 
-  pub count-joined : (xs ys : List FedRow) → length (selected pred (xs ++ ys)) ≡ length (selected pred xs) + length (selected pred ys)
+  pub count-joined : (xs ys : List SourcedRow) → length (selected pred (xs ++ ys)) ≡ length (selected pred xs) + length (selected pred ys)
   count-joined xs ys =
       count-selected (xs ++ ys) ∙ ap length (filter-append (λ row. holds pred row.1) xs ys)
       ∙ length-append (filter (λ row. holds pred row.1) xs) (filter (λ row. holds pred row.1) ys)
       ∙ ap₂ ◌+◌ (sym (count-selected xs)) (sym (count-selected ys))
 
-  pub values-joined : (c : ℕ) (xs ys : List FedRow) → values c pred (xs ++ ys) ≡ values c pred xs ++ values c pred ys
+  pub values-joined : (c : ℕ) (xs ys : List SourcedRow) → values c pred (xs ++ ys) ≡ values c pred xs ++ values c pred ys
   values-joined c xs ys =
       values-selected c (xs ++ ys) ∙ ap (filter_map (λ row. entry_at row.1 c)) (filter-append (λ row. holds pred row.1) xs ys)
       ∙ filter_map-append (λ row. entry_at row.1 c) (filter (λ row. holds pred row.1) xs) (filter (λ row. holds pred row.1) ys)
@@ -132,7 +132,7 @@ greatest-joined ns ms (Some x) (Some y) one two = elim (cases_Bool (int_le y x))
 
 -- ---- answers
 
-module _ (pred : Pred) (xs ys : List FedRow) where
+module _ (pred : Pred) (xs ys : List SourcedRow) where
   total-joined : (total : Total) (a b : Answer) → IsJoined total → IsTotal total pred xs a → IsTotal total pred ys b → IsTotal total pred (xs ++ ys) (joined total a b)
   total-joined Count a b may one two = ap₂ (joined Count) one two ∙ ap count_answer (sym (count-joined pred xs ys))
   total-joined (Sum c) a b may one two =
@@ -157,5 +157,5 @@ module _ (pred : Pred) (xs ys : List FedRow) where
   total-joined (Rank c rank) a b may one two = absurd may
   total-joined Rows a b may one two = absurd may
 
-pub answer-joined : (query : Query) (xs ys : List FedRow) (a b : Answer) → IsJoined query.total → IsAnswer query xs a → IsAnswer query ys b → IsAnswer query (xs ++ ys) (joined query.total a b)
+pub answer-joined : (query : Query) (xs ys : List SourcedRow) (a b : Answer) → IsJoined query.total → IsAnswer query xs a → IsAnswer query ys b → IsAnswer query (xs ++ ys) (joined query.total a b)
 answer-joined query xs ys a b may one two = total-joined query.pred xs ys query.total a b may one two

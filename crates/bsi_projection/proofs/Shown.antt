@@ -14,7 +14,7 @@ use Rattle.bsi_rows.specs.Answers.{IsAnswer, IsRows, IsTotal, IsValue}
 use Rattle.bsi_rows.specs.Numbering.{numbered_at, Origin}
 use Rattle.bsi_projection.proofs.Both.{along}
 use Rattle.bsi_projection.specs.Chosen.{chosen_entries, chosen_rows, position_in, renumbered, renumbered_query, renumbered_total, Shows}
-use Rattle.bsi_rows.specs.Rows.{column_of, feeders_of, holds, row_at, row_entries, selected, values, FedRow}
+use Rattle.bsi_rows.specs.Rows.{column_of, feeders_of, holds, row_at, row_entries, selected, values, SourcedRow}
 use Rattle.bsi_rows.specs.Table.{AreFitting}
 use Rattle.bsi_rows.specs.declared.query.Answer.{Answer}
 use Rattle.bsi_rows.specs.declared.query.Answer.TheVariants.{Count as count_answer, Sum as sum_answer}
@@ -44,7 +44,7 @@ module _ (by : ℕ → ℕ) (row narrow : Entries) (each : (c : ℕ) → entry_a
   holds-renumbered (Not' p pred) = ap not (holds-renumbered pred)
 
 -- the entry of a row, by its column
-entry-column : (rows : List FedRow) (r c : ℕ) → entry_at (row_entries (row_at rows r)) c ≡ get_or (column_of rows c) r None
+entry-column : (rows : List SourcedRow) (r c : ℕ) → entry_at (row_entries (row_at rows r)) c ≡ get_or (column_of rows c) r None
 entry-column rows r c = elim (cases_lt r (length rows)) [
   | inl below ↦ sym (get_or-map (λ row. entry_at (row_entries row) c) rows r (0, []) None below)
   | inr past ↦
@@ -53,7 +53,7 @@ entry-column rows r c = elim (cases_lt r (length rows)) [
       ∙ sym (get_or-eq_default (column_of rows c) None (omega (arith, length-map rows (λ row. entry_at (row_entries row) c), past)))
 ]
 
-module _ (by : ℕ → ℕ) (rows narrow : List FedRow) (show : Shows by rows narrow) where
+module _ (by : ℕ → ℕ) (rows narrow : List SourcedRow) (show : Shows by rows narrow) where
   pub entry-shown : (r c : ℕ) → entry_at (row_entries (row_at narrow r)) c ≡ entry_at (row_entries (row_at rows r)) (by c)
   entry-shown r c = entry-column narrow r c ∙ ap (λ es. get_or es r None) (show.columns c) ∙ sym (entry-column rows r (by c))
 
@@ -100,14 +100,14 @@ module _ (chosen : List ℕ) (count : ℕ) (es : Entries) (few : length es ≤ c
 
 -- the chosen columns of rows are shown
 module _ (chosen : List ℕ) (count : ℕ) where
-  column-chosen : (rows : List FedRow) → All (λ row. length (row_entries row) ≤ count) rows → (c : ℕ)
+  column-chosen : (rows : List SourcedRow) → All (λ row. length (row_entries row) ≤ count) rows → (c : ℕ)
       → column_of (chosen_rows chosen rows) c ≡ column_of rows (position_in chosen count c)
   column-chosen [] wide c = refl
   column-chosen (row ∷ rows) wide c =
       ap₂ (λ e es. e ∷ es) (entry-chosen chosen count row.1 (wide 0 row (omega arith)) c)
       (column-chosen rows (λ k d below. wide (suc k) d (omega arith)) c)
 
-  pub chosen-show : (rows : List FedRow) → All (λ row. length (row_entries row) ≤ count) rows → Shows (position_in chosen count) rows (chosen_rows chosen rows)
+  pub chosen-show : (rows : List SourcedRow) → All (λ row. length (row_entries row) ≤ count) rows → Shows (position_in chosen count) rows (chosen_rows chosen rows)
   chosen-show rows wide = record {
     feeders = map_twice (λ row. row.0) (λ row. (row.0, chosen_entries chosen row.1)) rows;
     columns = column-chosen rows wide;
@@ -128,18 +128,18 @@ module _ (columns : List NamedColumn) (chosen : List ℕ) (there : All (λ c. c 
       (length-map chosen (λ k. entry_at es k) ∙ sym long)
       (λ c below. taken-chosen es fit c (omega (arith, long, below)))
 
-  fitting-each : (rows : List FedRow) → AreFitting columns rows → (k : ℕ) (d : FedRow) → k < length rows
+  fitting-each : (rows : List SourcedRow) → AreFitting columns rows → (k : ℕ) (d : SourcedRow) → k < length rows
       → IsTrue (fits (map (λ k. column_at columns k) chosen) (row_entries (get_or (chosen_rows chosen rows) k d)))
   fitting-each rows fitting k d below =
-      subst (λ (row : FedRow). IsTrue (fits (map (λ c. column_at columns c) chosen) (row_entries row)))
+      subst (λ (row : SourcedRow). IsTrue (fits (map (λ c. column_at columns c) chosen) (row_entries row)))
       (sym (get_or-map (λ row. (row.0, chosen_entries chosen row.1)) rows k d d below))
       (fits-chosen (row_entries (get_or rows k d)) (fitting k d below))
 
-  pub fitting-chosen : (rows : List FedRow) → AreFitting columns rows → AreFitting (map (λ k. column_at columns k) chosen) (chosen_rows chosen rows)
+  pub fitting-chosen : (rows : List SourcedRow) → AreFitting columns rows → AreFitting (map (λ k. column_at columns k) chosen) (chosen_rows chosen rows)
   fitting-chosen rows fitting k d below =
-      let long : length (chosen_rows chosen rows) ≡ length rows = length-map rows (λ (row : FedRow). (row.0, chosen_entries chosen row.1)) in
+      let long : length (chosen_rows chosen rows) ≡ length rows = length-map rows (λ (row : SourcedRow). (row.0, chosen_entries chosen row.1)) in
       fitting-each rows fitting k d (omega (arith, long, below))
 
 -- rows that fit are no wider than the columns
-pub wide-fitting : (columns : List NamedColumn) (rows : List FedRow) → AreFitting columns rows → All (λ row. length (row_entries row) ≤ length columns) rows
+pub wide-fitting : (columns : List NamedColumn) (rows : List SourcedRow) → AreFitting columns rows → All (λ row. length (row_entries row) ≤ length columns) rows
 wide-fitting columns rows fitting k d below = omega (arith, fits-length columns (row_entries (get_or rows k d)) (fitting k d below))

@@ -2,7 +2,7 @@
 -- (`renumbered_query`).
 use Rattle.std.specs.Prelude.{◌≡◌, ℕ, List, map, slice_index_or}
 use Rattle.bsi_schema.specs.Columns.{column_at, entry_at, Declared, Entries}
-use Rattle.bsi_rows.specs.Rows.{column_of, feeders_of, row_entries, row_feeder, FedRow}
+use Rattle.bsi_rows.specs.Rows.{column_of, feeders_of, row_entries, row_feeder, SourcedRow}
 use Rattle.bsi_rows.specs.Table.{Table}
 use Rattle.bsi_rows.specs.declared.query.Pred.{Pred, All as every_row, Compare, Columns, Null, Both', Either', Not'}
 use Rattle.bsi_rows.specs.declared.query.Query.{Query}
@@ -38,7 +38,7 @@ renumbered_query by query = record { total = renumbered_total by query.total; pr
 -- ---- rows
 
 -- Rows show others by positions: each column c is column `by c` of the others, and the feeders are the same.
-pub record Shows (by : ℕ → ℕ) (rows narrow : List FedRow) : Type 0 where
+pub record Shows (by : ℕ → ℕ) (rows narrow : List SourcedRow) : Type 0 where
   pub feeders : feeders_of narrow ≡ feeders_of rows
   pub columns : (c : ℕ) → column_of narrow c ≡ column_of rows (by c)
 
@@ -51,7 +51,7 @@ abbrev pub chosen_entries : List ℕ → Entries → Entries
 chosen_entries chosen row = map (λ c. entry_at row c) chosen
 
 -- The rows in the chosen columns alone.
-abbrev pub chosen_rows : List ℕ → List FedRow → List FedRow
+abbrev pub chosen_rows : List ℕ → List SourcedRow → List SourcedRow
 chosen_rows chosen rows = map (λ row. (row_feeder row, chosen_entries chosen (row_entries row))) rows
 
 -- The schema of the chosen columns alone.

@@ -3,7 +3,7 @@
 
 ghost use Rattle.std.specs.Prelude.{◌↔◌, ◌<◌, ◌++◌, ℕ, List, All, length};
 ghost use Rattle.bsi_rows.specs.Answers.{IsAnswer};
-ghost use Rattle.bsi_rows.specs.Rows.{FedRow};
+ghost use Rattle.bsi_rows.specs.Rows.{SourcedRow};
 ghost use Rattle.bsi_rows.specs.Table.{AreFitting, Table};
 ghost use Rattle.bsi_rows.specs.declared.query.Answer.{Answer};
 ghost use Rattle.bsi_rows.specs.declared.query.Query.{Query};
@@ -13,7 +13,7 @@ ghost use Rattle.bsi_projection.specs.Joined.{joined, IsJoined};
 /// States that rows that show columns of others answer a query just as these answer the renumbered query; and that the
 /// rows of chosen columns fit these columns, and show them.
 pub fn chosen_columns_answer_alike()
-    ensures answers { (by : ℕ → ℕ) → (rows narrow : List FedRow) → (query : Query) →
+    ensures answers { (by : ℕ → ℕ) → (rows narrow : List SourcedRow) → (query : Query) →
         (answer : Answer) → Shows by rows narrow →
         IsAnswer query narrow answer ↔ IsAnswer (renumbered_query by query) rows answer }
     ensures shown { (t : Table) → (chosen : List ℕ) → AreFitting t.schema.columns t.rows →
@@ -25,7 +25,7 @@ pub fn chosen_columns_answer_alike()
 
 /// States that the count, the sum, the least and the greatest number over rows are joined of those over two parts.
 pub fn answers_over_parts_are_joined()
-    ensures { (query : Query) → (rows more : List FedRow) → (answer other : Answer) →
+    ensures { (query : Query) → (rows more : List SourcedRow) → (answer other : Answer) →
         IsJoined query.total → IsAnswer query rows answer → IsAnswer query more other →
         IsAnswer query (rows ++ more) (joined query.total answer other) }
 {}

@@ -9,7 +9,7 @@ use Rattle.std.proofs.lemmas.Option.{option_and_then_some}
 use Rattle.bsi_schema.specs.Columns.{column_at, Declared}
 use Rattle.bsi_rows.specs.Answers.{columns_of_pred, columns_of_total, missing_of}
 use Rattle.bsi_rows.specs.Fields.{Field}
-use Rattle.bsi_rows.specs.Rows.{feeders_of, FedRow}
+use Rattle.bsi_rows.specs.Rows.{feeders_of, SourcedRow}
 use Rattle.bsi_rows.specs.Table.{AreFitting}
 use Rattle.bsi_rows.specs.declared.query.Pred.{Pred, All as every_row, Compare, Columns, Null, Both', Either', Not'}
 use Rattle.bsi_rows.specs.declared.query.Query.{Query}
@@ -94,7 +94,7 @@ module _ (by back : ℕ → ℕ) where
   items-again [] again = refl
   items-again (c ∷ cs) again = ap₂ (λ k ks. k ∷ ks) (first-again c cs again) (items-again cs (rest-again c cs again))
 
-  module _ (Of : NumberTexts) (schema : Declared) (rows : List FedRow) where
+  module _ (Of : NumberTexts) (schema : Declared) (rows : List SourcedRow) where
     abbrev Answers : Question → QuestionReply → Bytes → Type 0
     Answers asked replied line = IsQuestionReply schema rows asked replied × IsReplyLine Of (feeders_of rows) asked replied line
 
@@ -158,7 +158,7 @@ module _ (words : Words) (fields : List Field) (chosen : List ℕ) (count : ℕ)
 
 -- ---- lines
 
-module _ (grammar : Grammar) (words : Words) (Of : NumberTexts) (schema : Declared) (rows : List FedRow) (chosen : List ℕ) (fields : List Field) (line : Bytes)
+module _ (grammar : Grammar) (words : Words) (Of : NumberTexts) (schema : Declared) (rows : List SourcedRow) (chosen : List ℕ) (fields : List Field) (line : Bytes)
     (there : All (λ c. c < length schema.columns) chosen) (are : AreChosen words fields chosen) (fitting : AreFitting schema.columns rows) where
   abbrev count : ℕ
   count = length schema.columns
@@ -175,7 +175,7 @@ module _ (grammar : Grammar) (words : Words) (Of : NumberTexts) (schema : Declar
   abbrev narrow : Declared
   narrow = chosen_schema chosen schema
 
-  abbrev shown : List FedRow
+  abbrev shown : List SourcedRow
   shown = chosen_rows chosen rows
 
   show : Shows by rows shown

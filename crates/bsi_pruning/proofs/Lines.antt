@@ -8,7 +8,7 @@ use Rattle.bsi_schema.specs.Columns.{entry_at, Declared}
 use Rattle.bsi_syntax.specs.Bytes.{Bytes}
 use Rattle.bsi_syntax.specs.Notations.{NumberTexts}
 use Rattle.bsi_rows.specs.Answers.{IsTotal}
-use Rattle.bsi_rows.specs.Rows.{feeders_of, row_entries, FedRow}
+use Rattle.bsi_rows.specs.Rows.{feeders_of, row_entries, SourcedRow}
 use Rattle.bsi_rows.specs.declared.query.Answer.{Answer}
 use Rattle.bsi_rows.specs.declared.query.Answer.TheVariants.{Count as count_answer, Sum as sum_answer, Value as value_answer, Rows as rows_answer}
 use Rattle.bsi_rows.specs.declared.query.Pred.{Pred}
@@ -62,7 +62,7 @@ kept-all P (false ∷ found) (x ∷ xs) all = kept-all P found xs (All-tail P x 
 contains-map : {X Y : Type 0} (f : X → Y) (xs : List X) (x : X) → Contains xs x → Contains (map f xs) (f x)
 contains-map f xs x has = (has.0, omega (arith, length-map xs f, has.1), get_or-map f xs has.0 x (f x) has.1 ∙ ap f has.2)
 
-key-long : (found : List Bool) (cs : List ℕ) (rows : List FedRow) (groups : List Grouped) → All (Contains (selected_keys found cs rows)) (keys_of groups)
+key-long : (found : List Bool) (cs : List ℕ) (rows : List SourcedRow) (groups : List Grouped) → All (Contains (selected_keys found cs rows)) (keys_of groups)
     → (group : Grouped) → Contains groups group → length group.entries ≡ length cs
 key-long found cs rows groups had group has =
     let Long : List (Option ℤ) → Type 0 = λ key. length key ≡ length cs in
@@ -103,7 +103,7 @@ counted n (sum_answer m) is = cc
 counted n (value_answer m) is = cc
 counted n (rows_answer m) is = tt
 
-suits-at : (total : Total) (found : List Bool) (rows : List FedRow) (answer : Answer) → IsTotalAt total found rows answer → Suits total answer
+suits-at : (total : Total) (found : List Bool) (rows : List SourcedRow) (answer : Answer) → IsTotalAt total found rows answer → Suits total answer
 suits-at Count found rows answer is = counted _ answer is
 suits-at (Sum c) found rows answer is = tt
 suits-at (Least c) found rows answer is = tt
@@ -115,7 +115,7 @@ suits-at Rows found rows (sum_answer n) is = is
 suits-at Rows found rows (value_answer n) is = is
 suits-at Rows found rows (rows_answer n) is = tt
 
-suits-total : (total : Total) (pred : Pred) (rows : List FedRow) (answer : Answer) → IsTotal total pred rows answer → Suits total answer
+suits-total : (total : Total) (pred : Pred) (rows : List SourcedRow) (answer : Answer) → IsTotal total pred rows answer → Suits total answer
 suits-total Count pred rows answer is = counted _ answer is
 suits-total (Sum c) pred rows answer is = tt
 suits-total (Least c) pred rows answer is = tt
@@ -127,7 +127,7 @@ suits-total Rows pred rows (sum_answer n) is = is
 suits-total Rows pred rows (value_answer n) is = is
 suits-total Rows pred rows (rows_answer n) is = tt
 
-suits-arranged : (query : Query) (rows : List FedRow) (answer : Answer) → IsArrangedAnswer query rows answer → Suits query.total answer
+suits-arranged : (query : Query) (rows : List SourcedRow) (answer : Answer) → IsArrangedAnswer query rows answer → Suits query.total answer
 suits-arranged query rows (count_answer n) is = suits-free query.total (count_answer n) tt
 suits-arranged query rows (sum_answer n) is = suits-total query.total query.pred rows (sum_answer n) is
 suits-arranged query rows (value_answer n) is = suits-total query.total query.pred rows (value_answer n) is
@@ -206,7 +206,7 @@ module _ (by : ℕ → ℕ) (Of : NumberTexts) where
     },
   )
 
-  groups-line : (total : Total) (found : List Bool) (cs : List ℕ) (rows : List FedRow) (made : GroupList) (line : Bytes) → AreGroups total found cs rows made.groups
+  groups-line : (total : Total) (found : List Bool) (cs : List ℕ) (rows : List SourcedRow) (made : GroupList) (line : Bytes) → AreGroups total found cs rows made.groups
       → IsGroupsLine (λ c. Of (by c)) cs (total_column total) (Ok made) line ↔ IsGroupsLine Of (map by cs) (total_column (renumbered_total by total)) (Ok made) line
   groups-line total found cs rows made line are =
       let one : (group : Grouped) → Contains made.groups group → (text : Bytes)
@@ -221,7 +221,7 @@ module _ (by : ℕ → ℕ) (Of : NumberTexts) where
       )
 
   -- a reply has the lines that it has as one to the renumbered question
-  pub line-shown : (rows shown : List FedRow) → Shows by rows shown → (narrow : Declared) (asked : Question) (replied : QuestionReply) (line : Bytes)
+  pub line-shown : (rows shown : List SourcedRow) → Shows by rows shown → (narrow : Declared) (asked : Question) (replied : QuestionReply) (line : Bytes)
       → IsQuestionReply narrow shown asked replied
       → IsReplyLine (λ c. Of (by c)) (feeders_of shown) asked replied line ↔ IsReplyLine Of (feeders_of rows) (renumbered_question by asked) replied line
   line-shown rows shown show narrow (question.Total query) (reply.Total (Ok answer)) line is = total-line query.total answer line (suits-arranged query shown answer is.1)

@@ -16,7 +16,7 @@ use Rattle.bsi_digits.specs.declared.extreme.Extreme.{Extreme}
 use Rattle.bsi_schema.specs.Columns.{entry_at, Declared, Entries}
 use Rattle.bsi_rows.specs.Answers.{missing_column, missing_of, CountsConjunction, IsConjunction, IsRows, IsValue}
 use Rattle.bsi_rows.specs.Numbering.{numbered_at, Origin}
-use Rattle.bsi_rows.specs.Rows.{column_of, holds, row_at, row_entries, FedRow}
+use Rattle.bsi_rows.specs.Rows.{column_of, holds, row_at, row_entries, SourcedRow}
 use Rattle.bsi_rows.specs.declared.errors.AskError.{AskError}
 use Rattle.bsi_rows.specs.declared.errors.AskError.TheVariants.{BadColumn, NoMemory}
 use Rattle.bsi_rows.specs.declared.query.Answer.{Answer}
@@ -85,7 +85,7 @@ module _ (by : ℕ → ℕ) where
 
 -- ---- groups, from totals and keys that agree
 
-module _ (total other : Total) (found : List Bool) (cs ds : List ℕ) (xs ys : List FedRow) (keys : map (row_key cs) xs ≡ map (row_key ds) ys)
+module _ (total other : Total) (found : List Bool) (cs ds : List ℕ) (xs ys : List SourcedRow) (keys : map (row_key cs) xs ≡ map (row_key ds) ys)
     (with : (entries : List (Option ℤ)) → rows_with found cs xs entries ≡ rows_with found ds ys entries)
     (totals : (some : List Bool) (answer : Answer) → IsTotalAt total some xs answer → IsTotalAt other some ys answer) where
   groups-alike : (groups : List Grouped) → AreGroups total found cs xs groups → AreGroups other found ds ys groups
@@ -100,7 +100,7 @@ module _ (total other : Total) (found : List Bool) (cs ds : List ℕ) (xs ys : L
 
 -- ---- what is told of the rows
 
-module _ (by : ℕ → ℕ) (rows shown : List FedRow) (show : Shows by rows shown) where
+module _ (by : ℕ → ℕ) (rows shown : List SourcedRow) (show : Shows by rows shown) where
   -- what each row gives
   each-shown : {X : Type 0} (d : X) (f g : Entries → X) → ((r : ℕ) → f (row_entries (row_at shown r)) ≡ g (row_entries (row_at rows r)))
       → map (λ row. f (row_entries row)) shown ≡ map (λ row. g (row_entries row)) rows

@@ -10,7 +10,7 @@ use Rattle.std.proofs.lemmas.List.{append-nil, take-append-drop, take-append-le,
 use Rattle.std.proofs.lemmas.List.Elements.{filter_map-append}
 use Rattle.std.proofs.lemmas.List.FromFn.{length-map-range_with_len, get_or-map-range_with_len}
 use Rattle.std.proofs.lemmas.Option.{slice_get-get_or}
-use Rattle.bsi_rows.specs.Rows.{Entries, FedRow}
+use Rattle.bsi_rows.specs.Rows.{Entries, SourcedRow}
 use Rattle.bsi_rows.specs.declared.event.Event.{Event}
 use Rattle.bsi_rows.specs.declared.event.Event.TheVariants.{Submit, Load, Close, Ask}
 use Rattle.bsi_rows.specs.declared.event.Reply.{Reply}
@@ -82,7 +82,7 @@ balanced_start s f =
       indexed_are = sym (take-append_seam rows more);
     }
 
-abbrev from_of : ℕ → FedRow → Option Entries
+abbrev from_of : ℕ → SourcedRow → Option Entries
 from_of f row = cond (nat_eq row.0 f) (Some row.1) None
 
 module _ (s : Shown) (f : ℕ) (past : List Done) (before : IsBalanced s f past) (e : Event) (r : Reply) where

@@ -8,7 +8,7 @@ use Rattle.std.proofs.lemmas.List.FromFn.{fill_by_all, get_or-map-range_with_len
 use Rattle.std.proofs.lemmas.Option.{slice_get-get_or}
 use Rattle.std.proofs.Math.Seq.{get_or-append_seam}
 use Rattle.bsi_rows.specs.RowBlocks.{entries_of, row_of_cells, rows_of_cells}
-use Rattle.bsi_rows.specs.Rows.{column_of, entry_at, feeders_of, Entries, FedRow}
+use Rattle.bsi_rows.specs.Rows.{column_of, entry_at, feeders_of, Entries, SourcedRow}
 
 pub map_twice : {X Y Z : Type 0} (f : Y → Z) (g : X → Y) (xs : List X) → map f (map g xs) ≡ map (λ x. f (g x)) xs
 map_twice f g [] = refl
@@ -68,10 +68,10 @@ module _ (columns : ℕ) (row_feeders : List ℕ) (entry : ℕ → ℕ → Optio
       ∙ ap Some (get_or-map-range_with_len (row_of_cells columns entry) 0 (length row_feeders) r r [] below (omega arith))
 
   -- a fact of each row, by its feeder and its entries
-  pub All-rows_of_cells : (P : FedRow → Type 0) → ((r : ℕ) → r < length row_feeders → P (slice_index row_feeders r, row_of_cells columns entry r)) → All P (rows_of_cells columns row_feeders entry)
+  pub All-rows_of_cells : (P : SourcedRow → Type 0) → ((r : ℕ) → r < length row_feeders → P (slice_index row_feeders r, row_of_cells columns entry r)) → All P (rows_of_cells columns row_feeders entry)
   unfolding rows_of_cells
   All-rows_of_cells P each =
-      let row : ℕ → FedRow = λ r. (slice_index row_feeders r, row_of_cells columns entry r) in
+      let row : ℕ → SourcedRow = λ r. (slice_index row_feeders r, row_of_cells columns entry r) in
       All-from_get_or P (map row (range_with_len 0 (length row_feeders))) (0, [])
       (λ r below.
       let there : r < length row_feeders = omega (arith, below, length-map-range_with_len row 0 (length row_feeders)) in
@@ -104,9 +104,9 @@ module _ (columns : ℕ) (row_feeders : List ℕ) (old new : ℕ → ℕ → Opt
   pub rows_of_cells-more : rows_of_cells columns (row_feeders ++ feeder ∷ []) new ≡ rows_of_cells columns row_feeders old ++ (feeder, row) ∷ []
   unfolding rows_of_cells
   rows_of_cells-more =
-      let now : ℕ → FedRow = λ r. (slice_index (row_feeders ++ feeder ∷ []) r, row_of_cells columns new r) in
-      let then : ℕ → FedRow = λ r. (slice_index row_feeders r, row_of_cells columns old r) in
-      let pair : ℕ → Entries → FedRow = λ s entries. (s, entries) in
+      let now : ℕ → SourcedRow = λ r. (slice_index (row_feeders ++ feeder ∷ []) r, row_of_cells columns new r) in
+      let then : ℕ → SourcedRow = λ r. (slice_index row_feeders r, row_of_cells columns old r) in
+      let pair : ℕ → Entries → SourcedRow = λ s entries. (s, entries) in
       let n = length row_feeders in
       let earlier : map now (range_with_len 0 n) ≡ map then (range_with_len 0 n) =
       same_below (0, []) now then n (λ r below. ap₂ pair (get_or_append_left row_feeders (feeder ∷ []) 0 r below) (row_of_cells-same columns row_feeders old new r (λ c within. others c r below))) in

@@ -12,7 +12,7 @@ use Rattle.bsi_rows.specs.declared.query.Query.{Query}
 use Rattle.bsi_rows.specs.declared.query.Total.{Total}
 use Rattle.bsi_rows.specs.declared.query.Total.TheVariants.{Count, Sum, Least, Greatest, Median, Rank, Rows}
 use Rattle.bsi_schema.specs.Columns.{Declared}
-use Rattle.bsi_rows.specs.Rows.{feeders_of, selected, values, FedRow}
+use Rattle.bsi_rows.specs.Rows.{SourcedRow, feeders_of, selected, values}
 
 -- the answer is a number or none, as `Is` describes
 abbrev pub IsValue : (Option ℤ → Type 0) → Answer → Type 0
@@ -25,7 +25,7 @@ IsRows places (rows_answer listed) = listed.items ≡ places
 IsRows places answer = ⊥
 
 -- the answer is the total of the rows that the predicate selects
-abbrev pub IsTotal : Total → Pred → List FedRow → Answer → Type 0
+abbrev pub IsTotal : Total → Pred → List SourcedRow → Answer → Type 0
 IsTotal Count pred rows answer = answer ≡ count_answer (length (selected pred rows))
 IsTotal (Sum c) pred rows answer = answer ≡ sum_answer (signed_sum (values c pred rows))
 IsTotal (Least c) pred rows answer = IsValue (IsSignedLeastOf (values c pred rows)) answer
@@ -35,7 +35,7 @@ IsTotal (Rank c rank) pred rows answer = IsValue (IsSignedRankOf rank (values c 
 IsTotal Rows pred rows answer = IsRows (numbered_at (feeders_of rows) (selected pred rows)) answer
 
 -- the answer is that to the query
-abbrev pub IsAnswer : Query → List FedRow → Answer → Type 0
+abbrev pub IsAnswer : Query → List SourcedRow → Answer → Type 0
 IsAnswer query rows answer = IsTotal query.total query.pred rows answer
 
 -- the predicate has no `or` and no `not`
@@ -85,7 +85,7 @@ abbrev pub missing_column : ℕ → Query → Option ℕ
 missing_column count query = missing_of count (columns_of_total query.total ++ columns_of_pred query.pred)
 
 -- the reply to a query over rows of a schema: the first missing column; or the answer; or that memory was refused
-abbrev pub IsReply : Declared → List FedRow → Query → Result Answer AskError → Type 0
+abbrev pub IsReply : Declared → List SourcedRow → Query → Result Answer AskError → Type 0
 IsReply schema rows query (Ok answer) =
     (missing_column (length schema.columns) query ≡ None) × IsAnswer query rows answer
 IsReply schema rows query (Err (BadColumn c)) = missing_column (length schema.columns) query ≡ Some c

@@ -7,7 +7,7 @@ use Rattle.bsi_digits.specs.Offsets.{number_of}
 use Rattle.bsi_schema.specs.Columns.{fits, Declared, IsColumn, NamedColumn}
 use Rattle.bsi_schema.specs.Limits.{limits_of}
 use Rattle.bsi_schema.specs.declared.limits.Limits.{Limits}
-use Rattle.bsi_rows.specs.Rows.{column_of, feeders_of, row_entries, Entries, FedRow}
+use Rattle.bsi_rows.specs.Rows.{column_of, feeders_of, row_entries, Entries, SourcedRow}
 
 -- the most rows of a block
 abbrev pub max_block_rows : ℕ
@@ -17,7 +17,7 @@ max_block_rows = 64
 pub record RowBlock : Type 0 where
   pub schema : Declared
   pub feeders : ℕ
-  pub rows : List FedRow
+  pub rows : List SourcedRow
 
 abbrev pub no_block_rows : Declared → ℕ → RowBlock
 no_block_rows schema feeders = record { schema = schema; feeders = feeders; rows = [] }
@@ -49,12 +49,12 @@ pub record HasColumn (old new : RowBlock) (c : ℕ) (entries : List (Option ℤ)
   pub others : (k : ℕ) → k ≢ c → column_of new.rows k ≡ column_of old.rows k
 
 -- the entries of each row, without its feeder
-abbrev pub entries_of : List FedRow → List Entries
+abbrev pub entries_of : List SourcedRow → List Entries
 entries_of rows = map (λ row. row_entries row) rows
 
 -- the rows, each as a row of the feeder
-abbrev pub fed_rows_from : ℕ → List Entries → List FedRow
-fed_rows_from feeder rows = map (λ row. (feeder, row)) rows
+abbrev pub sourced_from : ℕ → List Entries → List SourcedRow
+sourced_from feeder rows = map (λ row. (feeder, row)) rows
 
 -- the columns of two schemas accept the same numbers
 abbrev pub HaveSameLimits : Declared → Declared → Type 0
@@ -96,7 +96,7 @@ unfoldable pub row_of_cells : ℕ → (ℕ → ℕ → Option ℤ) → ℕ → E
 row_of_cells columns entry r = map (λ c. entry c r) (range_with_len 0 columns)
 
 -- the rows of a block, each with its feeder from the list
-unfoldable pub rows_of_cells : ℕ → List ℕ → (ℕ → ℕ → Option ℤ) → List FedRow
+unfoldable pub rows_of_cells : ℕ → List ℕ → (ℕ → ℕ → Option ℤ) → List SourcedRow
 rows_of_cells columns row_feeders entry =
     map (λ r. (slice_index row_feeders r, row_of_cells columns entry r)) (range_with_len 0 (length row_feeders))
 

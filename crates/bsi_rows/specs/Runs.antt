@@ -3,7 +3,7 @@
 use Rattle.std.specs.Prelude.{◌≡◌, ℕ, ◌+◌, Bool, true, false, ◌||◌, List, [], ◌∷◌, ◌++◌, Some, None, Ok, length, map, take, drop, filter_map, nat_eq, if◌then◌else◌, slice_get, ⊤}
 use Rattle.std.specs.List.{range_with_len}
 use Rattle.std.specs.Option.{option_map, option_to_list}
-use Rattle.bsi_rows.specs.Rows.{row_entries, row_feeder, Entries, FedRow}
+use Rattle.bsi_rows.specs.Rows.{row_entries, row_feeder, Entries, SourcedRow}
 use Rattle.bsi_rows.specs.declared.event.Event.{Event}
 use Rattle.bsi_rows.specs.declared.event.Event.TheVariants.{Submit, Load, Close}
 use Rattle.bsi_rows.specs.declared.event.Reply.{Reply}
@@ -21,7 +21,7 @@ abbrev pub reply_of : Done → Reply
 reply_of done = done.1
 
 -- the rows of a feeder, in their order
-abbrev pub rows_from : ℕ → List FedRow → List Entries
+abbrev pub rows_from : ℕ → List SourcedRow → List Entries
 rows_from f rows = filter_map (λ row. if nat_eq (row_feeder row) f then Some (row_entries row) else None) rows
 
 -- ---- the accepted rows of a feeder, after those that the feeder had at the start
@@ -46,12 +46,12 @@ loads s f (done ∷ past) = loads s f past + loaded_by f (event_of done) (reply_
 
 -- ---- the indexed rows: a load adds the first row of its feeder that was accepted and not loaded before
 
-abbrev pub loaded_row : Shown → List Done → Event → Reply → List FedRow
+abbrev pub loaded_row : Shown → List Done → Event → Reply → List SourcedRow
 loaded_row s past (Load g) (Loaded (Ok position)) =
     option_to_list (option_map (λ row. (g, row)) (slice_get (accepted s g past) (loads s g past)))
 loaded_row s past event reply = []
 
-unfoldable pub indexed : Shown → List Done → List FedRow
+unfoldable pub indexed : Shown → List Done → List SourcedRow
 indexed s [] = s.index.rows
 indexed s (done ∷ past) = indexed s past ++ loaded_row s past (event_of done) (reply_of done)
 

@@ -2,7 +2,7 @@
 use Rattle.std.specs.Prelude.{◌≡◌, ℕ, ◌^◌, ◌<◌, List, [], ◌∷◌, ◌++◌, All, map, ℤ, IsTrue}
 use Rattle.bsi_schema.specs.declared.form.Form.{Form}
 use Rattle.bsi_schema.specs.Columns.{fits, Declared, NamedColumn}
-use Rattle.bsi_rows.specs.Rows.{row_entries, row_feeder, Entries, FedRow}
+use Rattle.bsi_rows.specs.Rows.{row_entries, row_feeder, Entries, SourcedRow}
 
 -- the most feeders of one index
 abbrev pub max_feeders : ℕ
@@ -25,16 +25,16 @@ pub record Table : Type 0 where
   -- the most rows that the index takes
   pub limit : ℕ
   -- the rows in order, each with its feeder
-  pub rows : List FedRow
+  pub rows : List SourcedRow
 
-abbrev pub table : Declared → ℕ → ℕ → List FedRow → Table
+abbrev pub table : Declared → ℕ → ℕ → List SourcedRow → Table
 table schema feeders limit rows = record { schema = schema; feeders = feeders; limit = limit; rows = rows }
 
 abbrev pub no_rows : Declared → ℕ → ℕ → Table
 no_rows schema feeders limit = table schema feeders limit []
 
 -- the table with more rows, the last, in their order
-abbrev pub with_rows : Table → List FedRow → Table
+abbrev pub with_rows : Table → List SourcedRow → Table
 with_rows table rows = record table { rows = table.rows ++ rows }
 
 -- the table with one more row, the last
@@ -42,11 +42,11 @@ abbrev pub with_row : Table → ℕ → Entries → Table
 with_row table feeder row = with_rows table ((feeder, row) ∷ [])
 
 -- each row fits the columns
-abbrev pub AreFitting : List NamedColumn → List FedRow → Type 0
+abbrev pub AreFitting : List NamedColumn → List SourcedRow → Type 0
 AreFitting columns rows = All (λ row. IsTrue (fits columns (row_entries row))) rows
 
 -- each row came from a feeder whose number is below `feeders`
-abbrev pub AreFrom : ℕ → List FedRow → Type 0
+abbrev pub AreFrom : ℕ → List SourcedRow → Type 0
 AreFrom feeders rows = All (λ row. row_feeder row < feeders) rows
 
 -- the encoding of a column: its form and its offset

@@ -3,12 +3,12 @@
 use Rattle.std.specs.Prelude.{◌≡◌, ℕ, true, List, [], ◌∷◌, length}
 use mathlib.Core.List.{IsPrefix}
 use Rattle.logbook.specs.Pages.{Book, Cell, Named, Step, View}
-use Rattle.bsi_rows.specs.Rows.{FedRow}
+use Rattle.bsi_rows.specs.Rows.{SourcedRow}
 use Rattle.bsi_rows.specs.Table.{Table}
 
 -- A whole list of rows.
 abbrev pub RowList : Type 0
-RowList = List FedRow
+RowList = List SourcedRow
 
 -- The last of the lists, or the given rows if there is none.
 abbrev pub latest : RowList → List RowList → RowList

@@ -5,7 +5,7 @@ use mathlib.Core.List.{IsPrefix}
 use Rattle.left_right.specs.declared.Absorb.{Ghosts}
 use Rattle.left_right.specs.declared.writer.Writer.{Writer}
 use Rattle.logbook.specs.Pages.{Book}
-use Rattle.bsi_rows.specs.RowBlocks.{fed_rows_from, RowBlock}
+use Rattle.bsi_rows.specs.RowBlocks.{sourced_from, RowBlock}
 use Rattle.bsi_rows.specs.Rows.{Entries}
 use Rattle.bsi_rows.specs.Table.{no_rows, with_rows, Table}
 use Rattle.bsi_snapshots.specs.History.{RowList, Version, VersionToken}
@@ -71,7 +71,7 @@ publisher_state shown pending buffer = record { table = shown.table; staged = pe
 
 -- The publisher after these rows of a feeder were staged.
 abbrev pub with_staged_rows : PublisherState → ℕ → List Entries → PublisherState
-with_staged_rows w feeder rows = record w { staged = w.staged ++ fed_rows_from feeder rows }
+with_staged_rows w feeder rows = record w { staged = w.staged ++ sourced_from feeder rows }
 
 -- The publisher after one row was staged.
 abbrev pub with_staged : PublisherState → ℕ → Entries → PublisherState

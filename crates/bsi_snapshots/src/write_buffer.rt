@@ -8,9 +8,9 @@
 
 ghost use Rattle.std.specs.Prelude.{◌≡◌, ◌<◌, [], IfErr, IfOk, IsTrue, OnErr, OnOk, length, ◌↔◌};
 ghost use Rattle.bsi_schema.specs.Columns.{fits};
-ghost use Rattle.bsi_rows.specs.RowBlocks.{emptied_block, entries_of, fed_rows_from};
+ghost use Rattle.bsi_rows.specs.RowBlocks.{emptied_block, entries_of, sourced_from};
 ghost use Rattle.bsi_rows.specs.Table.{with_row, with_rows, AreEncodedAlike};
-ghost use Rattle.bsi_table.specs.Index.{table_of};
+    ghost use Rattle.bsi_table.specs.Index.{table_of};
 ghost use Rattle.bsi_snapshots.specs.Versions.{emptied, pending, IsBufferOf, IsFor, MovesToPending};
 
 use crate::copies::{Copies, append_batch, append_block};
@@ -72,7 +72,7 @@ impl WriteBuffer {
         requires alike { AreEncodedAlike self.old.schema other.now.schema }
         requires feeder { feeder < self.old.feeders }
         ensures ok { OnOk result (self.new
-            ≡ with_rows self.old (fed_rows_from feeder (entries_of other.now.rows))) }
+            ≡ with_rows self.old (sourced_from feeder (entries_of other.now.rows))) }
         ensures err { OnErr result (self.new ≡ self.old) }
     {
         flush_block(&mut self.batch, &mut self.block)?;

@@ -21,7 +21,7 @@ use Rattle.bsi_schema.specs.Columns.{column_at, no_column, Declared, IsDeclared,
 use Rattle.bsi_schema.specs.Names.{begins_lower, is_name, is_name_byte, is_word}
 use Rattle.bsi_schema.specs.declared.form.Form.{Form}
 use Rattle.bsi_schema.specs.declared.form.Form.TheVariants.{Slices, Equality, Range}
-use Rattle.bsi_rows.specs.Rows.{column_of, feeders_of, FedRow}
+use Rattle.bsi_rows.specs.Rows.{column_of, feeders_of, SourcedRow}
 use Rattle.bsi_rows.specs.Refusals.{index_refusal}
 use Rattle.bsi_rows.specs.Table.{Table}
 use Rattle.bsi_table.proofs.Refusing.{limit_within}
@@ -203,7 +203,7 @@ few_bitmaps (Slices w) valid = omega (arith, valid.1, length-slice_places w)
 few_bitmaps (Equality bs) valid = omega (arith, few_places bs valid)
 few_bitmaps (Range bs) valid = omega (arith, few_places bs valid)
 
-module _ (schema : Declared) (rows : List FedRow) (feeders : ℕ) (declared : IsDeclared schema) (are : AreRows schema feeders rows) (few : length rows ≤ 2 ^ 32) where
+module _ (schema : Declared) (rows : List SourcedRow) (feeders : ℕ) (declared : IsDeclared schema) (are : AreRows schema feeders rows) (few : length rows ≤ 2 ^ 32) where
   bitmaps_fit : (c : ℕ) → c < length schema.columns → Fit (2 ^ 38) (flat_map packed (bitmaps_of schema rows c))
   bitmaps_fit c within =
       let column = column_at schema.columns c in

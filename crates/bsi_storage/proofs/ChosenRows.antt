@@ -5,12 +5,12 @@ use Rattle.std.proofs.lemmas.List.{get_or-map, get_or_default, length-map}
 use Rattle.std.proofs.lemmas.List.Elements.{All-from_get_or}
 use Rattle.bsi_projection.specs.Chosen.{chosen_rows, chosen_schema, chosen_table, position_in, Shows}
 use Rattle.bsi_projection.proofs.Shown.{chosen-show, fitting-chosen, wide-fitting}
-use Rattle.bsi_rows.specs.Rows.{column_of, feeders_of, FedRow}
+use Rattle.bsi_rows.specs.Rows.{column_of, feeders_of, SourcedRow}
 use Rattle.bsi_rows.specs.Table.{table, AreFitting, Table}
 use Rattle.bsi_schema.specs.Columns.{column_at, no_column, Declared, IsColumn, IsDeclared, NamedColumn}
 use Rattle.bsi_shift.specs.Shifted.{shifted_entries, OffsetColumn}
 use Rattle.bsi_table.specs.Bitmaps.{bitmaps_of, entries_bitmaps}
-use Rattle.bsi_table.specs.Encoded.{encoded_at, fed_rows, AreEncoded, Encodes}
+use Rattle.bsi_table.specs.Encoded.{encoded_at, sourced_rows, AreEncoded, Encodes}
 use Rattle.bsi_table.proofs.RowBitmaps.{fed-bitmaps, fed-feeders, fed-fitting, same_rows}
 use Rattle.bsi_storage.specs.ChosenColumns.{column_position, feeders_position, feeders_in_head, AreChosenColumns, BeginsAt, IsHeadOf, SaysChosen, HasZones}
 use Rattle.bsi_storage.specs.Heads.{feeder_checksum, numbers_of, zone_words}
@@ -49,10 +49,10 @@ module _ (known : KnownBytes) (first : SegmentHead) (chosen : List ℕ) (narrow 
   module _ (at : ℕ) (t : Table) (notes kinds : List ℕ) (begins : BeginsAt known at t notes kinds) (is : IsHeadOf first at t notes kinds) (declared : IsDeclared first.preamble.schema)
       (row_feeders : List ℕ) (long : length row_feeders ≡ first.preamble.sizes.rows) (from : All (λ feeder. feeder < first.preamble.sizes.feeders) row_feeders)
       (stands : StandAt known (feeders_position first) (feeder_words first.preamble.sizes.feeders row_feeders)) where
-    abbrev xs : List FedRow
-    xs = fed_rows row_feeders columns
+    abbrev xs : List SourcedRow
+    xs = sourced_rows row_feeders columns
 
-    abbrev ys : List FedRow
+    abbrev ys : List SourcedRow
     ys = chosen_rows chosen t.rows
 
     fed : AreEncoded narrow.columns columns (length row_feeders)
@@ -112,7 +112,7 @@ module _ (known : KnownBytes) (first : SegmentHead) (chosen : List ℕ) (narrow 
   module _ (row_feeders : List ℕ) (long : length row_feeders ≡ first.preamble.sizes.rows)
       (stands : StandAt known (feeders_position first) (feeder_words first.preamble.sizes.feeders row_feeders))
       (said : feeders_in_head first ≡ feeder_checksum first.preamble.sizes.feeders row_feeders)
-      (u : Table) (schema : u.schema ≡ narrow) (rows : u.rows ≡ fed_rows row_feeders columns) where
+      (u : Table) (schema : u.schema ≡ narrow) (rows : u.rows ≡ sourced_rows row_feeders columns) where
     fed_columns : AreEncoded narrow.columns columns (length row_feeders)
     fed_columns = subst (AreEncoded narrow.columns columns) (sym long) encoded
 

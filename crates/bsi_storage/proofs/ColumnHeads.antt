@@ -4,7 +4,7 @@ use Rattle.std.specs.List.{flat_map}
 use Rattle.std.proofs.lemmas.List.{drop_at, length-map, map-append, take_all, take_at, take_more}
 use Rattle.bsi_bits.specs.BitList.{word_count}
 use Rattle.bsi_schema.specs.Columns.{column_at, entry_at, Declared}
-use Rattle.bsi_rows.specs.Rows.{column_of, FedRow}
+use Rattle.bsi_rows.specs.Rows.{column_of, SourcedRow}
 use Rattle.bsi_table.specs.Bitmaps.{bitmap_count, bitmaps_of}
 use Rattle.bsi_segments.specs.Bitmaps.{packed, AreBitmaps}
 use Rattle.bsi_segments.specs.Lanes.{lanes_of}
@@ -47,12 +47,12 @@ all_checksums count n bits k all past = ap checksums (take_all k bits (omega (ar
 -- ---- columns
 
 -- one more column
-pub heads_more : (schema : Declared) (rows : List FedRow) (c : ℕ)
+pub heads_more : (schema : Declared) (rows : List SourcedRow) (c : ℕ)
     → column_heads schema rows (c + 1) ≡ column_heads schema rows c ++ column_head (column_at schema.columns c) (column_of rows c)
 heads_more schema rows c = words_after (λ k. column_head (column_at schema.columns k) (column_of rows k)) 0 c c (omega arith)
 
 -- the words of the next column stand first
-pub column_first : (schema : Declared) (rows : List FedRow) (c : ℕ) (rest feeders : List ℕ) → c < length schema.columns
+pub column_first : (schema : Declared) (rows : List SourcedRow) (c : ℕ) (rest feeders : List ℕ) → c < length schema.columns
     → rest ≡ columns_words schema rows c (length schema.columns - c) ++ feeders
     → rest ≡ flat_map packed (bitmaps_of schema rows c) ++ (columns_words schema rows (c + 1) (length schema.columns - (c + 1)) ++ feeders)
 column_first schema rows c rest feeders within is =
@@ -60,7 +60,7 @@ column_first schema rows c rest feeders within is =
     ∙ append_assoc (flat_map packed (bitmaps_of schema rows c)) (columns_words schema rows (c + 1) (length schema.columns - (c + 1))) feeders
 
 -- and behind them those of the others
-pub column_behind : (schema : Declared) (rows : List FedRow) (c : ℕ) (rest behind feeders : List ℕ) → c < length schema.columns
+pub column_behind : (schema : Declared) (rows : List SourcedRow) (c : ℕ) (rest behind feeders : List ℕ) → c < length schema.columns
     → rest ≡ columns_words schema rows c (length schema.columns - c) ++ feeders → rest ≡ flat_map packed (bitmaps_of schema rows c) ++ behind
     → behind ≡ columns_words schema rows (c + 1) (length schema.columns - (c + 1)) ++ feeders
 column_behind schema rows c rest behind feeders within is split =
@@ -68,16 +68,16 @@ column_behind schema rows c rest behind feeders within is split =
     refl (sym split ∙ column_first schema rows c rest feeders within is)
 
 -- behind the last one stand the feeders
-pub feeders_left : (schema : Declared) (rows : List FedRow) (c : ℕ) (rest feeders : List ℕ) → length schema.columns ≤ c
+pub feeders_left : (schema : Declared) (rows : List SourcedRow) (c : ℕ) (rest feeders : List ℕ) → length schema.columns ≤ c
     → rest ≡ columns_words schema rows c (length schema.columns - c) ++ feeders → rest ≡ feeders
 feeders_left schema rows c rest feeders past is =
     let none : length schema.columns - c ≡ 0 = omega (arith, past) in
     is ∙ ap (λ n. columns_words schema rows c n ++ feeders) none
 
 -- how many words a column's bitmaps have
-pub column_long : (schema : Declared) (rows : List FedRow) (c : ℕ)
+pub column_long : (schema : Declared) (rows : List SourcedRow) (c : ℕ)
     → length (flat_map packed (bitmaps_of schema rows c)) ≡ bitmap_count (column_at schema.columns c).form * word_count (length rows)
-column_long schema rows c = words_long (column_at schema.columns c) (column_of rows c) (length rows) (length-map rows (λ (row : FedRow). entry_at row.1 c))
+column_long schema rows c = words_long (column_at schema.columns c) (column_of rows c) (length rows) (length-map rows (λ (row : SourcedRow). entry_at row.1 c))
 
-pub column_bitmaps_long : (schema : Declared) (rows : List FedRow) (c : ℕ) → AreBitmaps (bitmap_count (column_at schema.columns c).form) (length rows) (bitmaps_of schema rows c)
-column_bitmaps_long schema rows c = bitmaps_long (column_at schema.columns c) (column_of rows c) (length rows) (length-map rows (λ (row : FedRow). entry_at row.1 c))
+pub column_bitmaps_long : (schema : Declared) (rows : List SourcedRow) (c : ℕ) → AreBitmaps (bitmap_count (column_at schema.columns c).form) (length rows) (bitmaps_of schema rows c)
+column_bitmaps_long schema rows c = bitmaps_long (column_at schema.columns c) (column_of rows c) (length rows) (length-map rows (λ (row : SourcedRow). entry_at row.1 c))

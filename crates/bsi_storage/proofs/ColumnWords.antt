@@ -9,10 +9,10 @@ use Rattle.std.proofs.lemmas.List.Elements.{All-map}
 use Rattle.std.proofs.Math.Seq.{get_or-append_seam}
 use Rattle.bsi_schema.specs.Columns.{column_at, entry_at, Declared}
 use Rattle.bsi_shift.specs.Shifted.{shifted_entries, OffsetColumn}
-use Rattle.bsi_rows.specs.Rows.{column_of, feeders_of, FedRow}
+use Rattle.bsi_rows.specs.Rows.{column_of, feeders_of, SourcedRow}
 use Rattle.bsi_rows.specs.Table.{AreFrom}
 use Rattle.bsi_table.specs.Bitmaps.{bitmaps_of, entries_bitmaps}
-use Rattle.bsi_table.specs.Encoded.{encoded_at, fed_rows, no_entries, AreEncoded, Encodes}
+use Rattle.bsi_table.specs.Encoded.{sourced_rows, encoded_at, no_entries, AreEncoded, Encodes}
 use Rattle.bsi_table.proofs.RowBitmaps.{column_accepted, fed-bitmaps, fed-feeders}
 use Rattle.bsi_segments.specs.Bitmaps.{packed}
 use Rattle.bsi_segments.proofs.Chunks.{same_rest}
@@ -88,7 +88,7 @@ module _ (schema : Declared) (xs new : List OffsetColumn) (column : OffsetColumn
 -- ---- columns of rows
 
 -- the words of the next column stand first
-pub next_words : (schema : Declared) (rows : List FedRow) (c count : ℕ) → c < count
+pub next_words : (schema : Declared) (rows : List SourcedRow) (c count : ℕ) → c < count
     → columns_words schema rows c (count - c) ≡ flat_map packed (bitmaps_of schema rows c) ++ columns_words schema rows (c + 1) (count - (c + 1))
 next_words schema rows c count within =
     let more : count - c ≡ suc (count - (c + 1)) = omega (arith, within) in
@@ -96,16 +96,16 @@ next_words schema rows c count within =
     ap (columns_words schema rows c) more ∙ ap (flat_map (λ k. flat_map packed (bitmaps_of schema rows k))) (range_next c (count - (c + 1))) ∙ ap (λ i. flat_map packed (bitmaps_of schema rows c) ++ columns_words schema rows i (count - (c + 1))) up
 
 -- and are those of entries that the column takes
-pub column_entries : (schema : Declared) (rows : List FedRow) (feeders n c : ℕ) → AreRows schema feeders rows → length rows ≡ n → c < length schema.columns
+pub column_entries : (schema : Declared) (rows : List SourcedRow) (feeders n c : ℕ) → AreRows schema feeders rows → length rows ≡ n → c < length schema.columns
     → HasEntries (column_at schema.columns c) n (column_of rows c)
 column_entries schema rows feeders n c are many within = record {
-  many = length-map rows (λ (row : FedRow). entry_at row.1 c) ∙ many;
+  many = length-map rows (λ (row : SourcedRow). entry_at row.1 c) ∙ many;
   accepted = column_accepted schema.columns rows c within are.fits;
 }
 
 -- ---- encoded columns of rows
 
-module _ (schema : Declared) (encoded : List OffsetColumn) (rows : List FedRow) (feeders n : ℕ) (are : AreEncoded schema.columns encoded n) (of : AreRows schema feeders rows)
+module _ (schema : Declared) (encoded : List OffsetColumn) (rows : List SourcedRow) (feeders n : ℕ) (are : AreEncoded schema.columns encoded n) (of : AreRows schema feeders rows)
     (many : length rows ≡ n) where
   long_upto : (c : ℕ) → c ≤ length schema.columns → length (encoded_words schema encoded c) ≡ length (columns_words schema rows 0 c)
   long_upto zero within = refl
@@ -134,18 +134,18 @@ module _ (schema : Declared) (encoded : List OffsetColumn) (rows : List FedRow) 
 
 module _ (schema : Declared) (encoded : List OffsetColumn) (row_feeders : List ℕ) (are : AreEncoded schema.columns encoded (length row_feeders)) where
   -- the words of encoded columns are those of their rows
-  pub fed_words : encoded_words schema encoded (length schema.columns) ≡ columns_words schema (fed_rows row_feeders encoded) 0 (length schema.columns)
+  pub fed_words : encoded_words schema encoded (length schema.columns) ≡ columns_words schema (sourced_rows row_feeders encoded) 0 (length schema.columns)
   fed_words =
       same_upto (λ k. flat_map packed (entries_bitmaps (column_at schema.columns k) (shifted_entries (encoded_at encoded k))))
-      (λ k. flat_map packed (bitmaps_of schema (fed_rows row_feeders encoded) k)) (length schema.columns)
+      (λ k. flat_map packed (bitmaps_of schema (sourced_rows row_feeders encoded) k)) (length schema.columns)
       (λ k within. ap (flat_map packed) (sym (fed-bitmaps schema.columns encoded row_feeders are k within)))
 
-  pub fed_long : length (fed_rows row_feeders encoded) ≡ length row_feeders
-  fed_long = sym (length-map (fed_rows row_feeders encoded) (λ (row : FedRow). row.0)) ∙ ap length (fed-feeders schema.columns encoded row_feeders are)
+  pub fed_long : length (sourced_rows row_feeders encoded) ≡ length row_feeders
+  fed_long = sym (length-map (sourced_rows row_feeders encoded) (λ (row : SourcedRow). row.0)) ∙ ap length (fed-feeders schema.columns encoded row_feeders are)
 
 -- the feeders of rows
-pub feeders_below : (feeders : ℕ) (rows : List FedRow) → AreFrom feeders rows → All (λ feeder. feeder < feeders) (feeders_of rows)
-feeders_below feeders rows from = All-map (λ feeder. feeder < feeders) (λ (row : FedRow). row.0) rows from
+pub feeders_below : (feeders : ℕ) (rows : List SourcedRow) → AreFrom feeders rows → All (λ feeder. feeder < feeders) (feeders_of rows)
+feeders_below feeders rows from = All-map (λ feeder. feeder < feeders) (λ (row : SourcedRow). row.0) rows from
 
-pub feeders_long : (rows : List FedRow) → length (feeders_of rows) ≡ length rows
-feeders_long rows = length-map rows (λ (row : FedRow). row.0)
+pub feeders_long : (rows : List SourcedRow) → length (feeders_of rows) ≡ length rows
+feeders_long rows = length-map rows (λ (row : SourcedRow). row.0)

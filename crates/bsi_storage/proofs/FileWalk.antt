@@ -9,7 +9,7 @@ use Rattle.std.proofs.lemmas.List.{drop_at, drop-drop, length-map, map-append, t
 use Rattle.std.proofs.lemmas.List.Elements.{All-append, All-head, All-nil, All-tail}
 use Rattle.bsi_projection.specs.Chosen.{chosen_entries, chosen_table}
 use Rattle.bsi_pread.specs.Offsets.{known_from}
-use Rattle.bsi_rows.specs.Rows.{row_entries, FedRow}
+use Rattle.bsi_rows.specs.Rows.{row_entries, SourcedRow}
 use Rattle.bsi_rows.specs.Table.{with_rows, AreFitting, Table}
 use Rattle.bsi_schema.specs.Columns.{fits, Declared}
 use Rattle.bsi_segments.specs.declared.format_version.FormatVersion.{FormatVersion}
@@ -171,11 +171,11 @@ module _ (known : KnownBytes) (t : Table) (notes kinds : List ℕ) (keeps : Keep
 
 -- ---- the rows of the first parts
 
-abbrev pub rows_in : List Part → List FedRow
+abbrev pub rows_in : List Part → List SourcedRow
 rows_in parts = flat_map (λ p. p.rows) parts
 
 -- what holds of the rows of each part holds of all
-module _ (P : FedRow → Type 0) where
+module _ (P : SourcedRow → Type 0) where
   all_rows : (ps : List Part) → All (λ p. All P p.rows) ps → All P (rows_in ps)
   all_rows [] all = All-nil P
   all_rows (p ∷ ps) all =
@@ -231,9 +231,9 @@ module _ (known : KnownBytes) (heads : List SegmentHead) (t : Table) (notes kind
       omega (
         arith,
         are.keeps.file.within,
-        ap (λ (rs : List FedRow). length rs) all,
+        ap (λ (rs : List SourcedRow). length rs) all,
         length-append (rows_in (take (k + 1) ps)) (rows_in (drop (k + 1) ps)),
-        ap (λ (rs : List FedRow). length rs) (rows_more k within),
+        ap (λ (rs : List SourcedRow). length rs) (rows_more k within),
         length-append (rows_in (take k ps)) (get_or ps k are.keeps.file.last).rows,
       )
 
@@ -246,11 +246,11 @@ module _ (known : KnownBytes) (heads : List SegmentHead) (t : Table) (notes kind
 
 -- ---- the chosen columns of further segments
 
-module _ (chosen : List ℕ) (t : Table) (rows more : List FedRow) where
+module _ (chosen : List ℕ) (t : Table) (rows more : List SourcedRow) where
   -- they may follow those of the first ones
   pub accepted : length rows + length more ≤ t.limit → AcceptsRowsOf (chosen_table chosen (with_only t rows)) [] (chosen_table chosen (with_only t more)) []
   accepted within =
-      let own : FedRow → FedRow = λ row. (row.0, chosen_entries chosen row.1) in
+      let own : SourcedRow → SourcedRow = λ row. (row.0, chosen_entries chosen row.1) in
       record {
         schema = refl;
         feeders = refl;
@@ -264,13 +264,13 @@ module _ (chosen : List ℕ) (t : Table) (rows more : List FedRow) where
       → w ≡ chosen_table chosen (with_only t (rows ++ more))
   joined u v w u_is v_is is =
       is ∙ ap₂ (λ (a b : Table). with_rows a b.rows) u_is v_is
-      ∙ ap (λ rs. record (chosen_table chosen t) { rows = rs }) (sym (map-append (λ (row : FedRow). (row.0, chosen_entries chosen row.1)) rows more))
+      ∙ ap (λ rs. record (chosen_table chosen t) { rows = rs }) (sym (map-append (λ (row : SourcedRow). (row.0, chosen_entries chosen row.1)) rows more))
 
 -- ---- what the heads say of the columns that were read
 
 module _ (known : KnownBytes) (heads : List SegmentHead) (chosen : List ℕ) where
   -- of the first segment
-  pub said_first : (schema : Declared) (rows : List FedRow) (h : SegmentHead) → h ≡ get_or heads 0 h → 0 < length heads → SaysChosen known h chosen schema rows
+  pub said_first : (schema : Declared) (rows : List SourcedRow) (h : SegmentHead) → h ≡ get_or heads 0 h → 0 < length heads → SaysChosen known h chosen schema rows
       → SaysAllChosen known (take 1 heads) chosen schema rows
   said_first schema rows h same some says = record {
     parts = rows ∷ [];
@@ -280,7 +280,7 @@ module _ (known : KnownBytes) (heads : List SegmentHead) (chosen : List ℕ) whe
   }
 
   -- and of one more
-  pub said_more : (k : ℕ) (h : SegmentHead) → h ≡ get_or heads k h → k < length heads → (u v : Table) (more : List FedRow)
+  pub said_more : (k : ℕ) (h : SegmentHead) → h ≡ get_or heads k h → k < length heads → (u v : Table) (more : List SourcedRow)
       → SaysAllChosen known (take k heads) chosen u.schema u.rows → SaysChosen known h chosen u.schema more → v ≡ with_rows u more
       → SaysAllChosen known (take (k + 1) heads) chosen v.schema v.rows
   said_more k h same within u v more says own is =
@@ -292,7 +292,7 @@ module _ (known : KnownBytes) (heads : List SegmentHead) (chosen : List ℕ) whe
         parts = says.parts ++ more ∷ [];
         each = subst (λ (w : Table). Of (take (k + 1) heads) w.schema) (sym is) (subst (λ hs. Of hs u.schema) longer grown);
         rows_are =
-            ap (λ (w : Table). w.rows) is ∙ ap (λ (rs : List FedRow). rs ++ more) says.rows_are
-            ∙ ap (λ (rs : List FedRow). flat_map (λ part. part) says.parts ++ rs) (sym (append-nil more))
-            ∙ sym (flat_map-append (λ (part : List FedRow). part) says.parts (more ∷ []));
+            ap (λ (w : Table). w.rows) is ∙ ap (λ (rs : List SourcedRow). rs ++ more) says.rows_are
+            ∙ ap (λ (rs : List SourcedRow). flat_map (λ part. part) says.parts ++ rs) (sym (append-nil more))
+            ∙ sym (flat_map-append (λ (part : List SourcedRow). part) says.parts (more ∷ []));
       }

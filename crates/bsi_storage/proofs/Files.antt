@@ -5,7 +5,7 @@ use Rattle.std.specs.List.{flat_map}
 use Rattle.std.specs.Io.KnownBytes.{Appends, Consumes}
 use Rattle.std.proofs.lemmas.Grind.{flat_map-append}
 use Rattle.std.proofs.lemmas.List.Elements.{All-append, All-cons, All-nil}
-use Rattle.bsi_rows.specs.Rows.{FedRow}
+use Rattle.bsi_rows.specs.Rows.{SourcedRow}
 use Rattle.bsi_rows.specs.Table.{with_rows, Table}
 use Rattle.bsi_segments.specs.Segments.{bytes_of, counted, AreWords, FailsBefore, MeetsFault}
 use Rattle.bsi_segments.specs.declared.format_version.FormatVersion.{FormatVersion}
@@ -89,7 +89,7 @@ module _ (version : FormatVersion) (bytes : List ℕ) (t more : Table) (notes ne
   all_rows : t.rows ++ more.rows ≡ flat_map (λ (p : Part). p.rows) (parts ++ last ∷ [])
   unfolding parts last
   all_rows =
-      ap₂ (λ (xs : List FedRow) ys. xs ++ ys) file.rows_are (sym (append-nil more.rows))
+      ap₂ (λ (xs : List SourcedRow) ys. xs ++ ys) file.rows_are (sym (append-nil more.rows))
       ∙ sym (flat_map-append (λ (p : Part). p.rows) (file.before ++ file.last ∷ []) (part version more.rows next ∷ []))
 
   last_valid : MayBeSaved version (with_only t more.rows) next kinds

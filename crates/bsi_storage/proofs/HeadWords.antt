@@ -5,7 +5,7 @@ use Rattle.std.specs.Int.{w64, cast_unsigned}
 use Rattle.std.specs.List.{flat_map, range_with_len}
 use Rattle.std.proofs.lemmas.List.FromFn.{length-range_with_len}
 use Rattle.bsi_schema.specs.Columns.{column_at, Declared, Entries, IsColumn, IsDeclared, NamedColumn}
-use Rattle.bsi_rows.specs.Rows.{column_of, feeders_of, FedRow}
+use Rattle.bsi_rows.specs.Rows.{column_of, feeders_of, SourcedRow}
 use Rattle.bsi_rows.specs.Table.{Table}
 use Rattle.bsi_table.specs.Bitmaps.{entries_bitmaps}
 use Rattle.bsi_segments.specs.Bitmaps.{packed}
@@ -50,7 +50,7 @@ column_head_fit column valid n few entries has =
     wider (3 + length maps) (2 ^ 12) (column_head column entries) (omega (arith, long.many, few_bitmaps column.form valid.form))
     (both 3 (length maps) (zone_words numbers) (map (λ b. lanes_of (packed b)) maps) zone sums)
 
-module _ (schema : Declared) (feeders : ℕ) (rows : List FedRow) (declared : IsDeclared schema) (are : AreRows schema feeders rows) (few : length rows ≤ 2 ^ 32) where
+module _ (schema : Declared) (feeders : ℕ) (rows : List SourcedRow) (declared : IsDeclared schema) (are : AreRows schema feeders rows) (few : length rows ≤ 2 ^ 32) where
   column_heads_fit : Fit (2 ^ 18) (column_heads schema rows (length schema.columns))
   column_heads_fit =
       let f : ℕ → List ℕ = λ c. column_head (column_at schema.columns c) (column_of rows c) in

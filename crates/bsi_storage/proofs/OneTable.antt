@@ -7,7 +7,7 @@ use Rattle.std.proofs.lemmas.Bool.{cases_eq}
 use Rattle.std.proofs.lemmas.Bool.Decides.{nat_tests}
 use Rattle.std.proofs.lemmas.List.Elements.{All-from_get_or, All-head, All-tail}
 use Rattle.bsi_schema.specs.Columns.{column_at, no_column, Declared, IsColumn, IsDeclared}
-use Rattle.bsi_rows.specs.Rows.{column_of, feeders_of, FedRow}
+use Rattle.bsi_rows.specs.Rows.{column_of, feeders_of, SourcedRow}
 use Rattle.bsi_rows.specs.Table.{Table}
 use Rattle.bsi_table.specs.Bitmaps.{bitmap_count, bitmaps_of}
 use Rattle.bsi_table.proofs.RowBitmaps.{same_rows}
@@ -47,7 +47,7 @@ same_pieces f g a (suc n) us vs long same =
     )
 
 -- rows of one schema that have the same words are the same
-module _ (schema : Declared) (feeders : ℕ) (xs ys : List FedRow) (declared : IsDeclared schema) (few : feeders ≤ 64)
+module _ (schema : Declared) (feeders : ℕ) (xs ys : List SourcedRow) (declared : IsDeclared schema) (few : feeders ≤ 64)
     (xs_are : AreRows schema feeders xs) (ys_are : AreRows schema feeders ys) (long : length xs ≡ length ys)
     (same : rows_words schema feeders xs ≡ rows_words schema feeders ys) where
   pieces : ((k : ℕ) → 0 ≤ k → k < 0 + length schema.columns → flat_map packed (bitmaps_of schema xs k) ≡ flat_map packed (bitmaps_of schema ys k))

@@ -6,7 +6,7 @@ use Rattle.std.specs.Io.KnownBytes.{Consumes, IsAtEnd}
 use Rattle.std.proofs.lemmas.Grind.{flat_map-append}
 use Rattle.std.proofs.lemmas.List.Elements.{All-head, All-tail}
 use Rattle.bsi_schema.specs.Columns.{Declared}
-use Rattle.bsi_rows.specs.Rows.{FedRow}
+use Rattle.bsi_rows.specs.Rows.{SourcedRow}
 use Rattle.bsi_rows.specs.Table.{with_rows, Table}
 use Rattle.bsi_segments.specs.Segments.{bytes_of, counted, magic, MeetsFault, ReadsToEnd}
 use Rattle.bsi_segments.specs.declared.fault.SegmentFault.{SegmentFault}
@@ -275,7 +275,7 @@ module _ (bytes tail : List ℕ) (t u : Table) (notes kinds others opened_kinds 
               omega (
                 arith,
                 read.file.within,
-                ap (λ (rs : List FedRow). length rs) rows,
+                ap (λ (rs : List SourcedRow). length rs) rows,
                 length-append t.rows (q.rows ++ flat_map (λ (r : Part). r.rows) more),
                 length-append q.rows (flat_map (λ (r : Part). r.rows) more),
                 ap (λ (v : Table). v.limit) frame.0,
@@ -342,7 +342,7 @@ module _ (bytes tail : List ℕ) (t u : Table) (notes kinds others opened_kinds 
               omega (
                 arith,
                 file.within,
-                ap (λ (rs : List FedRow). length rs) (rows_are (p ∷ more) parts),
+                ap (λ (rs : List SourcedRow). length rs) (rows_are (p ∷ more) parts),
                 length-append u.rows (p.rows ++ flat_map (λ (r : Part). r.rows) more),
                 length-append p.rows (flat_map (λ (r : Part). r.rows) more),
                 ap (λ (v : Table). v.limit) frame.0,

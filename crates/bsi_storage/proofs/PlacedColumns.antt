@@ -11,7 +11,7 @@ use Rattle.std.proofs.lemmas.List.{drop-drop, drop_at, get_or_append_left, lengt
 use Rattle.std.proofs.lemmas.List.Elements.{All-from_get_or}
 use Rattle.bsi_bits.specs.BitList.{word_count}
 use Rattle.bsi_pread.specs.Offsets.{known_from, StandAt}
-use Rattle.bsi_rows.specs.Rows.{column_of, feeders_of, FedRow}
+use Rattle.bsi_rows.specs.Rows.{column_of, feeders_of, SourcedRow}
 use Rattle.bsi_rows.specs.Table.{Table}
 use Rattle.bsi_schema.specs.Columns.{column_at, entry_at, Declared, Entries, IsForm, NamedColumn}
 use Rattle.bsi_segments.specs.Lanes.{lanes_of}
@@ -109,7 +109,7 @@ bits_fit count n bits long most few =
 
 -- ---- the words of the rows, cut at a column
 
-columns_split : (schema : Declared) (rows : List FedRow) (c : ℕ) → c ≤ length schema.columns
+columns_split : (schema : Declared) (rows : List SourcedRow) (c : ℕ) → c ≤ length schema.columns
     → columns_words schema rows 0 (length schema.columns) ≡ columns_words schema rows 0 c ++ columns_words schema rows c (length schema.columns - c)
 columns_split schema rows zero within = (let whole : length schema.columns ≡ length schema.columns - 0 = omega arith in ap (columns_words schema rows 0) whole)
 columns_split schema rows (suc c) within =
@@ -172,7 +172,7 @@ feeder_fit feeders us few short are = elim (cases_eq feeders 1) [
 -- ---- the rows of a table
 
 module _ (known : KnownBytes) (at : ℕ) (t : Table) (notes kinds : List ℕ) (begins : BeginsAt known at t notes kinds) (first : SegmentHead) (is : IsHeadOf first at t notes kinds) where
-  abbrev rows : List FedRow
+  abbrev rows : List SourcedRow
   rows = t.rows
 
   abbrev front : List ℕ
@@ -210,7 +210,7 @@ module _ (known : KnownBytes) (at : ℕ) (t : Table) (notes kinds : List ℕ) (b
     column = column_at t.schema.columns c
 
     many : length (column_of t.rows c) ≡ length t.rows
-    many = length-map t.rows (λ (row : FedRow). entry_at row.1 c)
+    many = length-map t.rows (λ (row : SourcedRow). entry_at row.1 c)
 
     valid : IsForm column.form
     valid = (begins.valid.declared.each c within).valid.form

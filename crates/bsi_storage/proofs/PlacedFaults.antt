@@ -8,7 +8,7 @@ use Rattle.std.proofs.lemmas.List.{drop_at, get_or-map, get_or-take, length-map,
 use Rattle.bsi_bits.specs.BitList.{word_count}
 use Rattle.bsi_pread.proofs.Placing.{ends_before}
 use Rattle.bsi_pread.specs.Offsets.{known_from, AreNoBitmaps, IsNoBitmap, StandAt}
-use Rattle.bsi_rows.specs.Rows.{column_of, feeders_of, FedRow}
+use Rattle.bsi_rows.specs.Rows.{column_of, feeders_of, SourcedRow}
 use Rattle.bsi_rows.specs.Table.{Table}
 use Rattle.bsi_schema.specs.Columns.{column_at, Declared, NamedColumn}
 use Rattle.bsi_segments.specs.Bitmaps.{packed}
@@ -54,13 +54,13 @@ module _ (version : FormatVersion) (known : KnownBytes) (at : ℕ) (t : Table) (
 
 -- ---- what the head says of a column
 
-length-column_head : (schema : Declared) (rows : List FedRow) (c : ℕ) → length (column_head (column_at schema.columns c) (column_of rows c)) ≡ 3 + bitmap_count (column_at schema.columns c).form
+length-column_head : (schema : Declared) (rows : List SourcedRow) (c : ℕ) → length (column_head (column_at schema.columns c) (column_of rows c)) ≡ 3 + bitmap_count (column_at schema.columns c).form
 length-column_head schema rows c =
     let bits = bitmaps_of schema rows c in
     let many = (column_bitmaps_long schema rows c).many in
     omega (arith, many, length-map bits (λ (b : List Bool). lanes_of (packed b)), length-append (zone_words (numbers_of (column_of rows c))) (checksums bits))
 
-length-column_heads : (schema : Declared) (rows : List FedRow) (c : ℕ) → c ≤ length schema.columns → length (column_heads schema rows c) ≡ 3 * c + bitmaps_in (take c schema.columns)
+length-column_heads : (schema : Declared) (rows : List SourcedRow) (c : ℕ) → c ≤ length schema.columns → length (column_heads schema rows c) ≡ 3 * c + bitmaps_in (take c schema.columns)
 length-column_heads schema rows zero within = refl
 length-column_heads schema rows (suc c) within =
     let one : suc c ≡ c + 1 = omega arith in
@@ -77,7 +77,7 @@ length-column_heads schema rows (suc c) within =
     )
 
 -- what it says of the first columns, cut at one of them
-heads_split : (schema : Declared) (rows : List FedRow) (c m : ℕ) → c < m
+heads_split : (schema : Declared) (rows : List SourcedRow) (c m : ℕ) → c < m
     → (rest : List ℕ) × (column_heads schema rows m ≡ column_heads schema rows c ++ (column_head (column_at schema.columns c) (column_of rows c) ++ rest))
 heads_split schema rows c zero within = absurd (omega (arith, within))
 heads_split schema rows c (suc m) within =

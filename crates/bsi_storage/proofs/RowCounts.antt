@@ -7,7 +7,7 @@ use Rattle.std.proofs.lemmas.List.{take_all}
 use Rattle.std.proofs.lemmas.List.Sums.{sum_by_more}
 use Rattle.bsi_bits.specs.BitList.{word_count}
 use Rattle.bsi_schema.specs.Columns.{column_at, no_column, Declared, NamedColumn}
-use Rattle.bsi_rows.specs.Rows.{column_of, feeders_of, FedRow}
+use Rattle.bsi_rows.specs.Rows.{column_of, feeders_of, SourcedRow}
 use Rattle.bsi_table.specs.Bitmaps.{bitmap_count, bitmaps_of}
 use Rattle.bsi_segments.specs.Bitmaps.{packed}
 use Rattle.bsi_segments.specs.Bytes.{packed_bytes}
@@ -20,7 +20,7 @@ use Rattle.bsi_storage.proofs.Cutting.{length-bytes, words_long}
 pub bitmaps_more : (columns : List NamedColumn) (c : ℕ) → c < length columns → bitmaps_in (take (c + 1) columns) ≡ bitmaps_in (take c columns) + bitmap_count (column_at columns c).form
 bitmaps_more columns c within = sum_by_more (λ (column : NamedColumn). bitmap_count column.form) columns c no_column within
 
-module _ (schema : Declared) (feeders : ℕ) (rows : List FedRow) (are : AreRows schema feeders rows) where
+module _ (schema : Declared) (feeders : ℕ) (rows : List SourcedRow) (are : AreRows schema feeders rows) where
   column_long : (c : ℕ) → c < length schema.columns → length (flat_map packed (bitmaps_of schema rows c)) ≡ bitmap_count (column_at schema.columns c).form * word_count (length rows)
   column_long c within = words_long (column_at schema.columns c) (column_of rows c) (length rows) (column_entries schema rows feeders (length rows) c are refl within).many
 

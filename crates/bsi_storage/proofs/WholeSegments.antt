@@ -7,7 +7,7 @@ use Rattle.std.proofs.lemmas.Bool.{cases_lt}
 use Rattle.std.proofs.lemmas.Grind.{flat_map-append}
 use Rattle.std.proofs.lemmas.List.{drop-append-le, take-append-drop, take-append-le}
 use Rattle.std.proofs.lemmas.List.Elements.{All-cons, All-head, All-nil, All-tail}
-use Rattle.bsi_rows.specs.Rows.{FedRow}
+use Rattle.bsi_rows.specs.Rows.{SourcedRow}
 use Rattle.bsi_rows.specs.Table.{Table}
 use Rattle.bsi_storage.specs.Opens.{IsCutFile, IsCutSegment, IsFileOfFirst}
 use Rattle.bsi_storage.specs.Saved.{part_bytes, with_only, IsFileOf, IsPartOf, Part}
@@ -91,7 +91,7 @@ module _ (bytes first rest : List ℕ) (t : Table) (notes kinds : List ℕ) (fil
   cut_at : CutAt t kinds (file.before ++ file.last ∷ []) first
   cut_at = find t kinds (file.before ++ file.last ∷ []) first rest file.each (sym file.bytes_are ∙ same) some
 
-  rows : List Part → List FedRow
+  rows : List Part → List SourcedRow
   rows parts = flat_map (λ (p : Part). p.rows) parts
 
   file_of_first : (whole : List Part) → 0 < length whole → cut_at.whole ≡ whole → IsFileOfFirst (flat_map (part_bytes t kinds) whole) t kinds
@@ -111,7 +111,7 @@ module _ (bytes first rest : List ℕ) (t : Table) (notes kinds : List ℕ) (fil
           rows_are = ap rows last.is;
           notes_are = refl;
           each = subst (ArePartsOf t kinds) (is ∙ last.is) cut_at.valid;
-          within = omega (arith, file.within, ap (λ (rs : List FedRow). length rs) all, length-append (rows (w ∷ ws)) (rows cut_at.more));
+          within = omega (arith, file.within, ap (λ (rs : List SourcedRow). length rs) all, length-append (rows (w ∷ ws)) (rows cut_at.more));
         };
         all = λ i. record t { rows = all i };
       }

@@ -4,7 +4,7 @@ use Rattle.std.specs.List.{flat_map}
 use Rattle.bsi_bits.specs.BitList.{word_count}
 use Rattle.bsi_projection.specs.Chosen.{chosen_schema}
 use Rattle.bsi_pread.specs.Offsets.{known_from, StandAt}
-use Rattle.bsi_rows.specs.Rows.{column_of, feeders_of, FedRow}
+use Rattle.bsi_rows.specs.Rows.{column_of, feeders_of, SourcedRow}
 use Rattle.bsi_rows.specs.Table.{Table}
 use Rattle.bsi_schema.specs.Columns.{column_at, Declared}
 use Rattle.bsi_segments.specs.Bitmaps.{packed}
@@ -69,7 +69,7 @@ feeders_in_head first =
     drop (3 * length first.preamble.schema.columns + bitmaps_in first.preamble.schema.columns) first.behind.items
 
 -- The head says the zones of the first `count` chosen columns of these rows.
-abbrev pub HasZones : SegmentHead → List ℕ → List FedRow → ℕ → Type 0
+abbrev pub HasZones : SegmentHead → List ℕ → List SourcedRow → ℕ → Type 0
 HasZones first chosen rows count =
     (k : ℕ) → k < count → zone_in_head first (slice_index chosen k) ≡ zone_words (numbers_of (column_of rows k))
 
@@ -89,7 +89,7 @@ pub record AreChosenColumns (known : KnownBytes) (first : SegmentHead) (chosen :
 
 -- Rows of the chosen columns of a segment, as they stand in the file, with the checksums and the zones that the head says.
 -- They are as many as it says.
-pub record SaysChosen (known : KnownBytes) (first : SegmentHead) (chosen : List ℕ) (schema : Declared) (rows : List FedRow) : Type 0 where
+pub record SaysChosen (known : KnownBytes) (first : SegmentHead) (chosen : List ℕ) (schema : Declared) (rows : List SourcedRow) : Type 0 where
   -- The schema is that of the chosen columns.
   pub narrow : schema ≡ chosen_schema chosen first.preamble.schema
   pub many : length rows ≡ first.preamble.sizes.rows

@@ -2,7 +2,7 @@
 -- of its segments (`AreFileHeads`).
 use Rattle.std.specs.Prelude.{◌≡◌, ℕ, List, [], ◌∷◌, ◌++◌, Some, All}
 use Rattle.std.specs.List.{flat_map, AllZip}
-use Rattle.bsi_rows.specs.Rows.{FedRow}
+use Rattle.bsi_rows.specs.Rows.{SourcedRow}
 use Rattle.bsi_rows.specs.Table.{Table}
 use Rattle.bsi_schema.specs.Columns.{Declared}
 use Rattle.bsi_segments.specs.declared.format_version.FormatVersion.TheVariants.{Two}
@@ -43,8 +43,8 @@ HasSizes first = AreSizes first.preamble.sizes.rows first.preamble.sizes.feeders
 
 -- Rows of the chosen columns of all segments that have these heads, as they stand in the file, with the checksums and the
 -- zones that the heads say.
-pub record SaysAllChosen (known : KnownBytes) (heads : List SegmentHead) (chosen : List ℕ) (schema : Declared) (rows : List FedRow) : Type 0 where
+pub record SaysAllChosen (known : KnownBytes) (heads : List SegmentHead) (chosen : List ℕ) (schema : Declared) (rows : List SourcedRow) : Type 0 where
   -- The rows of each segment.
-  pub parts : List (List FedRow)
+  pub parts : List (List SourcedRow)
   pub each : AllZip (λ first part. SaysChosen known first chosen schema part) heads parts
   pub rows_are : rows ≡ flat_map (λ part. part) parts

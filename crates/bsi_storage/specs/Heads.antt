@@ -4,7 +4,7 @@ use Rattle.std.specs.Prelude.{ℕ, ℤ, pos, List, [], ◌∷◌, ◌++◌, leng
 use Rattle.std.specs.Int.{w64, cast_unsigned, int_max, int_min}
 use Rattle.std.specs.List.{filter_map, flat_map, fold, range_with_len}
 use Rattle.bsi_schema.specs.Columns.{column_at, Declared, Entries, NamedColumn}
-use Rattle.bsi_rows.specs.Rows.{column_of, feeders_of, FedRow}
+use Rattle.bsi_rows.specs.Rows.{column_of, feeders_of, SourcedRow}
 use Rattle.bsi_rows.specs.Table.{Table}
 use Rattle.bsi_table.specs.Bitmaps.{entries_bitmaps}
 use Rattle.bsi_segments.specs.Bitmaps.{packed}
@@ -38,7 +38,7 @@ column_head column entries =
     zone_words (numbers_of entries) ++ map (λ bits. lanes_of (packed bits)) (entries_bitmaps column entries)
 
 -- What the head says of the first `count` columns.
-abbrev pub column_heads : Declared → List FedRow → ℕ → List ℕ
+abbrev pub column_heads : Declared → List SourcedRow → ℕ → List ℕ
 column_heads schema rows count =
     flat_map (λ c. column_head (column_at schema.columns c) (column_of rows c)) (range_with_len 0 count)
 
@@ -47,7 +47,7 @@ abbrev pub feeder_checksum : ℕ → List ℕ → List ℕ
 feeder_checksum feeders row_feeders = if nat_eq feeders 1 then [] else lanes_of (packed_bytes row_feeders) ∷ []
 
 -- What the head says of rows: each column, and the checksum of the feeders.
-abbrev pub rows_head : Declared → ℕ → List FedRow → List ℕ
+abbrev pub rows_head : Declared → ℕ → List SourcedRow → List ℕ
 rows_head schema feeders rows =
     column_heads schema rows (length schema.columns) ++ feeder_checksum feeders (feeders_of rows)
 

@@ -1,6 +1,6 @@
 -- What opening an index file gives if the file is whole, or cut short within a segment: which rows, and which fault.
 use Rattle.std.specs.Prelude.{◌≡◌, ◌⊎◌, ℕ, ◌<◌, List, [], ◌∷◌, ◌++◌, Option, Some, None, length}
-use Rattle.bsi_rows.specs.Rows.{FedRow}
+use Rattle.bsi_rows.specs.Rows.{SourcedRow}
 use Rattle.bsi_rows.specs.Table.{with_rows, Table}
 use Rattle.bsi_segments.specs.declared.format_version.FormatVersion.{FormatVersion}
 use Rattle.bsi_storage.specs.Faults.{AcceptsRowsOf}
@@ -55,7 +55,7 @@ abbrev pub IsOpenedOf
 IsOpenedOf t notes kinds size Ends opened others opened_kinds bytes fault =
     (opened_kinds ≡ kinds)
     × (((opened ≡ t) × (others ≡ notes) × (bytes ≡ size) × Ends fault)
-    ⊎ ((more : List FedRow) × (cause : OpenFault) × (t ≡ with_rows opened more) × IsReadOrNoMemory cause × (fault ≡ Some cause)))
+    ⊎ ((more : List SourcedRow) × (cause : OpenFault) × (t ≡ with_rows opened more) × IsReadOrNoMemory cause × (fault ≡ Some cause)))
 
 -- A file of the first rows of a table.
 pub record IsFileOfFirst (bytes : Bytes) (t : Table) (kinds : Bytes) : Type 0 where
@@ -64,7 +64,7 @@ pub record IsFileOfFirst (bytes : Bytes) (t : Table) (kinds : Bytes) : Type 0 wh
   -- The notes that the file has.
   pub notes : Bytes
   -- The rows of the whole table that the file does not have.
-  pub more : List FedRow
+  pub more : List SourcedRow
   -- The bytes are a file of this table, with these notes and the same text of kinds.
   pub file : IsFileOf bytes first notes kinds
   -- The whole table is that of the file, with the other rows appended.

@@ -3,7 +3,7 @@ use Rattle.std.specs.Prelude.{◌≡◌, ℕ, ◌≤◌, ◌^◌, List, [], ◌�
 use Rattle.std.specs.List.{flat_map, range_with_len}
 use Rattle.bsi_schema.specs.Columns.{Declared, IsDeclared}
 use Rattle.bsi_rows.specs.Refusals.{index_refusal}
-use Rattle.bsi_rows.specs.Rows.{feeders_of, FedRow}
+use Rattle.bsi_rows.specs.Rows.{feeders_of, SourcedRow}
 use Rattle.bsi_rows.specs.Table.{max_feeders, AreFitting, AreFrom, Table}
 use Rattle.bsi_table.specs.Bitmaps.{bitmaps_of}
 use Rattle.bsi_segments.specs.Bitmaps.{packed}
@@ -34,7 +34,7 @@ most_kinds One = 0
 most_kinds Two = max_kinds
 
 -- The words of the bitmaps of `count` columns, from column c on.
-abbrev pub columns_words : Declared → List FedRow → ℕ → ℕ → List ℕ
+abbrev pub columns_words : Declared → List SourcedRow → ℕ → ℕ → List ℕ
 columns_words schema rows c count = flat_map (λ k. flat_map packed (bitmaps_of schema rows k)) (range_with_len c count)
 
 -- The words of each row's feeder, a byte each. With one feeder there are none.
@@ -42,7 +42,7 @@ abbrev pub feeder_words : ℕ → List ℕ → List ℕ
 feeder_words feeders row_feeders = if nat_eq feeders 1 then [] else packed_bytes row_feeders
 
 -- The words of rows: the bitmaps of each column, and the feeder of each row.
-abbrev pub rows_words : Declared → ℕ → List FedRow → List ℕ
+abbrev pub rows_words : Declared → ℕ → List SourcedRow → List ℕ
 rows_words schema feeders rows =
     columns_words schema rows 0 (length schema.columns) ++ feeder_words feeders (feeders_of rows)
 
@@ -67,7 +67,7 @@ segment One t notes kinds = table_segment t notes
 segment Two t notes kinds = segment_with_head t notes kinds
 
 -- Rows that an index of this schema may have, each of one of its feeders.
-pub record AreRows (schema : Declared) (feeders : ℕ) (rows : List FedRow) : Type 0 where
+pub record AreRows (schema : Declared) (feeders : ℕ) (rows : List SourcedRow) : Type 0 where
   pub fits : AreFitting schema.columns rows
   pub from : AreFrom feeders rows
 
@@ -95,14 +95,14 @@ pub record MayBeSaved (version : FormatVersion) (t : Table) (notes kinds : Bytes
 -- A part of the file: the version, the rows and the notes of one segment.
 pub record Part : Type 0 where
   pub version : FormatVersion
-  pub rows : List FedRow
+  pub rows : List SourcedRow
   pub notes : Bytes
 
-abbrev pub part : FormatVersion → List FedRow → Bytes → Part
+abbrev pub part : FormatVersion → List SourcedRow → Bytes → Part
 part version rows notes = record { version = version; rows = rows; notes = notes }
 
 -- The table with these rows in place of its own.
-abbrev pub with_only : Table → List FedRow → Table
+abbrev pub with_only : Table → List SourcedRow → Table
 with_only t rows = record t { rows = rows }
 
 -- The bytes of one part of the file.

@@ -5,7 +5,7 @@ ghost use Rattle.std.specs.List.{flat_map};
 ghost use Rattle.bsi_bits.specs.BitList.{max_len};
 ghost use Rattle.bsi_schema.specs.Columns.{column_at, Entries, IsDeclared};
 ghost use Rattle.bsi_shift.specs.Shifted.{shifted_entries};
-ghost use Rattle.bsi_rows.specs.Rows.{FedRow};
+ghost use Rattle.bsi_rows.specs.Rows.{SourcedRow};
 ghost use Rattle.bsi_rows.specs.Table.{max_feeders, Table};
 ghost use Rattle.bsi_table.specs.Bitmaps.{entries_bitmaps};
 ghost use Rattle.bsi_table.specs.Index.{table_of};
@@ -126,7 +126,7 @@ fn decode_index(
     requires schema { IsDeclared schema × (0 < length schema.columns) }
     ensures made { IfOk result (λ decoded. IfSome decoded (λ index.
         HasRowsOf schema sizes.rows sizes.feeders sizes.limit words.now (table_of index))) }
-    ensures none { IfOk result (λ decoded. IfNone decoded ((rows : List FedRow) →
+    ensures none { IfOk result (λ decoded. IfNone decoded ((rows : List SourcedRow) →
         AreRows schema sizes.feeders rows → length rows ≡ sizes.rows →
         words.now ≡ rows_words schema sizes.feeders rows → ⊥)) }
 {
@@ -156,7 +156,7 @@ fn decode_columns<'a>(
         AreEncoded schema.now.columns pair.0.items rows)) }
     ensures words { IfOk result (λ decoded. IfSome decoded (λ pair.
         words.now ≡ encoded_words schema.now pair.0.items (length schema.now.columns) ++ pair.1.now)) }
-    ensures none { IfOk result (λ decoded. IfNone decoded ((others : List FedRow) → (rest : List ℕ) →
+    ensures none { IfOk result (λ decoded. IfNone decoded ((others : List SourcedRow) → (rest : List ℕ) →
         (feeders : ℕ) → AreRows schema.now feeders others → length others ≡ rows →
         words.now ≡ columns_words schema.now others 0 (length schema.now.columns) ++ rest → ⊥)) }
 {

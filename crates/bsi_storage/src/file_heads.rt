@@ -6,7 +6,7 @@ ghost use Rattle.std.specs.Io.KnownBytes.{IsAtEnd};
 ghost use Rattle.std.specs.List.{AllZip};
 ghost use Rattle.bsi_projection.specs.Chosen.{chosen_table};
 ghost use Rattle.bsi_pread.specs.Offsets.{known_from};
-ghost use Rattle.bsi_rows.specs.Rows.{FedRow};
+ghost use Rattle.bsi_rows.specs.Rows.{SourcedRow};
 ghost use Rattle.bsi_rows.specs.Table.{with_rows, Table};
 ghost use Rattle.bsi_storage.specs.Choices.{IsChoice};
 ghost use Rattle.bsi_storage.specs.ChosenColumns.{SaysChosen};
@@ -223,16 +223,16 @@ fn append_segment<R: ReadAt>(
 ) -> Result<bool, OpenFault>
     requires { HasSizes head.now }
     ensures appended { IfOk result (λ done. done ≡ true → (t : Table) → (kinds : Bytes) → (p : Part) →
-        (rows : List FedRow) → IsHeadAt (R.all_bytes reader.now) t kinds head.now p →
+        (rows : List SourcedRow) → IsHeadAt (R.all_bytes reader.now) t kinds head.now p →
         table_of whole.old ≡ chosen_table chosen.now (with_only t rows) →
         table_of whole.new ≡ chosen_table chosen.now (with_only t (rows ++ p.rows))) }
-    ensures said { IfOk result (λ done. done ≡ true → (more : List FedRow)
+    ensures said { IfOk result (λ done. done ≡ true → (more : List SourcedRow)
         × SaysChosen (R.all_bytes reader.now) head.now chosen.now whole.old.schema more
         × (table_of whole.new ≡ with_rows (table_of whole.old) more)) }
     ensures none { IfOk result (λ done. done ≡ false →
         IsChoice (length head.now.preamble.schema.columns) chosen.now → ⊥) }
     ensures fault { IfErr result (λ fault. (t : Table) → (kinds : Bytes) → (p : Part) →
-        (rows : List FedRow) → IsHeadAt (R.all_bytes reader.now) t kinds head.now p →
+        (rows : List SourcedRow) → IsHeadAt (R.all_bytes reader.now) t kinds head.now p →
         table_of whole.old ≡ chosen_table chosen.now (with_only t rows) →
         length rows + length p.rows ≤ t.limit → IsReadOrNoMemory fault) }
 {

@@ -4,7 +4,7 @@ use Rattle.std.specs.Borrow.{Bor}
 use Rattle.std.specs.Prelude.{◌≡◌, ◌≢◌, ◌⊎◌, ◌+◌, ◌-◌, ◌^◌, ◌<◌, ◌≤◌, ◌++◌, ℕ, Bool, false, true, List, [], Some, IfSome, codes, length, map, min}
 use Rattle.std.specs.Io.KnownBytes.{Appends}
 use Rattle.std.specs.List.{concat, sum_by}
-use Rattle.bsi_rows.specs.Rows.{FedRow}
+use Rattle.bsi_rows.specs.Rows.{SourcedRow}
 use Rattle.bsi_rows.specs.Table.{max_feeders, Table}
 use Rattle.bsi_input.specs.Formats.{Format}
 use Rattle.bsi_logical.specs.Logical.{Logical}
@@ -184,7 +184,7 @@ pub record HaveBadRecords {S : Type 0} (rem : S → KnownBytes) (format : Format
   -- There are `count` row files.
   pub many : length files ≡ count
   -- The rows of the files.
-  pub rows : List FedRow
+  pub rows : List SourcedRow
   -- The numbers of accepted rows and of bad records of each file.
   pub counts : List FedCounts
   -- If the bytes of the files are known, the rows are exactly their good rows, which are counted.
@@ -301,7 +301,7 @@ pub record ExceedLimit {S : Type 0} (rem : S → KnownBytes) (so_far : Bool) (co
   -- There are `count` row files.
   pub many : length files ≡ count
   -- The rows of the files.
-  pub rows : List FedRow
+  pub rows : List SourcedRow
   -- The numbers of accepted rows and of bad records of each file.
   pub counts : List FedCounts
   -- If the bytes of the files are known, the rows are exactly their good rows.

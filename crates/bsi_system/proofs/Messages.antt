@@ -6,7 +6,7 @@ use Rattle.std.proofs.lemmas.List.Elements.{All-append, All-cons, All-head, All-
 use mathlib.Core.List.{IsPrefix}
 use Rattle.bsi_schema.specs.Columns.{fits, Declared}
 use Rattle.bsi_rows.specs.RowBlocks.{entries_of}
-use Rattle.bsi_rows.specs.Rows.{FedRow}
+use Rattle.bsi_rows.specs.Rows.{SourcedRow}
 use Rattle.bsi_rows.specs.Table.{AreFitting}
 use Rattle.bsi_system.specs.declared.message.Message.{Message}
 use Rattle.bsi_system.specs.declared.message.Message.TheVariants as message
@@ -17,7 +17,7 @@ use Rattle.bsi_system.specs.Rings.{all_rows, first_rows, rows_of, with_look, wit
 -- a message has a row
 pub some_rows : (p : Message) → 0 < length (rows_of p)
 some_rows (message.Row row) = omega arith
-some_rows (message.Batch batch) = omega (arith, batch.some, length-map batch.index.rows (λ (row : FedRow). row.1))
+some_rows (message.Batch batch) = omega (arith, batch.some, length-map batch.index.rows (λ (row : SourcedRow). row.1))
 
 pub all_rows-append : (ps qs : List Message) → all_rows (ps ++ qs) ≡ all_rows ps ++ all_rows qs
 all_rows-append [] qs = refl
@@ -39,8 +39,8 @@ parcel_fits schema (message.Row row) is = All-cons (λ r. IsTrue (fits schema.co
 parcel_fits schema (message.Batch batch) is = is.1
 
 -- rows of feeders that fit do so without their feeders
-pub entries_fit : (schema : Declared) (rows : List FedRow) → AreFitting schema.columns rows → AllFit schema (entries_of rows)
-entries_fit schema rows fitting = All-map (λ row. IsTrue (fits schema.columns row)) (λ (row : FedRow). row.1) rows fitting
+pub entries_fit : (schema : Declared) (rows : List SourcedRow) → AreFitting schema.columns rows → AllFit schema (entries_of rows)
+entries_fit schema rows fitting = All-map (λ row. IsTrue (fits schema.columns row)) (λ (row : SourcedRow). row.1) rows fitting
 
 -- each row that a feeder of a schema sends fits it
 pub rows_fit : (schema : Declared) (ps : List Message) → All (IsMessageFor schema) ps → AllFit schema (all_rows ps)

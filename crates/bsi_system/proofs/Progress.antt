@@ -8,9 +8,9 @@ use Rattle.std.proofs.lemmas.List.Elements.{filter_map-append, All-cons, All-get
 use Rattle.std.proofs.lemmas.Option.{get_or_from_slice_get, slice_get_cases, slice_get-map, slice_get_read, slice_get_within}
 use mathlib.Core.List.{IsPrefix}
 use Rattle.bsi_schema.specs.Columns.{fits, Declared}
-use Rattle.bsi_rows.specs.RowBlocks.{entries_of, fed_rows_from}
+use Rattle.bsi_rows.specs.RowBlocks.{entries_of, sourced_from}
 use Rattle.bsi_table.specs.Index.{IndexedTable}
-use Rattle.bsi_rows.specs.Rows.{Entries, FedRow}
+use Rattle.bsi_rows.specs.Rows.{Entries, SourcedRow}
 use Rattle.bsi_rows.specs.declared.event.LoadRefused.TheVariants as load
 use Rattle.bsi_rows.specs.Runs.{rows_from}
 use Rattle.bsi_system.specs.declared.ring_reader.Front.{Front}
@@ -94,21 +94,21 @@ module _ (old : List RingReader) (f : ℕ) (new : List RingReader) where
 
 -- ---- the rows of a feeder
 
-pub rows_from-append : (f : ℕ) (xs ys : List FedRow) → rows_from f (xs ++ ys) ≡ rows_from f xs ++ rows_from f ys
-rows_from-append f xs ys = filter_map-append (λ (row : FedRow). cond (nat_eq row.0 f) (Some row.1) None) xs ys
+pub rows_from-append : (f : ℕ) (xs ys : List SourcedRow) → rows_from f (xs ++ ys) ≡ rows_from f xs ++ rows_from f ys
+rows_from-append f xs ys = filter_map-append (λ (row : SourcedRow). cond (nat_eq row.0 f) (Some row.1) None) xs ys
 
 rows_from-one : (f g : ℕ) (row : Entries) (b : Bool) → nat_eq f g ≡ b → rows_from g ((f, row) ∷ []) ≡ cond b (row ∷ []) []
 rows_from-one f g row true is = rw is refl
 rows_from-one f g row false is = rw is refl
 
 -- of rows of one feeder
-rows_from-fed : (f g : ℕ) (rows : List Entries) (b : Bool) → nat_eq f g ≡ b → rows_from g (fed_rows_from f rows) ≡ cond b rows []
+rows_from-fed : (f g : ℕ) (rows : List Entries) (b : Bool) → nat_eq f g ≡ b → rows_from g (sourced_from f rows) ≡ cond b rows []
 rows_from-fed f g [] true is = refl
 rows_from-fed f g [] false is = refl
 rows_from-fed f g (row ∷ rows) true is =
-    rows_from-append g ((f, row) ∷ []) (fed_rows_from f rows) ∙ ap₂ (λ (xs ys : List Entries). xs ++ ys) (rows_from-one f g row true is) (rows_from-fed f g rows true is)
+    rows_from-append g ((f, row) ∷ []) (sourced_from f rows) ∙ ap₂ (λ (xs ys : List Entries). xs ++ ys) (rows_from-one f g row true is) (rows_from-fed f g rows true is)
 rows_from-fed f g (row ∷ rows) false is =
-    rows_from-append g ((f, row) ∷ []) (fed_rows_from f rows) ∙ ap₂ (λ (xs ys : List Entries). xs ++ ys) (rows_from-one f g row false is) (rows_from-fed f g rows false is)
+    rows_from-append g ((f, row) ∷ []) (sourced_from f rows) ∙ ap₂ (λ (xs ys : List Entries). xs ++ ys) (rows_from-one f g row false is) (rows_from-fed f g rows false is)
 
 -- ---- the loader
 
@@ -224,18 +224,18 @@ module _ (readers : List RingReader) (f : ℕ) (first_row : HasFirst readers f) 
 
 -- after these rows more
 abbrev loaded : LoaderState → ℕ → List Entries → LoaderState
-loaded s f rows = record s { progress = set s.progress f (with_popped_rows (progress_at s.progress f) rows); staged = s.staged ++ fed_rows_from f rows }
+loaded s f rows = record s { progress = set s.progress f (with_popped_rows (progress_at s.progress f) rows); staged = s.staged ++ sourced_from f rows }
 
 loaded_balanced : (s : LoaderState) (f : ℕ) (rows : List Entries) → f < length s.progress → Balanced s → Balanced (loaded s f rows)
 loaded_balanced s f rows within balanced g =
     let more = with_popped_rows (progress_at s.progress f) rows in
-    let all : (b : Bool) → nat_eq f g ≡ b → rows_from g (s.published ++ (s.staged ++ fed_rows_from f rows)) ≡ popped s g ++ cond b rows [] =
-    λ b is. ap (rows_from g) (sym (append_assoc s.published s.staged (fed_rows_from f rows)))
-    ∙ (rows_from-append g (s.published ++ s.staged) (fed_rows_from f rows) ∙ (ap (λ xs. xs ++ rows_from g (fed_rows_from f rows)) (balanced g) ∙ ap (λ xs. popped s g ++ xs) (rows_from-fed f g rows b is))) in
+    let all : (b : Bool) → nat_eq f g ≡ b → rows_from g (s.published ++ (s.staged ++ sourced_from f rows)) ≡ popped s g ++ cond b rows [] =
+    λ b is. ap (rows_from g) (sym (append_assoc s.published s.staged (sourced_from f rows)))
+    ∙ (rows_from-append g (s.published ++ s.staged) (sourced_from f rows) ∙ (ap (λ xs. xs ++ rows_from g (sourced_from f rows)) (balanced g) ∙ ap (λ xs. popped s g ++ xs) (rows_from-fed f g rows b is))) in
     by all (nat_eq f g) refl
   where
-    by : ((b : Bool) → nat_eq f g ≡ b → rows_from g (s.published ++ (s.staged ++ fed_rows_from f rows)) ≡ popped s g ++ cond b rows []) → (b : Bool) → nat_eq f g ≡ b
-        → rows_from g (s.published ++ (s.staged ++ fed_rows_from f rows)) ≡ popped (loaded s f rows) g
+    by : ((b : Bool) → nat_eq f g ≡ b → rows_from g (s.published ++ (s.staged ++ sourced_from f rows)) ≡ popped s g ++ cond b rows []) → (b : Bool) → nat_eq f g ≡ b
+        → rows_from g (s.published ++ (s.staged ++ sourced_from f rows)) ≡ popped (loaded s f rows) g
     by all true is =
         let same : f ≡ g = grind (arith, nat_tests) in
         all true is ∙ subst (λ (h : ℕ). popped s h ++ rows ≡ popped (loaded s f rows) h) same
@@ -249,7 +249,7 @@ looked_loads : (s t u : LoaderState) (f : ℕ) (rows : List Entries) → Changes
 looked_loads s t u f rows looks loads =
     let from : LoadsRows (record s { seen = set s.seen f (seen t f) }) f rows u = subst (λ (v : LoaderState). LoadsRows v f rows u) looks loads in
     from
-    ∙ ap (λ (xs : List (List Entries)). record s { progress = set s.progress f (with_popped_rows (progress_at s.progress f) rows); seen = xs; staged = s.staged ++ fed_rows_from f rows }) (set-set s.seen f (seen t f) (seen u f))
+    ∙ ap (λ (xs : List (List Entries)). record s { progress = set s.progress f (with_popped_rows (progress_at s.progress f) rows); seen = xs; staged = s.staged ++ sourced_from f rows }) (set-set s.seen f (seen t f) (seen u f))
 
 -- one row of many that are one
 pub one_of_many : (s : LoaderState) (f : ℕ) (t : LoaderState) → LoadsMany s f 1 t → LoadsOne s f t
@@ -284,9 +284,9 @@ module _ (readers : List RingReader) (w : PublisherState) (f many : ℕ) (new : 
       let progress : progress_of new ≡ set (progress_of readers) f (with_popped_rows (progress_at (progress_of readers) f) rows) =
       ap progress_of pops.now ∙ (map-set reader_progress readers f (with_more_popped pops.before many) ∙ ap (set (progress_of readers) f) progress_is_of) in
       ap (loader_state new) holds.staged
-      ∙ (ap (λ (ts : List FeederProgress). record { system = record { channels = channels_of new; schema = w.table.schema; limit = w.table.limit }; progress = ts; seen = seen_of new; published = w.table.rows; staged = w.staged ++ fed_rows_from f rows }) progress
-      ∙ (ap (λ (ls : List ChannelName). record { system = record { channels = ls; schema = w.table.schema; limit = w.table.limit }; progress = set (progress_of readers) f (with_popped_rows (progress_at (progress_of readers) f) rows); seen = seen_of new; published = w.table.rows; staged = w.staged ++ fed_rows_from f rows }) pops_channels
-      ∙ ap (λ (xs : List (List Entries)). record { system = record { channels = channels_of readers; schema = w.table.schema; limit = w.table.limit }; progress = set (progress_of readers) f (with_popped_rows (progress_at (progress_of readers) f) rows); seen = xs; published = w.table.rows; staged = w.staged ++ fed_rows_from f rows }) pops_seen))
+      ∙ (ap (λ (ts : List FeederProgress). record { system = record { channels = channels_of new; schema = w.table.schema; limit = w.table.limit }; progress = ts; seen = seen_of new; published = w.table.rows; staged = w.staged ++ sourced_from f rows }) progress
+      ∙ (ap (λ (ls : List ChannelName). record { system = record { channels = ls; schema = w.table.schema; limit = w.table.limit }; progress = set (progress_of readers) f (with_popped_rows (progress_at (progress_of readers) f) rows); seen = seen_of new; published = w.table.rows; staged = w.staged ++ sourced_from f rows }) pops_channels
+      ∙ ap (λ (xs : List (List Entries)). record { system = record { channels = channels_of readers; schema = w.table.schema; limit = w.table.limit }; progress = set (progress_of readers) f (with_popped_rows (progress_at (progress_of readers) f) rows); seen = xs; published = w.table.rows; staged = w.staged ++ sourced_from f rows }) pops_seen))
 
   pub pops_loader : IsLoader readers w → IsLoader new next
   pops_loader is = record {

@@ -2,8 +2,8 @@
 use Rattle.std.specs.Prelude.{◌≡◌, ℕ, ◌+◌, ◌<◌, ◌≤◌, ⊤, All, IfSome, IsTrue, List, [], ◌∷◌, ◌++◌, Option, None, Some, Result, Ok, Err, drop, length, map, slice_get, slice_index_or, slice_set}
 use mathlib.Core.List.{IsPrefix}
 use Rattle.bsi_schema.specs.Columns.{fits, Declared}
-use Rattle.bsi_rows.specs.RowBlocks.{fed_rows_from}
-use Rattle.bsi_rows.specs.Rows.{Entries, FedRow}
+use Rattle.bsi_rows.specs.RowBlocks.{sourced_from}
+use Rattle.bsi_rows.specs.Rows.{Entries, SourcedRow}
 use Rattle.bsi_rows.specs.declared.event.LoadRefused.{LoadRefused}
 use Rattle.bsi_rows.specs.declared.event.LoadRefused.TheVariants as load
 use Rattle.bsi_rows.specs.Runs.{rows_from}
@@ -29,8 +29,8 @@ pub record LoaderState : Type 0 where
   pub progress : List FeederProgress  -- of each feeder
   pub seen : List (List Entries)  -- the rows that are seen in each ring, and not popped
   -- The rows that were published, in order.
-  pub published : List FedRow
-  pub staged : List FedRow  -- loaded, and not published yet
+  pub published : List SourcedRow
+  pub staged : List SourcedRow  -- loaded, and not published yet
 
 -- The progress of a feeder that is not there.
 abbrev pub no_progress : FeederProgress
@@ -128,7 +128,7 @@ LoadsRows s f rows t =
     t ≡ record s {
       progress = slice_set s.progress f (with_popped_rows (progress_at s.progress f) rows);
       seen = slice_set s.seen f (seen t f);
-      staged = s.staged ++ fed_rows_from f rows;
+      staged = s.staged ++ sourced_from f rows;
     }
 
 -- The progress after one row was popped.

@@ -6,14 +6,14 @@ use Rattle.bsi_origins.specs.Origins.{OriginList}
 use Rattle.bsi_schema.specs.Columns.{entry_at, Declared}
 use Rattle.bsi_shift.specs.Shifted.{OffsetColumn}
 use Rattle.bsi_table.specs.Index.{AreRoomy}
-use Rattle.bsi_rows.specs.Rows.{feeders_of, FedRow}
-use Rattle.bsi_table.specs.Encoded.{fed_rows, AreInRange, AreEncoded, HaveMore, IsTable, AcceptsRow}
+use Rattle.bsi_rows.specs.Rows.{feeders_of, SourcedRow}
+use Rattle.bsi_table.specs.Encoded.{sourced_rows, AreInRange, AreEncoded, HaveMore, IsTable, AcceptsRow}
 use Rattle.bsi_rows.specs.Table.{table, with_rows, AreFitting, AreFrom, Table}
 use Rattle.bsi_table.proofs.Keeping.{are_encoded_more, rows_accepted}
-use Rattle.bsi_table.proofs.TableRows.{fed_rows-more}
+use Rattle.bsi_table.proofs.TableRows.{sourced_rows-more}
 
 module _ (schema : Declared) (limit : ℕ) (old : OriginList) (encoded : List OffsetColumn) (is : IsTable schema.columns old.feeders limit old.rows encoded)
-    (rows : List FedRow) (fit : AreFitting schema.columns rows) (from : AreFrom old.feeders rows) where
+    (rows : List SourcedRow) (fit : AreFitting schema.columns rows) (from : AreFrom old.feeders rows) where
   pub accepted : All (λ row. AcceptsRow encoded row.1) rows
   accepted = rows_accepted schema.columns encoded (length old.rows) is.columns_are rows fit
 
@@ -38,12 +38,12 @@ module _ (schema : Declared) (limit : ℕ) (old : OriginList) (encoded : List Of
     }
 
     -- it holds these rows after its own
-    pub grown_rows : (before : Table) → table schema old.feeders limit (fed_rows old.rows encoded) ≡ before → table schema new.feeders limit (fed_rows new.rows grown) ≡ with_rows before rows
+    pub grown_rows : (before : Table) → table schema old.feeders limit (sourced_rows old.rows encoded) ≡ before → table schema new.feeders limit (sourced_rows new.rows grown) ≡ with_rows before rows
     grown_rows before was =
-        let more_rows = fed_rows-more old.rows encoded grown rows long
+        let more_rows = sourced_rows-more old.rows encoded grown rows long
         (All-weaker (λ row. AcceptsRow encoded row.1) (λ row. length row.1 ≡ length encoded) (λ row accepts. accepts.wide) rows accepted)
         (λ k within. (is.columns_are.each k (omega (arith, within, is.columns_are.long))).rows) more in
-        ap₂ (λ n (fed : List FedRow). table schema n limit fed) feeders_are (ap (λ xs. fed_rows xs grown) rows_are ∙ more_rows)
+        ap₂ (λ n (fed : List SourcedRow). table schema n limit fed) feeders_are (ap (λ xs. sourced_rows xs grown) rows_are ∙ more_rows)
         ∙ ap (λ t. with_rows t rows) was
 
     -- and has less room by as many

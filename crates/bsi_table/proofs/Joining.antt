@@ -11,15 +11,15 @@ use Rattle.bsi_schema.specs.Limits.{limits_of}
 use Rattle.bsi_schema.specs.declared.limits.Limits.{Limits}
 use Rattle.bsi_shift.specs.Shifted.{shifted_entries, OffsetColumn}
 use Rattle.bsi_rows.specs.RowBlocks.{HaveSameLimits}
-use Rattle.bsi_rows.specs.Rows.{feeders_of, FedRow}
+use Rattle.bsi_rows.specs.Rows.{feeders_of, SourcedRow}
 use Rattle.bsi_origins.specs.Origins.{OriginList}
 use Rattle.bsi_table.specs.Joined.{feeders_as, rows_as, AreEnough}
-use Rattle.bsi_table.specs.Encoded.{encoded_at, encoded_form, fed_rows, AreAlikeColumns, AreEncoded, HasMore, HaveMore, HaveRows, IsTable}
+use Rattle.bsi_table.specs.Encoded.{sourced_rows, encoded_at, encoded_form, AreAlikeColumns, AreEncoded, HasMore, HaveMore, HaveRows, IsTable}
 use Rattle.bsi_rows.specs.Table.{encoded_as, AreFitting, AreFrom, AreEncodedAlike}
 use Rattle.bsi_rows.proofs.CallerLemmas.{fitting-alike}
 use Rattle.bsi_table.proofs.Keeping.{row_in-fits}
 use Rattle.bsi_table.proofs.Fed.{feeders-as, fitting-as, from-as, have_more-as, length-as}
-use Rattle.bsi_table.proofs.TableRows.{All-fed_rows, column-fed_rows, feeders-fed_rows, length-fed_rows}
+use Rattle.bsi_table.proofs.TableRows.{All-sourced_rows, column-sourced_rows, feeders-sourced_rows, length-sourced_rows}
 
 -- columns that are kept in one form were declared in one
 abbrev declared_form : AnyForm → Form
@@ -79,27 +79,27 @@ alike-encoded first second alike = limits-columns first.columns ∙ ap (map limi
 
 -- the rows of a table fit its columns
 pub fitting_rows : (columns : List NamedColumn) (feeders limit : ℕ) (row_feeders : List ℕ) (encoded : List OffsetColumn) → IsTable columns feeders limit row_feeders encoded
-    → AreFitting columns (fed_rows row_feeders encoded)
+    → AreFitting columns (sourced_rows row_feeders encoded)
 fitting_rows columns feeders limit row_feeders encoded is =
-    All-fed_rows row_feeders encoded (λ row. fits columns row.1 ≡ true) (λ r below. row_in-fits columns encoded (length row_feeders) is.columns_are r below)
+    All-sourced_rows row_feeders encoded (λ row. fits columns row.1 ≡ true) (λ r below. row_in-fits columns encoded (length row_feeders) is.columns_are r below)
 
 -- and those of one that is kept alike
-pub fitting_others : (first second : Declared) → AreEncodedAlike first second → (rows : List FedRow) → AreFitting second.columns rows → AreFitting first.columns rows
+pub fitting_others : (first second : Declared) → AreEncodedAlike first second → (rows : List SourcedRow) → AreFitting second.columns rows → AreFitting first.columns rows
 fitting_others first second alike rows fitting = fitting-alike second first (sym (alike-encoded first second alike)) rows fitting
 
 -- they came from its feeders
 pub from_feeders : (columns : List NamedColumn) (feeders limit more : ℕ) (row_feeders : List ℕ) (encoded : List OffsetColumn) → IsTable columns feeders limit row_feeders encoded
-    → feeders ≤ more → AreFrom more (fed_rows row_feeders encoded)
+    → feeders ≤ more → AreFrom more (sourced_rows row_feeders encoded)
 from_feeders columns feeders limit more row_feeders encoded is few =
-    All-fed_rows row_feeders encoded (λ row. row.0 < more)
+    All-sourced_rows row_feeders encoded (λ row. row.0 < more)
     (λ r below. omega (arith, few, All-get_or (λ feeder. feeder < feeders) row_feeders r 0 below is.from))
 
 -- columns that got the entries of others have their rows more
 pub have_more : (old new others : List OffsetColumn) (row_feeders : List ℕ) → length others ≡ length old → HaveRows others (length row_feeders)
-    → ((k : ℕ) → k < length old → HasMore (encoded_at old k) (encoded_at new k) (shifted_entries (encoded_at others k))) → HaveMore old new (fed_rows row_feeders others)
+    → ((k : ℕ) → k < length old → HasMore (encoded_at old k) (encoded_at new k) (shifted_entries (encoded_at others k))) → HaveMore old new (sourced_rows row_feeders others)
 have_more old new others row_feeders long even each = λ k within.
     let there : k < length others = omega (arith, within, long) in
-    subst (HasMore (encoded_at old k) (encoded_at new k)) (sym (column-fed_rows row_feeders others k there (even k there))) (each k within)
+    subst (HasMore (encoded_at old k) (encoded_at new k)) (sym (column-sourced_rows row_feeders others k there (even k there))) (each k within)
 
 -- an index that takes all rows of another one, which is kept alike
 module _ (schema other : Declared) (limit other_limit : ℕ) (own others : OriginList) (encoded other_encoded : List OffsetColumn)
@@ -116,23 +116,23 @@ module _ (schema other : Declared) (limit other_limit : ℕ) (own others : Origi
 
   -- as rows of one feeder, or each of its own
   module _ (feeder : Option ℕ) (enough : AreEnough own.feeders feeder others.feeders) where
-    abbrev pub joined : List FedRow
-    joined = rows_as feeder (fed_rows others.rows other_encoded)
+    abbrev pub joined : List SourcedRow
+    joined = rows_as feeder (sourced_rows others.rows other_encoded)
 
     pub joined_fit : AreFitting schema.columns joined
-    joined_fit = fitting-as feeder schema.columns (fed_rows others.rows other_encoded)
-        (fitting_others schema other alike (fed_rows others.rows other_encoded) (fitting_rows other.columns others.feeders other_limit others.rows other_encoded other_is))
+    joined_fit = fitting-as feeder schema.columns (sourced_rows others.rows other_encoded)
+        (fitting_others schema other alike (sourced_rows others.rows other_encoded) (fitting_rows other.columns others.feeders other_limit others.rows other_encoded other_is))
 
     pub joined_from : AreFrom own.feeders joined
-    joined_from = from-as feeder own.feeders others.feeders (fed_rows others.rows other_encoded) enough
+    joined_from = from-as feeder own.feeders others.feeders (sourced_rows others.rows other_encoded) enough
         (from_feeders other.columns others.feeders other_limit own.feeders others.rows other_encoded other_is)
 
     pub joined_more : (grown : List OffsetColumn)
         → ((k : ℕ) → k < length encoded → HasMore (encoded_at encoded k) (encoded_at grown k) (shifted_entries (encoded_at other_encoded k))) → HaveMore encoded grown joined
-    joined_more grown each = have_more-as feeder encoded grown (fed_rows others.rows other_encoded) (have_more encoded grown other_encoded others.rows long_others even_others each)
+    joined_more grown each = have_more-as feeder encoded grown (sourced_rows others.rows other_encoded) (have_more encoded grown other_encoded others.rows long_others even_others each)
 
     pub feeders-joined : feeders_as feeder others.rows ≡ feeders_of joined
-    feeders-joined = ap (feeders_as feeder) (sym (feeders-fed_rows others.rows other_encoded)) ∙ sym (feeders-as feeder (fed_rows others.rows other_encoded))
+    feeders-joined = ap (feeders_as feeder) (sym (feeders-sourced_rows others.rows other_encoded)) ∙ sym (feeders-as feeder (sourced_rows others.rows other_encoded))
 
     pub length-joined : length joined ≡ length others.rows
-    length-joined = length-as feeder (fed_rows others.rows other_encoded) ∙ length-fed_rows others.rows other_encoded
+    length-joined = length-as feeder (sourced_rows others.rows other_encoded) ∙ length-sourced_rows others.rows other_encoded

@@ -13,7 +13,7 @@ use Rattle.bsi_shift.specs.Shifted.{shifted_entries, shifted_size, IsAlike, Offs
 use Rattle.bsi_schema.specs.declared.form.Form.{Form}
 use Rattle.bsi_schema.specs.declared.form.Form.TheVariants.{Slices, Equality, Range}
 use Rattle.bsi_schema.specs.Columns.{column_at, fits, is_accepted_by, size_in, NamedColumn}
-use Rattle.bsi_rows.specs.Rows.{column_of, entry_at, Entries, FedRow}
+use Rattle.bsi_rows.specs.Rows.{column_of, entry_at, Entries, SourcedRow}
 use Rattle.bsi_table.specs.Encoded.{encoded_at, encoded_form, row_in, AreInRange, AreEncoded, AreI64, HasMore, HaveMore, IsInForm, IsSameColumn, IsTable, Encodes, AcceptsRow}
 use Rattle.bsi_rows.specs.Table.{AreFitting}
 use Rattle.bsi_schema.proofs.Fitting.{fits-at, fits-each, fits-length, accepted_small, within}
@@ -116,7 +116,7 @@ module _ (columns : List NamedColumn) (old : List OffsetColumn) (n : ℕ) (encod
     each = λ c within. encodes_same (column_at columns c) (encoded_at old c) n (encoded.each c within) (encoded_at new c) (same c (omega (arith, encoded.long)));
   }
 
-  pub are_encoded_more : (rows : List FedRow) → All (λ row. AreInRange old row.1) rows → HaveMore old new rows → AreEncoded columns new (n + length rows)
+  pub are_encoded_more : (rows : List SourcedRow) → All (λ row. AreInRange old row.1) rows → HaveMore old new rows → AreEncoded columns new (n + length rows)
   are_encoded_more rows accepted more = record {
     long = long ∙ encoded.long;
     each = λ c within.
@@ -148,7 +148,7 @@ module _ (columns : List NamedColumn) (encoded : List OffsetColumn) (n : ℕ) (a
     row_accepted = record { wide = fits-length columns row fitting ∙ sym are.long; range = row_in_range; small = row_small }
 
   -- and rows that fit
-  pub rows_accepted : (rows : List FedRow) → AreFitting columns rows → All (λ row. AcceptsRow encoded row.1) rows
+  pub rows_accepted : (rows : List SourcedRow) → AreFitting columns rows → All (λ row. AcceptsRow encoded row.1) rows
   rows_accepted rows fitting = All-weaker (λ row. IsTrue (fits columns row.1)) (λ row. AcceptsRow encoded row.1) (λ row fit. row_accepted row.1 fit) rows fitting
 
   -- each row that is kept fits

@@ -14,35 +14,35 @@ use Rattle.bsi_schema.specs.declared.form.Form.TheVariants.{Slices, Equality, Ra
 use Rattle.bsi_schema.specs.Columns.{column_at, entry_at, fits, no_column, size_in, Declared, Entries, IsColumn, IsForm, NamedColumn}
 use Rattle.bsi_schema.proofs.Fitting.{fits-at, fits-length}
 use Rattle.bsi_shift.specs.Shifted.{shifted_entries, OffsetColumn}
-use Rattle.bsi_rows.specs.Rows.{column_of, feeders_of, FedRow}
+use Rattle.bsi_rows.specs.Rows.{column_of, feeders_of, SourcedRow}
 use Rattle.bsi_rows.specs.Table.{AreFitting}
 use Rattle.bsi_table.specs.Bitmaps.{bitmaps_of, entries_bitmaps, stored_entry, HaveNoEntries}
-use Rattle.bsi_table.specs.Encoded.{encoded_at, encoded_form, fed_rows, row_in, AreEncoded}
+use Rattle.bsi_table.specs.Encoded.{sourced_rows, encoded_at, encoded_form, row_in, AreEncoded}
 use Rattle.bsi_table.proofs.BitmapRows.{entries_back, size_some, stored_below, Accepted}
 use Rattle.bsi_table.proofs.Keeping.{row_in-fits}
-use Rattle.bsi_table.proofs.TableRows.{column-fed_rows, feeders-fed_rows}
+use Rattle.bsi_table.proofs.TableRows.{column-sourced_rows, feeders-sourced_rows}
 
 -- ---- the rows that columns keep
 
 module _ (columns : List NamedColumn) (encoded : List OffsetColumn) (row_feeders : List ℕ) (are : AreEncoded columns encoded (length row_feeders)) where
   -- came from these feeders
-  pub fed-feeders : feeders_of (fed_rows row_feeders encoded) ≡ row_feeders
-  fed-feeders = feeders-fed_rows row_feeders encoded
+  pub fed-feeders : feeders_of (sourced_rows row_feeders encoded) ≡ row_feeders
+  fed-feeders = feeders-sourced_rows row_feeders encoded
 
   -- have the columns' entries
-  pub fed-column : (c : ℕ) → c < length columns → column_of (fed_rows row_feeders encoded) c ≡ shifted_entries (encoded_at encoded c)
-  fed-column c within = column-fed_rows row_feeders encoded c (omega (arith, within, are.long)) (are.each c within).rows
+  pub fed-column : (c : ℕ) → c < length columns → column_of (sourced_rows row_feeders encoded) c ≡ shifted_entries (encoded_at encoded c)
+  fed-column c within = column-sourced_rows row_feeders encoded c (omega (arith, within, are.long)) (are.each c within).rows
 
   -- and their bitmaps
   pub fed-bitmaps : (c : ℕ) → c < length columns
-      → entries_bitmaps (column_at columns c) (column_of (fed_rows row_feeders encoded) c) ≡ entries_bitmaps (column_at columns c) (shifted_entries (encoded_at encoded c))
+      → entries_bitmaps (column_at columns c) (column_of (sourced_rows row_feeders encoded) c) ≡ entries_bitmaps (column_at columns c) (shifted_entries (encoded_at encoded c))
   fed-bitmaps c within = ap (entries_bitmaps (column_at columns c)) (fed-column c within)
 
   -- and fit
-  pub fed-fitting : AreFitting columns (fed_rows row_feeders encoded)
-  unfolding fed_rows
+  pub fed-fitting : AreFitting columns (sourced_rows row_feeders encoded)
+  unfolding sourced_rows
   fed-fitting =
-      All-map (λ (row : FedRow). IsTrue (fits columns row.1)) (λ (r : ℕ). (get_or row_feeders r 0, row_in encoded r)) (range_with_len 0 (length row_feeders))
+      All-map (λ (row : SourcedRow). IsTrue (fits columns row.1)) (λ (r : ℕ). (get_or row_feeders r 0, row_in encoded r)) (range_with_len 0 (length row_feeders))
       (λ k d within.
       let below : k < length row_feeders = omega (arith, within, length-range_with_len 0 (length row_feeders)) in
       let at : get_or (range_with_len 0 (length row_feeders)) k d ≡ k = get_or-range_with_len 0 (length row_feeders) k d below ∙ omega arith in
@@ -67,19 +67,19 @@ same_entries column valid xs ys accepted_xs accepted_ys same =
     sym (entries_back column xs accepted_xs) ∙ ap (map (option_map (number_of column.offset))) stored_same ∙ entries_back column ys accepted_ys
 
 -- a column takes each entry of rows that fit
-pub column_accepted : (columns : List NamedColumn) (rows : List FedRow) (c : ℕ) → c < length columns → AreFitting columns rows → All (Accepted (column_at columns c)) (column_of rows c)
+pub column_accepted : (columns : List NamedColumn) (rows : List SourcedRow) (c : ℕ) → c < length columns → AreFitting columns rows → All (Accepted (column_at columns c)) (column_of rows c)
 column_accepted columns rows c within fitting =
-    All-map (Accepted (column_at columns c)) (λ (row : FedRow). entry_at row.1 c) rows
-    (All-weaker (λ (row : FedRow). IsTrue (fits columns row.1)) (λ (row : FedRow). Accepted (column_at columns c) (entry_at row.1 c)) (λ row fit. fits-at columns row.1 c fit within) rows fitting)
+    All-map (Accepted (column_at columns c)) (λ (row : SourcedRow). entry_at row.1 c) rows
+    (All-weaker (λ (row : SourcedRow). IsTrue (fits columns row.1)) (λ (row : SourcedRow). Accepted (column_at columns c) (entry_at row.1 c)) (λ row fit. fits-at columns row.1 c fit within) rows fitting)
 
 -- rows that fit are determined by their feeders and their bitmaps
-module _ (schema : Declared) (each : All IsColumn schema.columns) (xs ys : List FedRow) (fitting_xs : AreFitting schema.columns xs) (fitting_ys : AreFitting schema.columns ys)
+module _ (schema : Declared) (each : All IsColumn schema.columns) (xs ys : List SourcedRow) (fitting_xs : AreFitting schema.columns xs) (fitting_ys : AreFitting schema.columns ys)
     (feeders : feeders_of xs ≡ feeders_of ys) (bitmaps : (c : ℕ) → c < length schema.columns → bitmaps_of schema xs c ≡ bitmaps_of schema ys c) where
-  no_row : FedRow
+  no_row : SourcedRow
   no_row = (0, [])
 
   long : length xs ≡ length ys
-  long = sym (length-map xs (λ (row : FedRow). row.0)) ∙ ap length feeders ∙ length-map ys (λ (row : FedRow). row.0)
+  long = sym (length-map xs (λ (row : SourcedRow). row.0)) ∙ ap length feeders ∙ length-map ys (λ (row : SourcedRow). row.0)
 
   columns_same : (c : ℕ) → c < length schema.columns → column_of xs c ≡ column_of ys c
   columns_same c within =
@@ -87,20 +87,20 @@ module _ (schema : Declared) (each : All IsColumn schema.columns) (xs ys : List 
       same_entries (column_at schema.columns c) is_column.form (column_of xs c) (column_of ys c)
       (column_accepted schema.columns xs c within fitting_xs) (column_accepted schema.columns ys c within fitting_ys) (bitmaps c within)
 
-  wide : (rows : List FedRow) → AreFitting schema.columns rows → (r : ℕ) → r < length rows → length (get_or rows r no_row).1 ≡ length schema.columns
-  wide rows fitting r within = fits-length schema.columns (get_or rows r no_row).1 (All-get_or (λ (row : FedRow). IsTrue (fits schema.columns row.1)) rows r no_row within fitting)
+  wide : (rows : List SourcedRow) → AreFitting schema.columns rows → (r : ℕ) → r < length rows → length (get_or rows r no_row).1 ≡ length schema.columns
+  wide rows fitting r within = fits-length schema.columns (get_or rows r no_row).1 (All-get_or (λ (row : SourcedRow). IsTrue (fits schema.columns row.1)) rows r no_row within fitting)
 
   feeder_same : (r : ℕ) → r < length xs → (get_or xs r no_row).0 ≡ (get_or ys r no_row).0
   feeder_same r within =
-      sym (get_or-map (λ (row : FedRow). row.0) xs r no_row 0 within) ∙ ap (λ fs. get_or fs r 0) feeders ∙ get_or-map (λ (row : FedRow). row.0) ys r no_row 0 (omega (arith, within, long))
+      sym (get_or-map (λ (row : SourcedRow). row.0) xs r no_row 0 within) ∙ ap (λ fs. get_or fs r 0) feeders ∙ get_or-map (λ (row : SourcedRow). row.0) ys r no_row 0 (omega (arith, within, long))
 
   entries_same : (r : ℕ) → r < length xs → (get_or xs r no_row).1 ≡ (get_or ys r no_row).1
   entries_same r within =
       let inside : r < length ys = omega (arith, within, long) in
       ext_get_or None (get_or xs r no_row).1 (get_or ys r no_row).1 (wide xs fitting_xs r within ∙ sym (wide ys fitting_ys r inside)) (λ c below.
       let there : c < length schema.columns = omega (arith, below, wide xs fitting_xs r within) in
-      sym (get_or-map (λ (row : FedRow). entry_at row.1 c) xs r no_row None within) ∙ ap (λ es. get_or es r None) (columns_same c there)
-      ∙ get_or-map (λ (row : FedRow). entry_at row.1 c) ys r no_row None inside)
+      sym (get_or-map (λ (row : SourcedRow). entry_at row.1 c) xs r no_row None within) ∙ ap (λ es. get_or es r None) (columns_same c there)
+      ∙ get_or-map (λ (row : SourcedRow). entry_at row.1 c) ys r no_row None inside)
 
   pub same_rows : xs ≡ ys
   same_rows =

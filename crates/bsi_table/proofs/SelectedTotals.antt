@@ -4,7 +4,7 @@ use Rattle.bsi_digits.specs.Ranks.{IsSignedRankOf}
 use Rattle.bsi_digits.specs.WholeNumbers.{signed_sum, IsSignedLeastOf, IsSignedGreatestOf, IsSignedMedianOf}
 use Rattle.bsi_rows.specs.Answers.{IsRows, IsTotal, IsValue}
 use Rattle.bsi_rows.specs.Numbering.{numbered_at}
-use Rattle.bsi_rows.specs.Rows.{entry_at, feeders_of, holds, values, FedRow}
+use Rattle.bsi_rows.specs.Rows.{entry_at, feeders_of, holds, values, SourcedRow}
 use Rattle.bsi_rows.specs.declared.query.Answer.{Answer}
 use Rattle.bsi_rows.specs.declared.query.Answer.TheVariants.{Count as count_answer, Sum as sum_answer}
 use Rattle.bsi_rows.specs.declared.query.Pred.{Pred}
@@ -13,7 +13,7 @@ use Rattle.bsi_rows.specs.declared.query.Total.TheVariants.{Count, Sum, Least, G
 use Rattle.bsi_table.specs.Totals.{numbers_at, IsTotalAt}
 use Rattle.bsi_table.proofs.Selections.{length-places, set_positions-map, values-places}
 
-module _ (pred : Pred) (rows : List FedRow) where
+module _ (pred : Pred) (rows : List SourcedRow) where
   numbers : (c : ℕ) → numbers_at (map (λ row. holds pred row.1) rows) c rows ≡ values c pred rows
   numbers c = values-places (0, []) (λ row. holds pred row.1) (λ row. entry_at row.1 c) rows
 

@@ -8,9 +8,9 @@ use Rattle.std.proofs.lemmas.List.Elements.{All-from_get_or, All-get_or}
 use Rattle.std.proofs.lemmas.List.FromFn.{fill_by_all, get_or-map-range_with_len, length-map-range_with_len}
 use Rattle.bsi_digits.specs.Orders.{values_at}
 use Rattle.bsi_shift.specs.Shifted.{shifted_entries, OffsetColumn}
-use Rattle.bsi_rows.specs.Rows.{column_of, entry_at, feeders_of, row_at, Entries, FedRow}
+use Rattle.bsi_rows.specs.Rows.{column_of, entry_at, feeders_of, row_at, Entries, SourcedRow}
 use Rattle.bsi_rows.proofs.BlockRows.{map_twice, same_below}
-use Rattle.bsi_table.specs.Encoded.{encoded_at, fed_rows, no_entries, row_in, rows_in, HaveMore}
+use Rattle.bsi_table.specs.Encoded.{sourced_rows, encoded_at, no_entries, row_in, rows_in, HaveMore}
 use Rattle.std.proofs.lemmas.Bool.Decides.{nat_tests}
 
 -- a column as it is read
@@ -37,36 +37,36 @@ module _ (encoded : List OffsetColumn) where
       ∙ sym (fill_by_all (λ r. entry_at (row_in encoded r) c) (shifted_entries (encoded_at encoded c)) n None even (λ r below. sym (entry-row_in c r within)))
 
 module _ (row_feeders : List ℕ) (encoded : List OffsetColumn) where
-  pub length-fed_rows : length (fed_rows row_feeders encoded) ≡ length row_feeders
-  unfolding fed_rows
-  length-fed_rows = length-map-range_with_len (λ r. (slice_index row_feeders r, row_in encoded r)) 0 (length row_feeders)
+  pub length-sourced_rows : length (sourced_rows row_feeders encoded) ≡ length row_feeders
+  unfolding sourced_rows
+  length-sourced_rows = length-map-range_with_len (λ r. (slice_index row_feeders r, row_in encoded r)) 0 (length row_feeders)
 
-  pub feeders-fed_rows : feeders_of (fed_rows row_feeders encoded) ≡ row_feeders
-  unfolding fed_rows
-  feeders-fed_rows =
+  pub feeders-sourced_rows : feeders_of (sourced_rows row_feeders encoded) ≡ row_feeders
+  unfolding sourced_rows
+  feeders-sourced_rows =
       map_twice (λ row. row.0) (λ r. (slice_index row_feeders r, row_in encoded r)) (range_with_len 0 (length row_feeders))
       ∙ sym (fill_by_all (λ r. slice_index row_feeders r) row_feeders (length row_feeders) 0 refl (λ r below. refl))
 
   -- the entries of row r
-  pub entries-fed_rows : (r : ℕ) → r < length row_feeders → slice_get (map (λ row. row.1) (fed_rows row_feeders encoded)) r ≡ Some (row_in encoded r)
-  unfolding fed_rows
-  entries-fed_rows r below =
+  pub entries-sourced_rows : (r : ℕ) → r < length row_feeders → slice_get (map (λ row. row.1) (sourced_rows row_feeders encoded)) r ≡ Some (row_in encoded r)
+  unfolding sourced_rows
+  entries-sourced_rows r below =
       let rows = map (row_in encoded) (range_with_len 0 (length row_feeders)) in
       ap (λ es. slice_get es r) (map_twice (λ row. row.1) (λ r. (slice_index row_feeders r, row_in encoded r)) (range_with_len 0 (length row_feeders)))
       ∙ slice_get-get_or rows r [] (omega (arith, below, length-map-range_with_len (row_in encoded) 0 (length row_feeders)))
       ∙ ap Some (get_or-map-range_with_len (row_in encoded) 0 (length row_feeders) r r [] below (omega arith))
 
   -- a function of the rows' entries
-  pub map-fed_rows : {X : Type 0} (f : Entries → X) → map (λ row. f row.1) (fed_rows row_feeders encoded) ≡ map f (rows_in encoded (length row_feeders))
-  unfolding fed_rows rows_in
-  map-fed_rows f =
+  pub map-sourced_rows : {X : Type 0} (f : Entries → X) → map (λ row. f row.1) (sourced_rows row_feeders encoded) ≡ map f (rows_in encoded (length row_feeders))
+  unfolding sourced_rows rows_in
+  map-sourced_rows f =
       map_twice (λ row. f row.1) (λ r. (slice_index row_feeders r, row_in encoded r)) (range_with_len 0 (length row_feeders))
       ∙ sym (map_twice f (row_in encoded) (range_with_len 0 (length row_feeders)))
 
   -- entries c of the rows are those of column c
-  pub column-fed_rows : (c : ℕ) → c < length encoded → length (shifted_entries (encoded_at encoded c)) ≡ length row_feeders
-      → column_of (fed_rows row_feeders encoded) c ≡ shifted_entries (encoded_at encoded c)
-  column-fed_rows c within even = map-fed_rows (λ row. entry_at row c) ∙ column-rows_in encoded c (length row_feeders) within even
+  pub column-sourced_rows : (c : ℕ) → c < length encoded → length (shifted_entries (encoded_at encoded c)) ≡ length row_feeders
+      → column_of (sourced_rows row_feeders encoded) c ≡ shifted_entries (encoded_at encoded c)
+  column-sourced_rows c within even = map-sourced_rows (λ row. entry_at row c) ∙ column-rows_in encoded c (length row_feeders) within even
 
   -- column c, as it is read, has an entry for each row, and its numbers at the rows of a selection are those of the
   -- rows
@@ -76,9 +76,9 @@ module _ (row_feeders : List ℕ) (encoded : List OffsetColumn) where
     pub even-read : length (shifted_entries column) ≡ length bits
     even-read = ap (λ k. length (shifted_entries k)) (sym (encoded_read encoded c column within read)) ∙ even c within ∙ sym long
 
-    pub numbers-read : values_at bits (shifted_entries column) ≡ values_at bits (column_of (fed_rows row_feeders encoded) c)
+    pub numbers-read : values_at bits (shifted_entries column) ≡ values_at bits (column_of (sourced_rows row_feeders encoded) c)
     numbers-read =
-        ap (values_at bits) (ap shifted_entries (sym (encoded_read encoded c column within read)) ∙ sym (column-fed_rows c within (even c within)))
+        ap (values_at bits) (ap shifted_entries (sym (encoded_read encoded c column within read)) ∙ sym (column-sourced_rows c within (even c within)))
 
 -- columns of the same entries show the same rows
 pub rows_in-same : (old new : List OffsetColumn) (r : ℕ) → length new ≡ length old
@@ -89,47 +89,47 @@ rows_in-same old new r long each =
     let there : c < length new = omega (arith, length-map new (λ column. get_or (shifted_entries column) r None)) in
     entry-row_in new c r there ∙ ap (λ es. get_or es r None) (each c (omega arith)) ∙ sym (entry-row_in old c r (omega arith)))
 
-pub fed_rows-same : (row_feeders : List ℕ) (old new : List OffsetColumn) → length new ≡ length old
-    → ((c : ℕ) → c < length old → shifted_entries (encoded_at new c) ≡ shifted_entries (encoded_at old c)) → fed_rows row_feeders new ≡ fed_rows row_feeders old
-unfolding fed_rows
-fed_rows-same row_feeders old new long each =
+pub sourced_rows-same : (row_feeders : List ℕ) (old new : List OffsetColumn) → length new ≡ length old
+    → ((c : ℕ) → c < length old → shifted_entries (encoded_at new c) ≡ shifted_entries (encoded_at old c)) → sourced_rows row_feeders new ≡ sourced_rows row_feeders old
+unfolding sourced_rows
+sourced_rows-same row_feeders old new long each =
     same_below (0, []) (λ r. (slice_index row_feeders r, row_in new r)) (λ r. (slice_index row_feeders r, row_in old r)) (length row_feeders)
     (λ r below. ap (λ row. (slice_index row_feeders r, row)) (rows_in-same old new r long each))
 
 -- a fact of each row, by its feeder and its entries
-pub All-fed_rows : (row_feeders : List ℕ) (encoded : List OffsetColumn) (P : FedRow → Type 0)
-    → ((r : ℕ) → r < length row_feeders → P (slice_index row_feeders r, row_in encoded r)) → All P (fed_rows row_feeders encoded)
-unfolding fed_rows
-All-fed_rows row_feeders encoded P each =
-    let row : ℕ → FedRow = λ r. (slice_index row_feeders r, row_in encoded r) in
+pub All-sourced_rows : (row_feeders : List ℕ) (encoded : List OffsetColumn) (P : SourcedRow → Type 0)
+    → ((r : ℕ) → r < length row_feeders → P (slice_index row_feeders r, row_in encoded r)) → All P (sourced_rows row_feeders encoded)
+unfolding sourced_rows
+All-sourced_rows row_feeders encoded P each =
+    let row : ℕ → SourcedRow = λ r. (slice_index row_feeders r, row_in encoded r) in
     All-from_get_or P (map row (range_with_len 0 (length row_feeders))) (0, [])
     (λ r below.
     let there : r < length row_feeders = omega (arith, below, length-map-range_with_len row 0 (length row_feeders)) in
     subst P (sym (get_or-map-range_with_len row 0 (length row_feeders) r r (0, []) there (omega arith))) (each r there))
 
 -- before the first there is none
-pub fed_rows-none : (row_feeders : List ℕ) (encoded : List OffsetColumn) → row_feeders ≡ [] → fed_rows row_feeders encoded ≡ []
-unfolding fed_rows
-fed_rows-none row_feeders encoded none = ap (λ xs. fed_rows xs encoded) none
+pub sourced_rows-none : (row_feeders : List ℕ) (encoded : List OffsetColumn) → row_feeders ≡ [] → sourced_rows row_feeders encoded ≡ []
+unfolding sourced_rows
+sourced_rows-none row_feeders encoded none = ap (λ xs. sourced_rows xs encoded) none
 
 -- and with more entries in each column, more rows
-pub fed_rows-more : (row_feeders : List ℕ) (old new : List OffsetColumn) (rows : List FedRow) → length new ≡ length old
+pub sourced_rows-more : (row_feeders : List ℕ) (old new : List OffsetColumn) (rows : List SourcedRow) → length new ≡ length old
     → All (λ row. length row.1 ≡ length old) rows
     → ((c : ℕ) → c < length old → length (shifted_entries (encoded_at old c)) ≡ length row_feeders)
     → HaveMore old new rows
-    → fed_rows (row_feeders ++ feeders_of rows) new ≡ fed_rows row_feeders old ++ rows
-unfolding fed_rows
-fed_rows-more row_feeders old new rows long wide even more =
+    → sourced_rows (row_feeders ++ feeders_of rows) new ≡ sourced_rows row_feeders old ++ rows
+unfolding sourced_rows
+sourced_rows-more row_feeders old new rows long wide even more =
     sym (fill_by_all now (map then (range_with_len 0 (length row_feeders)) ++ rows) (length (row_feeders ++ feeders_of rows)) (0, []) longer
     (λ r below. at r (omega (arith, below, all)) (nat_lt r (length row_feeders)) refl))
   where
-    then : ℕ → FedRow
+    then : ℕ → SourcedRow
     then r = (slice_index row_feeders r, row_in old r)
 
-    now : ℕ → FedRow
+    now : ℕ → SourcedRow
     now r = (slice_index (row_feeders ++ feeders_of rows) r, row_in new r)
 
-    pair : ℕ → Entries → FedRow
+    pair : ℕ → Entries → SourcedRow
     pair s entries = (s, entries)
 
     before : length (map then (range_with_len 0 (length row_feeders))) ≡ length row_feeders

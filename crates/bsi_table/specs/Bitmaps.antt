@@ -4,7 +4,7 @@ use Rattle.std.specs.Option.{option_map}
 use Rattle.bsi_columns.specs.StoredBitmaps.{column_bitmaps, form_places}
 use Rattle.bsi_schema.specs.declared.form.Form.{Form}
 use Rattle.bsi_schema.specs.Columns.{column_at, is_accepted_by, Declared, Entries, NamedColumn}
-use Rattle.bsi_rows.specs.Rows.{column_of, FedRow}
+use Rattle.bsi_rows.specs.Rows.{column_of, SourcedRow}
 use Rattle.bsi_table.specs.Encoded.{encoded_form}
 
 -- the stored entry: the number less the offset, or a null
@@ -16,7 +16,7 @@ abbrev pub entries_bitmaps : NamedColumn → Entries → List (List Bool)
 entries_bitmaps column entries = column_bitmaps (encoded_form column.form) (map (stored_entry column.offset) entries)
 
 -- the bitmaps of column c of rows
-abbrev pub bitmaps_of : Declared → List FedRow → ℕ → List (List Bool)
+abbrev pub bitmaps_of : Declared → List SourcedRow → ℕ → List (List Bool)
 bitmaps_of schema rows c = entries_bitmaps (column_at schema.columns c) (column_of rows c)
 
 -- the number of bitmaps of a column of a form

@@ -11,7 +11,7 @@ use Rattle.bsi_shift.specs.Shifted.{shifted_entries, shifted_room, shifted_size,
 use Rattle.bsi_schema.specs.declared.form.Form.{Form}
 use Rattle.bsi_schema.specs.declared.form.Form.TheVariants.{Slices, Equality, Range}
 use Rattle.bsi_schema.specs.Columns.{column_at, entry_at, size_in, Entries, NamedColumn}
-use Rattle.bsi_rows.specs.Rows.{column_of, FedRow}
+use Rattle.bsi_rows.specs.Rows.{column_of, SourcedRow}
 use Rattle.bsi_rows.specs.Table.{max_feeders, max_rows}
 
 -- the encoding of a column of a form
@@ -41,8 +41,8 @@ unfoldable pub rows_in : List OffsetColumn → ℕ → List Entries
 rows_in encoded n = map (row_in encoded) (range_with_len 0 n)
 
 -- the rows of encoded columns, each with its feeder from the list
-unfoldable pub fed_rows : List ℕ → List OffsetColumn → List FedRow
-fed_rows row_feeders encoded = map (λ r. (slice_index row_feeders r, row_in encoded r)) (range_with_len 0 (length row_feeders))
+unfoldable pub sourced_rows : List ℕ → List OffsetColumn → List SourcedRow
+sourced_rows row_feeders encoded = map (λ r. (slice_index row_feeders r, row_in encoded r)) (range_with_len 0 (length row_feeders))
 
 -- the encoding of a column of a schema, with n rows
 pub record Encodes (column : NamedColumn) (encoded : OffsetColumn) (n : ℕ) : Type 0 where
@@ -133,5 +133,5 @@ abbrev pub HaveOneMore : List OffsetColumn → List OffsetColumn → Entries →
 HaveOneMore old new row = (k : ℕ) → k < length old → HasOneMore (encoded_at old k) (encoded_at new k) (entry_at row k)
 
 -- each column has more entries, those of the added rows
-abbrev pub HaveMore : List OffsetColumn → List OffsetColumn → List FedRow → Type 0
+abbrev pub HaveMore : List OffsetColumn → List OffsetColumn → List SourcedRow → Type 0
 HaveMore old new rows = (k : ℕ) → k < length old → HasMore (encoded_at old k) (encoded_at new k) (column_of rows k)

@@ -1,7 +1,7 @@
 -- What a contract sees of an index (`IndexedTable`): its table, and for how many more rows there is room.
 use Rattle.std.specs.Prelude.{ℕ, ◌+◌, ◌≤◌, List, length}
 use Rattle.bsi_origins.specs.Origins.{OriginList}
-use Rattle.bsi_rows.specs.Rows.{FedRow}
+use Rattle.bsi_rows.specs.Rows.{SourcedRow}
 use Rattle.bsi_rows.specs.Table.{max_rows, table, Table}
 use Rattle.bsi_table.specs.Encoded.{HaveRoom}
 use Rattle.bsi_schema.specs.Columns.{Declared}
@@ -16,7 +16,7 @@ pub record IndexedTable : Type 0 where
   -- the most rows of the index
   pub limit : ℕ
   -- the rows in order, each with its feeder
-  pub rows : List FedRow
+  pub rows : List SourcedRow
   -- for how many more rows the index has memory
   pub room : ℕ
 

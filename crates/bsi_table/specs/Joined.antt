@@ -1,12 +1,12 @@
 -- Rows that are appended from another index, each as one of its own feeder, or all as those of one feeder.
 use Rattle.std.specs.Prelude.{ℕ, ◌<◌, ◌≤◌, List, None, Option, Some, length, replicate}
-use Rattle.bsi_rows.specs.RowBlocks.{entries_of, fed_rows_from}
-use Rattle.bsi_rows.specs.Rows.{FedRow}
+use Rattle.bsi_rows.specs.RowBlocks.{entries_of, sourced_from}
+use Rattle.bsi_rows.specs.Rows.{SourcedRow}
 
 -- the rows, all of one feeder if a feeder is given
-abbrev pub rows_as : Option ℕ → List FedRow → List FedRow
+abbrev pub rows_as : Option ℕ → List SourcedRow → List SourcedRow
 rows_as None rows = rows
-rows_as (Some feeder) rows = fed_rows_from feeder (entries_of rows)
+rows_as (Some feeder) rows = sourced_from feeder (entries_of rows)
 
 -- the feeder of each row: the given one, or else the feeder that the row had
 abbrev pub feeders_as : Option ℕ → List ℕ → List ℕ

@@ -1,6 +1,6 @@
 //! The index (`Index`): rows from feeders, stored column by column, and the answers to queries over them.
 //!
-//! A contract sees one list of rows, each with its feeder, read from the columns (`fed_rows`). So answers are
+//! A contract sees one list of rows, each with its feeder, read from the columns (`sourced_rows`). So answers are
 //! stated over rows, and no further clause need say that the rows went into the columns.
 
 ghost use Rattle.std.specs.Prelude.{◌≡◌, ◌≢◌, ◌↔◌, [], ◌+◌, ◌<◌, ◌≤◌, None, Some, length, map, slice_get, IfErr, IfOk, IsOk, IsTrue, true, OnErr, OnOk};
@@ -13,11 +13,11 @@ ghost use Rattle.bsi_table.specs.Totals.{IsTotalAt, NeedsNoMemory};
 ghost use Rattle.bsi_schema.specs.Columns.{column_at, fits};
 ghost use Rattle.bsi_rows.specs.Refusals.{index_refusal, row_refusal, rows_refusal, IsFirstOr};
 ghost use Rattle.bsi_rows.specs.Numbering.{number_within};
-ghost use Rattle.bsi_rows.specs.RowBlocks.{entries_of, fed_rows_from, no_block_rows, HaveSameLimits};
+ghost use Rattle.bsi_rows.specs.RowBlocks.{entries_of, sourced_from, no_block_rows, HaveSameLimits};
 ghost use Rattle.bsi_rows.specs.Rows.{column_of, feeders_of, holds, row_entries};
 ghost use Rattle.bsi_table.specs.Index.{table_of};
 ghost use Rattle.bsi_table.specs.Joined.{rows_as, AreEnough};
-ghost use Rattle.bsi_table.specs.Encoded.{fed_rows, AreEncoded, IsInForm};
+ghost use Rattle.bsi_table.specs.Encoded.{sourced_rows, AreEncoded, IsInForm};
 
 use crate::columns::{are_encoded_alike, copy_each, make_each, read_row};
 use crate::growth::{clear_rows, push_all, push_row, push_rows, reserve_rows};
@@ -62,7 +62,7 @@ impl Drop for Index {
 
 // Clauses see the schema, the number of feeders, the limit, the list of rows, each with its feeder, and the room.
 impl Model for Index {
-    ghost use Rattle.bsi_table.specs.Encoded.{fed_rows, IsTable};
+    ghost use Rattle.bsi_table.specs.Encoded.{sourced_rows, IsTable};
     ghost use Rattle.bsi_table.specs.Index.{AreRoomy, IndexedTable};
 
     ghost Value = { IndexedTable };
@@ -71,7 +71,7 @@ impl Model for Index {
       schema = i.schema.value;
       feeders = i.origins.feeders;
       limit = i.limit;
-      rows = fed_rows i.origins.rows i.columns.items;
+      rows = sourced_rows i.origins.rows i.columns.items;
       room = i.room;
     } };
 
@@ -145,7 +145,7 @@ impl Index {
         requires within { length origins.rows ≤ limit }
         requires accepted { index_refusal schema limit ≡ None }
         ensures { IfOk result (λ index. table_of index
-            ≡ table schema origins.feeders limit (fed_rows origins.rows columns.items)) }
+            ≡ table schema origins.feeders limit (sourced_rows origins.rows columns.items)) }
     {
         // The proof takes from this that each row came from one of at most 64 feeders.
         let _feeders = origins.feeders();
@@ -271,7 +271,7 @@ impl Index {
         requires alike { AreEncodedAlike self.old.schema other.now.schema }
         requires feeder { feeder < self.old.feeders }
         ensures appended { OnOk result (table_of self.new
-            ≡ with_rows (table_of self.old) (fed_rows_from feeder (entries_of other.now.rows))) }
+            ≡ with_rows (table_of self.old) (sourced_from feeder (entries_of other.now.rows))) }
         ensures room { OnOk result (self.old.room ≤ self.new.room + length other.now.rows) }
         ensures position { IfOk result (λ position. position ≡ length self.old.rows) }
         ensures accepted { OnOk result

@@ -2,7 +2,7 @@
 
 ghost use Rattle.std.specs.Prelude.{◌≡◌, None, length, IfOk, IsOk};
 ghost use Rattle.bsi_rows.specs.Answers.{columns_of_total, missing_of};
-ghost use Rattle.bsi_table.specs.Encoded.{fed_rows, HaveRows};
+ghost use Rattle.bsi_table.specs.Encoded.{sourced_rows, HaveRows};
 ghost use Rattle.bsi_table.specs.Totals.{IsTotalAt, NeedsNoMemory};
 
 use crate::{Answer, NoMemory, Total};
@@ -23,7 +23,7 @@ pub(crate) fn total_selected(
     requires selection { length selection.now.bits ≡ length origins.now.rows }
     requires there { missing_of (length columns.now) (columns_of_total total) ≡ None }
     ensures answer { IfOk result
-        (IsTotalAt total selection.now.bits (fed_rows origins.now.rows columns.now)) }
+        (IsTotalAt total selection.now.bits (sourced_rows origins.now.rows columns.now)) }
     ensures succeeds { NeedsNoMemory total → IsOk result }
 {
     match total {

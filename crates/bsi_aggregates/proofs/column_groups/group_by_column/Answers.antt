@@ -1,6 +1,6 @@
 use Rattle.std.proofs.Common.{◌≡◌, ◌+◌, ◌-◌, ℕ, Bool, List, [], ◌∷◌, ◌++◌, length, map, ap, sym, subst, ◌∙◌, arith, length-append}
 use Rattle.std.specs.Prelude.{◌&&◌}
-use Rattle.bsi_rows.specs.Rows.{FedRow}
+use Rattle.bsi_rows.specs.Rows.{SourcedRow}
 use Rattle.std.specs.List.{items_where_true}
 use Rattle.std.proofs.lemmas.List.{length-map}
 use Rattle.std.specs.Simd.Lanes.{zip2}
@@ -17,7 +17,7 @@ use Rattle.bsi_aggregates.proofs.GroupsJoined.{joined, more_on, passed_on}
 use Rattle.bsi_aggregates.proofs.column_groups.group_by_column.Goals as goal
 
 -- what is left has too many further groups, or memory was refused
-refused_on : (selection rest : List Bool) (by : ℕ) (rows : List FedRow) (few most : ℕ) → (AreMoreEntries few (selected_entries rest by rows) → AreMoreEntries most (selected_entries selection by rows))
+refused_on : (selection rest : List Bool) (by : ℕ) (rows : List SourcedRow) (few most : ℕ) → (AreMoreEntries few (selected_entries rest by rows) → AreMoreEntries most (selected_entries selection by rows))
     → (why : GroupError) → IsRefusedColumn rest by rows few why → IsRefusedColumn selection by rows most why
 refused_on selection rest by rows few most then_so (BadColumn c) never = never
 refused_on selection rest by rows few most then_so TooMany many = then_so many

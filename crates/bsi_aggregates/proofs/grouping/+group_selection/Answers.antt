@@ -6,7 +6,7 @@ use Rattle.std.proofs.lemmas.List.{length-map, take_all}
 use Rattle.std.proofs.lemmas.Simd.{length-zip2}
 use Rattle.bsi_bits.specs.BitList.{without}
 use Rattle.bsi_rows.specs.Answers.{missing_of}
-use Rattle.bsi_rows.specs.Rows.{FedRow}
+use Rattle.bsi_rows.specs.Rows.{SourcedRow}
 use Rattle.bsi_rows.proofs.Missing.{none_missing_second}
 use Rattle.bsi_shift.specs.Shifted.{shifted_entries}
 use Rattle.bsi_aggregates.specs.ColumnGroups.{rows_with_entry}
@@ -32,7 +32,7 @@ not_empty [] test = absurd cc
 not_empty (c ∷ by) test = omega arith
 
 -- the rows of a first entry have too many further groups, or memory was refused
-refused_over : (selection : List Bool) (first : ℕ) (others : List ℕ) (rows : List FedRow) (e : Option ℤ) (few most : ℕ)
+refused_over : (selection : List Bool) (first : ℕ) (others : List ℕ) (rows : List SourcedRow) (e : Option ℤ) (few most : ℕ)
     → (AreMore few (other_entries selection first others rows e) → AreMore most (selected_keys selection (first ∷ others) rows))
     → (why : GroupError) → IsRefusedOver (rows_with_entry selection first rows e) others rows few why → IsRefusedOver selection (first ∷ others) rows most why
 refused_over selection first others rows e few most then_so (BadColumn c) never = never

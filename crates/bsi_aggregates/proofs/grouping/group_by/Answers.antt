@@ -1,7 +1,7 @@
 use Rattle.std.proofs.Common.{◌≡◌, ℕ, Bool, ◌++◌, List, None, Result, Ok, Err, length, ap, sym, subst, ◌∙◌}
 use Rattle.std.specs.Prelude.{IfErr, OnOk}
 use Rattle.bsi_rows.specs.Answers.{columns_of_pred, columns_of_total, missing_column, missing_of}
-use Rattle.bsi_rows.specs.Rows.{FedRow}
+use Rattle.bsi_rows.specs.Rows.{SourcedRow}
 use Rattle.bsi_rows.specs.declared.query.Query.{Query}
 use Rattle.bsi_rows.proofs.Missing.{missing_first, missing_second}
 use Rattle.bsi_schema.specs.Columns.{Declared}
@@ -19,7 +19,7 @@ so_ok (Ok x) p = p
 so_ok (Err e) p = tt
 
 -- a refusal over the rows that the query selects
-refused : (schema : Declared) (rows : List FedRow) (query : Query) (by : List ℕ) (most : ℕ) (selection : List Bool) → missing_grouped (length schema.columns) query by ≡ None
+refused : (schema : Declared) (rows : List SourcedRow) (query : Query) (by : List ℕ) (most : ℕ) (selection : List Bool) → missing_grouped (length schema.columns) query by ≡ None
     → selection ≡ selected_by query rows → (e : GroupError) → IsRefusedOver selection by rows most e → IsGroupRefusal schema rows query by most e
 refused schema rows query by most selection none is (BadColumn c) never = absurd never
 refused schema rows query by most selection none is TooMany many = (none, subst (λ selection. IsRefusedOver selection by rows most TooMany) is many)

@@ -1,7 +1,7 @@
 use Rattle.std.proofs.Common.{◌≡◌, ℕ, List, length, replicate, arith, ap, subst, sym, ◌∙◌}
 use Rattle.std.proofs.lemmas.List.{length-map, length-replicate}
 use Rattle.bsi_rows.specs.Table.{AreFitting, AreFrom}
-use Rattle.bsi_rows.specs.Rows.{feeders_of, FedRow}
+use Rattle.bsi_rows.specs.Rows.{feeders_of, SourcedRow}
 use Rattle.bsi_ffi.proofs.ColumnInputs.{feeders-input_rows}
 use Rattle.bsi_ffi.proofs.InputRows.{fitting-input_rows, from-input_rows}
 use Rattle.bsi_ffi.proofs.blocks.append_block.Goals as goal
@@ -19,7 +19,7 @@ append_block-requires-clause-feeders c =
     (from-input_rows c.args.index.now.feeders c.args.feeder c.args.columns.now c.args.from c.args.count c.requires.fed)
 
 -- they are of the feeder
-feeders-all : (rows : List FedRow) (n feeder : ℕ) → feeders_of rows ≡ replicate n feeder → feeders_of rows ≡ replicate (length rows) feeder
+feeders-all : (rows : List SourcedRow) (n feeder : ℕ) → feeders_of rows ≡ replicate n feeder → feeders_of rows ≡ replicate (length rows) feeder
 feeders-all rows n feeder is = is ∙ ap (λ k. replicate k feeder) (sym (length-replicate n feeder) ∙ sym (ap length is) ∙ length-map rows (λ row. row.0))
 
 pub returns-clause-from : goal.returns-clause-from

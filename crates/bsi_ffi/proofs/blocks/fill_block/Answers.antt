@@ -1,7 +1,7 @@
 use Rattle.std.proofs.Common.{◌≡◌, List, length, sym, ap, subst, ◌∙◌, arith, below_more}
 use Rattle.bsi_schema.specs.Columns.{Declared}
 use Rattle.bsi_ffi.specs.Columns.{input_rows}
-use Rattle.bsi_rows.specs.Rows.{column_of, FedRow}
+use Rattle.bsi_rows.specs.Rows.{column_of, SourcedRow}
 use Rattle.bsi_rows.specs.Table.{AreFitting}
 use Rattle.bsi_ffi.proofs.ColumnInputs.{columns_many, feeders-input_rows, written-accepted, written-column, written-long}
 use Rattle.bsi_ffi.proofs.InputRows.{fitting-input_rows}
@@ -25,8 +25,8 @@ pub columns-preserved : goal.columns-preserved
 columns-preserved c =
     let all = c.columns.invariant in
     let has = c.write_column.ensures.column in
-    let rows : List FedRow = input_rows c.args.feeder c.args.columns.now c.args.from c.args.count in
-    let new : List FedRow = c.write_column.new.self.rows in
+    let rows : List SourcedRow = input_rows c.args.feeder c.args.columns.now c.args.from c.args.count in
+    let new : List SourcedRow = c.write_column.new.self.rows in
     let here : column_of new c.columns.c ≡ column_of rows c.columns.c =
     has.written ∙ written-column c.args.block.now.schema.columns c.args.columns.now c.requires.even c.columns.c _ (omega arith)
     c.args.feeder c.args.from c.args.count _ c.not_null_word-not_null.result (omega arith) c.requires.within c.not_null_word-not_null.ensures in
@@ -45,7 +45,7 @@ returns-clause-rows c =
     let old = c.args.block.now in
     let now = c.columns.block in
     let all = c.columns.invariant in
-    let rows : List FedRow = input_rows c.args.feeder c.args.columns.now c.args.from c.args.count in
+    let rows : List SourcedRow = input_rows c.args.feeder c.args.columns.now c.args.from c.args.count in
     same_rows old.schema.columns now.rows rows
     (subst (λ (s : Declared). AreFitting s.columns now.rows) all.schema all.fitting)
     (fitting-input_rows old.schema.columns c.args.feeder c.args.columns.now c.args.from c.args.count (λ r before. c.requires.accepted r (omega (arith, before, c.requires.within))))

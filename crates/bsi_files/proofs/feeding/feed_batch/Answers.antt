@@ -1,7 +1,7 @@
 use Rattle.std.proofs.Common.{◌≡◌, ◌<◌, ◌≤◌, None, length, refl, arith, rules}
 use Rattle.std.proofs.lemmas.List.{length-map}
 use Rattle.bsi_rows.specs.RowBlocks.{entries_of}
-use Rattle.bsi_rows.specs.Rows.{FedRow}
+use Rattle.bsi_rows.specs.Rows.{SourcedRow}
 use Rattle.bsi_input.specs.Sources.{layout_by}
 use Rattle.bsi_input.proofs.Taking.{taken_none}
 use Rattle.bsi_files.specs.Feeding.{max_batch_rows, ReadsOn}
@@ -25,7 +25,7 @@ send_batch-requires g c = omega (arith, c.fill_batch.ensures.few, c.min-most.ens
 pub returns : goal.returns
 returns g c =
     let rows = c.fill_batch.new.batch.rows in
-    let many = length-map rows (λ (row : FedRow). row.1) in
+    let many = length-map rows (λ (row : SourcedRow). row.1) in
     let some : 0 < length rows = omega (arith, c.len-rows.ensures.len, c.if-rows-eq0.false) in
     let few : c.len-rows.result ≤ max_batch_rows = omega (arith, c.fill_batch.ensures.few, c.len-rows.ensures.len, c.min-most.ensures) in
     (entries_of rows, omega (arith, many, c.len-rows.ensures.len), few, c.send_batch.ensures.sent c.if-not-send_batch.false, c.in-Ok.ensures.given.some (omega (arith, many, some)))

@@ -2,7 +2,7 @@ use Rattle.std.proofs.Common.{◌≡◌, ◌<◌, ◌++◌, [], None, length, re
 use Rattle.std.proofs.lemmas.List.{append-nil, length-append, length-map}
 use Rattle.bsi_schema.specs.Columns.{Declared}
 use Rattle.bsi_rows.specs.RowBlocks.{entries_of, HaveSameLimits, RowBlock}
-use Rattle.bsi_rows.specs.Rows.{FedRow}
+use Rattle.bsi_rows.specs.Rows.{SourcedRow}
 use Rattle.bsi_rows.specs.Table.{with_rows, Table}
 use Rattle.bsi_table.specs.Index.{table_of}
 use Rattle.bsi_rows.proofs.CallerLemmas.{fitting-alike}
@@ -49,7 +49,7 @@ returns-in-Err-clause-given g c =
       read_so_far = read_on format_by rem c.args.source.now new rows has.gone (taken_both rem);
       some = λ some. passed_next format_by rem c.args.source.now new rows has e.few some;
       none = λ nothing.
-          subst (λ (s : SourceOf g.row.I.Denot g.row.F.Denot). FailsNow format_by rem s c.in-Err.fault) (i.start (omega (arith, nothing, length-map c.fills.batch.rows (λ (row : FedRow). row.1))))
+          subst (λ (s : SourceOf g.row.I.Denot g.row.F.Denot). FailsNow format_by rem s c.in-Err.fault) (i.start (omega (arith, nothing, length-map c.fills.batch.rows (λ (row : SourcedRow). row.1))))
           (fill_fails format_by rem old new 0 c.clear.new.self full empty c.fill.result e.failed e.ended e.filled (taken_both rem) e.stopped c.in-Err.fault c.in-Err.is);
     }
 
@@ -72,7 +72,7 @@ returns-then-len-eq0-clause-given g c =
       read_so_far = read_on format_by rem c.args.source.now new rows has.gone (taken_both rem);
       some = λ some. passed_next format_by rem c.args.source.now new rows has e.few some;
       none = λ nothing.
-          subst (λ (s : SourceOf g.row.I.Denot g.row.F.Denot). GivesFirst rem (source_by format_by s) (source_by format_by new) None × GivesNone format_by rem s new) (i.start (omega (arith, nothing, length-map c.fills.batch.rows (λ (row : FedRow). row.1))))
+          subst (λ (s : SourceOf g.row.I.Denot g.row.F.Denot). GivesFirst rem (source_by format_by s) (source_by format_by new) None × GivesNone format_by rem s new) (i.start (omega (arith, nothing, length-map c.fills.batch.rows (λ (row : SourcedRow). row.1))))
           (fill_over format_by rem old new 0 c.clear.new.self full empty c.fill.result e.failed e.ended e.filled e.later c.in_default.is (taken_both rem) e.same e.few zero);
     }
 
@@ -143,7 +143,7 @@ returns-clause-given g c =
     let first = c.args.source.now in
     let i = c.fills.invariant in
     let rows = entries_of c.fills.batch.rows in
-    let many = length-map c.fills.batch.rows (λ (row : FedRow). row.1) in
+    let many = length-map c.fills.batch.rows (λ (row : SourcedRow). row.1) in
     let some : 0 < length c.fills.batch.rows = omega (arith, i.some, c.requires.some, c.fills-test.false) in
     record {
       read_so_far = read_on format_by rem first c.fills.source rows i.passed.gone (taken_both rem);

@@ -5,12 +5,12 @@ use Rattle.std.proofs.lemmas.List.{get_or-map}
 use Rattle.std.proofs.lemmas.List.Elements.{All-get_or}
 use Rattle.std.proofs.lemmas.Option.{get_or_from_slice_get}
 use Rattle.bsi_rows.specs.RowBlocks.{entries_of}
-use Rattle.bsi_rows.specs.Rows.{row_at, Entries, FedRow}
+use Rattle.bsi_rows.specs.Rows.{row_at, Entries, SourcedRow}
 use Rattle.bsi_schema.specs.Columns.{fits, NamedColumn}
 use Rattle.bsi_schema.proofs.Fitting.{fits-length}
 use Rattle.bsi_fixtures.proofs.blocks.has_fitting_rows.Goals as goal
 
-row_fits : (columns : List NamedColumn) (rows : List FedRow) (r : ℕ) (row : Entries) → r < length rows → slice_get (entries_of rows) r ≡ Some row → fits columns row ≡ true
+row_fits : (columns : List NamedColumn) (rows : List SourcedRow) (r : ℕ) (row : Entries) → r < length rows → slice_get (entries_of rows) r ≡ Some row → fits columns row ≡ true
     → fits columns (row_at rows r).1 ≡ true
 row_fits columns rows r row within is fit =
     ap (fits columns) (sym (get_or-map (λ row. row.1) rows r (0, []) [] within) ∙ get_or_from_slice_get (entries_of rows) r row [] is) ∙ fit

@@ -1,7 +1,7 @@
 use Rattle.std.proofs.Common.{◌≡◌, ◌+◌, ◌≤◌, List, [], length, refl, rules, subst, sym}
 use Rattle.std.proofs.lemmas.Result.{err_from_is_err_and}
 use Rattle.bsi_projection.specs.Chosen.{chosen_table}
-use Rattle.bsi_rows.specs.Rows.{FedRow}
+use Rattle.bsi_rows.specs.Rows.{SourcedRow}
 use Rattle.bsi_rows.specs.Table.{with_rows, Table}
 use Rattle.bsi_schema.specs.Columns.{Declared}
 use Rattle.bsi_storage.specs.ChosenColumns.{SaysChosen}
@@ -18,7 +18,7 @@ pub returns-in_err-more-clause-fault : goal.returns-in_err-more-clause-fault
 returns-in_err-more-clause-fault g c =
     let known = g.R.ReadAt.all_bytes c.args.reader.now in
     let p = err_from_is_err_and c.from_residual.result c.from_residual.ensures.1 in
-    let met : (t : Table) → (kinds : Bytes) → (p : Part) → (rows : List FedRow) → IsHeadAt known t kinds c.args.head.now p
+    let met : (t : Table) → (kinds : Bytes) → (p : Part) → (rows : List SourcedRow) → IsHeadAt known t kinds c.args.head.now p
     → table_of c.args.whole.now ≡ chosen_table c.args.chosen.now (with_only t rows) → length rows + length p.rows ≤ t.limit → IsReadOrNoMemory c.in_err-more.field-0.0 =
     λ t kinds part rows own before within. c.in_err-more.ensures.fault own.at (with_only t part.rows) part.notes kinds own.begins own.is in
     rw (p.1, p.2) met

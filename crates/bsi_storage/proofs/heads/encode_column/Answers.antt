@@ -4,7 +4,7 @@ use Rattle.std.proofs.Math.Nat.{mul-le-mul_left}
 use Rattle.std.proofs.lemmas.List.{drop_at, length-map, take_at}
 use Rattle.bsi_bits.specs.BitList.{word_count}
 use Rattle.bsi_schema.specs.Columns.{column_at, entry_at, Declared}
-use Rattle.bsi_rows.specs.Rows.{column_of, FedRow}
+use Rattle.bsi_rows.specs.Rows.{column_of, SourcedRow}
 use Rattle.bsi_table.specs.Bitmaps.{bitmap_count, bitmaps_of}
 use Rattle.bsi_segments.specs.Bitmaps.{packed, AreBitmaps}
 use Rattle.bsi_storage.specs.Heads.{numbers_of, zone_words}
@@ -26,7 +26,7 @@ split_at-requires c =
     let form = (column_at schema.columns k).form in
     let many : c.count_bitmaps-count.result ≡ bitmap_count form =
     c.count_bitmaps-count.ensures ∙ ap bitmap_count (c.form.ensures.form ∙ ap (λ (s : Declared). (column_at s.columns k).form) c.schema.ensures.schema) in
-    let rows_long = c.len.ensures.len ∙ ap length c.column-column.ensures.entries ∙ length-map rows (λ (row : FedRow). entry_at row.1 k) in
+    let rows_long = c.len.ensures.len ∙ ap length c.column-column.ensures.entries ∙ length-map rows (λ (row : SourcedRow). entry_at row.1 k) in
     let long : c.div_ceil-long.result ≡ word_count (length rows) = omega (arith, c.div_ceil-long.ensures, rows_long) in
     let product : c.count_bitmaps-count.result * c.div_ceil-long.result ≡ bitmap_count form * word_count (length rows) = ap₂ (λ a b. a * b) many long in
     omega (arith, product, column_long schema rows k, ap length c.requires.first.1, length-append (flat_map packed (bitmaps_of schema rows k)) c.requires.first.0)
@@ -41,7 +41,7 @@ returns-clause-heads c =
     let old = c.args.words.now.items in
     let many : c.count_bitmaps-count.result ≡ bitmap_count form =
     c.count_bitmaps-count.ensures ∙ ap bitmap_count (c.form.ensures.form ∙ ap (λ (s : Declared). (column_at s.columns k).form) c.schema.ensures.schema) in
-    let rows_long = c.len.ensures.len ∙ ap length c.column-column.ensures.entries ∙ length-map rows (λ (row : FedRow). entry_at row.1 k) in
+    let rows_long = c.len.ensures.len ∙ ap length c.column-column.ensures.entries ∙ length-map rows (λ (row : SourcedRow). entry_at row.1 k) in
     let long : c.div_ceil-long.result ≡ word_count (length rows) = omega (arith, c.div_ceil-long.ensures, rows_long) in
     let product : c.count_bitmaps-count.result * c.div_ceil-long.result ≡ bitmap_count form * word_count (length rows) = ap₂ (λ a b. a * b) many long in
     let first = c.split_at.ensures.front ∙ ap (take (c.count_bitmaps-count.result * c.div_ceil-long.result)) c.requires.first.1
@@ -61,7 +61,7 @@ returns-clause-behind c =
     let form = (column_at schema.columns k).form in
     let many : c.count_bitmaps-count.result ≡ bitmap_count form =
     c.count_bitmaps-count.ensures ∙ ap bitmap_count (c.form.ensures.form ∙ ap (λ (s : Declared). (column_at s.columns k).form) c.schema.ensures.schema) in
-    let rows_long = c.len.ensures.len ∙ ap length c.column-column.ensures.entries ∙ length-map rows (λ (row : FedRow). entry_at row.1 k) in
+    let rows_long = c.len.ensures.len ∙ ap length c.column-column.ensures.entries ∙ length-map rows (λ (row : SourcedRow). entry_at row.1 k) in
     let long : c.div_ceil-long.result ≡ word_count (length rows) = omega (arith, c.div_ceil-long.ensures, rows_long) in
     let product : c.count_bitmaps-count.result * c.div_ceil-long.result ≡ bitmap_count form * word_count (length rows) = ap₂ (λ a b. a * b) many long in
     let last = c.split_at.ensures.back ∙ ap (drop (c.count_bitmaps-count.result * c.div_ceil-long.result)) c.requires.first.1

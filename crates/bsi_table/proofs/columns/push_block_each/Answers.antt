@@ -2,13 +2,13 @@ use Rattle.std.proofs.Common.{◌≡◌, ℕ, ◌<◌, List, All, Option, ℤ, g
 use Rattle.std.proofs.lemmas.List.Elements.{All-map, All-weaker}
 use Rattle.bsi_digits.specs.Offsets.{IsInRange}
 use Rattle.bsi_shift.specs.Shifted.{shifted_size, OffsetColumn}
-use Rattle.bsi_rows.specs.Rows.{column_of, entry_at, FedRow}
+use Rattle.bsi_rows.specs.Rows.{column_of, entry_at, SourcedRow}
 use Rattle.bsi_table.specs.Encoded.{encoded_at, AcceptsRow}
 use Rattle.bsi_table.proofs.TableRows.{encoded_read}
 use Rattle.bsi_table.proofs.columns.push_block_each.Goals as goal
 
 -- the entries of a column are in its range
-column_in_range : (encoded : List OffsetColumn) (rows : List FedRow) (c : ℕ) → c < length encoded → All (λ row. AcceptsRow encoded row.1) rows
+column_in_range : (encoded : List OffsetColumn) (rows : List SourcedRow) (c : ℕ) → c < length encoded → All (λ row. AcceptsRow encoded row.1) rows
     → All (IsInRange (encoded_at encoded c).offset (shifted_size (encoded_at encoded c))) (column_of rows c)
 column_in_range encoded rows c within accepted =
     let InRange : Option ℤ → Type 0 = IsInRange (encoded_at encoded c).offset (shifted_size (encoded_at encoded c)) in

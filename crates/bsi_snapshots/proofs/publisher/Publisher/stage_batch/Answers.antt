@@ -1,6 +1,6 @@
 use Rattle.std.proofs.Common.{◌+◌, ◌-◌, ◌≡◌, drop, length, ap, sym, ◌∙◌, arith}
 use Rattle.std.proofs.lemmas.List.{length-map}
-use Rattle.bsi_rows.specs.RowBlocks.{entries_of, fed_rows_from}
+use Rattle.bsi_rows.specs.RowBlocks.{entries_of, sourced_from}
 use Rattle.bsi_snapshots.specs.Versions.{emptied, pending_rows}
 use Rattle.bsi_snapshots.specs.History.{RowList}
 use Rattle.bsi_snapshots.proofs.Writing.{free_rows, with_more, with_staged_view, with_staged_writing}
@@ -12,7 +12,7 @@ invariant_of-self-2 g c =
     let p = c.self.inside in
     let shown = p.copies.desk.shown.value in
     let pending = drop p.copies.behind p.copies.log.items in
-    let added : RowList = fed_rows_from c.args.feeder (entries_of c.args.batch.now.rows) in
+    let added : RowList = sourced_from c.args.feeder (entries_of c.args.batch.now.rows) in
     let grown = c.push_batch.new.self in
     let grows = c.in_ok-push_batch.ensures.ok in
     let rows = ap (λ w. length w.table.rows) c.self.view_is in
@@ -29,6 +29,6 @@ pub returns-clause-ok : goal.returns-clause-ok
 returns-clause-ok g c =
     let p = c.self.inside in
     let pending = drop p.copies.behind p.copies.log.items in
-    let added : RowList = fed_rows_from c.args.feeder (entries_of c.args.batch.now.rows) in
+    let added : RowList = sourced_from c.args.feeder (entries_of c.args.batch.now.rows) in
     with_staged_view p.copies.desk.shown.value pending p.buffer.rows c.push_batch.new.self.rows added (ap (λ t. t.rows) c.in_ok-push_batch.ensures.ok)
     ∙ ap (λ w. with_more w added) c.self.view_is

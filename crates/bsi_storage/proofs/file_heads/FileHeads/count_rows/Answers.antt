@@ -1,6 +1,6 @@
 use Rattle.std.proofs.Common.{◌≡◌, ◌+◌, ◌<◌, ◌≤◌, ℕ, List, Option, arith, ap, get_or, length, length-append, rules, subst, sym, take, ◌∙◌}
 use Rattle.std.specs.Prelude.{IfNone}
-use Rattle.bsi_rows.specs.Rows.{FedRow}
+use Rattle.bsi_rows.specs.Rows.{SourcedRow}
 use Rattle.bsi_rows.specs.Table.{Table}
 use Rattle.bsi_storage.specs.ChosenFiles.{parts_in, AreFileHeads}
 use Rattle.bsi_storage.specs.declared.segment_head.SegmentHead.{SegmentHead}
@@ -47,7 +47,7 @@ segments-preserved c = λ known t notes kinds are.
       sum,
       c.segments.invariant known t notes kinds are,
       own.is.rows,
-      ap (λ (rs : List FedRow). length rs) (rows_more known heads t notes kinds are k within),
+      ap (λ (rs : List SourcedRow). length rs) (rows_more known heads t notes kinds are k within),
       length-append (rows_in (take k ps)) (get_or ps k are.keeps.file.last).rows,
     ))
 
@@ -55,4 +55,4 @@ pub returns-clause-rows : goal.returns-clause-rows
 returns-clause-rows c = λ known t notes kinds are.
     (let heads = c.args.self.now.heads.items in
     let past : length heads ≤ c.segments.head-index = omega (arith, c.segments-test.false, ap (λ (hs : List SegmentHead). length hs) c.deref-head-items.ensures.value) in
-    c.segments.invariant known t notes kinds are ∙ ap (λ (rs : List FedRow). length rs) (rows_all known heads t notes kinds are c.segments.head-index past))
+    c.segments.invariant known t notes kinds are ∙ ap (λ (rs : List SourcedRow). length rs) (rows_all known heads t notes kinds are c.segments.head-index past))

@@ -2,7 +2,7 @@ use Rattle.std.proofs.Common.{◌<◌, ◌≤◌, All, List, ap, get_or, length,
 use Rattle.std.proofs.lemmas.List.{take_all}
 use Rattle.std.proofs.lemmas.Result.{err_from_is_err_and}
 use Rattle.bsi_projection.specs.Chosen.{chosen_table}
-use Rattle.bsi_rows.specs.Rows.{FedRow}
+use Rattle.bsi_rows.specs.Rows.{SourcedRow}
 use Rattle.bsi_rows.specs.Table.{Table}
 use Rattle.bsi_schema.specs.Columns.{Declared}
 use Rattle.bsi_storage.specs.Choices.{IsChoice}
@@ -37,7 +37,7 @@ segments-init g c = record {
       let part = get_or (parts_in are.keeps) 0 are.keeps.file.last in
       let opened = rw c.in-Some.is at c.in_ok-first.ensures.opened in
       opened own.at (with_only t part.rows) part.notes kinds own.begins own.is
-      ∙ ap (λ (rows : List FedRow). chosen_table c.args.chosen.now (with_only t rows)) (sym (rows_more known heads t notes kinds are 0 some)));
+      ∙ ap (λ (rows : List SourcedRow). chosen_table c.args.chosen.now (with_only t rows)) (sym (rows_more known heads t notes kinds are 0 some)));
   said = said_first (g.R.ReadAt.all_bytes c.args.reader.now) c.args.self.now.heads.items c.args.chosen.now c.in-Some.first.schema c.in-Some.first.rows c.index.result.now c.index.ensures
       c.args.self.now.some (rw c.in-Some.is at c.in_ok-first.ensures.said);
 }
@@ -79,7 +79,7 @@ segments-preserved g c =
           (let own = head_is known heads t notes kinds are k c.index-in-segments.result.now c.index-in-segments.ensures within in
           let part = get_or (parts_in are.keeps) k are.keeps.file.last in
           c.in_ok-append_segment.ensures.appended c.if-not-branch.false t kinds part (rows_in (take k (parts_in are.keeps))) own (c.segments.invariant.first t notes kinds are)
-          ∙ ap (λ (rows : List FedRow). chosen_table c.args.chosen.now (with_only t rows)) (sym (rows_more known heads t notes kinds are k within)));
+          ∙ ap (λ (rows : List SourcedRow). chosen_table c.args.chosen.now (with_only t rows)) (sym (rows_more known heads t notes kinds are k within)));
       said = said_more known heads c.args.chosen.now k c.index-in-segments.result.now c.index-in-segments.ensures within (table_of c.segments.whole) (table_of c.append_segment.new.whole) done.0
           c.segments.invariant.said done.1 done.2;
     }
@@ -90,7 +90,7 @@ returns-clause-opened g c = λ t notes kinds are.
     let heads = c.args.self.now.heads.items in
     let past : length heads ≤ c.segments.k = search rules in
     c.segments.invariant.first t notes kinds are
-    ∙ ap (λ (rows : List FedRow). chosen_table c.args.chosen.now (with_only t rows)) (rows_all known heads t notes kinds are c.segments.k past))
+    ∙ ap (λ (rows : List SourcedRow). chosen_table c.args.chosen.now (with_only t rows)) (rows_all known heads t notes kinds are c.segments.k past))
 
 pub returns-clause-there : goal.returns-clause-there
 returns-clause-there g c = λ t notes kinds are.

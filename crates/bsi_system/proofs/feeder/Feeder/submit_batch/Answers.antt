@@ -2,7 +2,7 @@ use Rattle.std.proofs.Common.{◌≡◌, ◌+◌, ◌∷◌, [], ◌++◌, All, 
 use Rattle.std.proofs.lemmas.List.{length-map}
 use Rattle.rtrb.specs.Ring.{known_free, sent}
 use Rattle.bsi_rows.specs.RowBlocks.{entries_of, HaveSameLimits}
-use Rattle.bsi_rows.specs.Rows.{FedRow}
+use Rattle.bsi_rows.specs.Rows.{SourcedRow}
 use Rattle.bsi_rows.specs.Table.{AreFitting}
 use Rattle.bsi_system.specs.declared.message.Message.TheVariants.{Batch}
 use Rattle.bsi_system.specs.Rings.{all_rows, ring_of, rows_of, with_look, with_sent_rows, IsMessageFor, Look}
@@ -18,7 +18,7 @@ invariant_of-self-2 c =
     let alike : HaveSameLimits batch.schema l.schema.value = subst (λ s. HaveSameLimits batch.schema s) c.deref.ensures (c.has_limits_of.ensures.alike.0 c.if-not-has_limits_of.false) in
     let is : IsMessageFor l.schema.value p = subst (λ b. HaveSameLimits b.schema l.schema.value × Rattle.bsi_system.specs.Rings.AllFit l.schema.value (entries_of b.rows)) (sym c.new.ensures)
     (alike, entries_fit l.schema.value batch.rows (subst (λ s. AreFitting s.columns batch.rows) c.deref.ensures (c.has_limits_of.ensures.fits c.if-not-has_limits_of.false))) in
-    let many : length (rows_of p) ≡ length batch.rows = ap (λ b. length (entries_of b.rows)) c.new.ensures ∙ length-map batch.rows (λ (row : FedRow). row.1) in
+    let many : length (rows_of p) ≡ length batch.rows = ap (λ b. length (entries_of b.rows)) c.new.ensures ∙ length-map batch.rows (λ (row : SourcedRow). row.1) in
     let now : sent c.push_reserved.new.self ≡ sent l.ring ++ p ∷ [] = c.push_reserved.ensures.sent.0 ∙ ap (λ ps. ps ++ p ∷ []) c.spend_credits.ensures.looked.1 in
     let counts = c.spend_credits.new.credits in
     let counted = one_sent l.schema.value (sent l.ring) p (counts.acked + counts.in_flight) c.self.invariant.0 is

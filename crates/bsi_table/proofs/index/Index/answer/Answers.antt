@@ -4,20 +4,20 @@ use Rattle.bsi_shift.specs.Shifted.{shifted_entries}
 use Rattle.bsi_rows.specs.declared.query.Answer.TheVariants.{Count}
 use Rattle.bsi_rows.specs.Answers.{IsTotal}
 use Rattle.bsi_rows.specs.Rows.{holds}
-use Rattle.bsi_table.specs.Encoded.{encoded_at, fed_rows, rows_in}
+use Rattle.bsi_table.specs.Encoded.{sourced_rows, encoded_at, rows_in}
 use Rattle.std.proofs.lemmas.List.{length-map}
 use Rattle.std.proofs.lemmas.Result.{IfOk-weaker}
 use Rattle.bsi_table.specs.Totals.{IsTotalAt}
 use Rattle.bsi_table.proofs.Selections.{length-places}
 use Rattle.bsi_table.proofs.SelectedTotals.{total_selected}
-use Rattle.bsi_table.proofs.TableRows.{length-fed_rows, map-fed_rows}
+use Rattle.bsi_table.proofs.TableRows.{length-sourced_rows, map-sourced_rows}
 use Rattle.bsi_table.proofs.index.Index.answer.Goals as goal
 
 pub count_selected-requires-clause-even : goal.count_selected-requires-clause-even
 count_selected-requires-clause-even c =
     let encoded = c.self.inside.columns.items in
     let invariant = c.self.invariant.0.columns_are in
-    let rows = sym (length-fed_rows c.self.inside.origins.rows encoded) ∙ ap (λ t. length t.rows) c.self.view_is ∙ sym c.len-rows.ensures.len in
+    let rows = sym (length-sourced_rows c.self.inside.origins.rows encoded) ∙ ap (λ t. length t.rows) c.self.view_is ∙ sym c.len-rows.ensures.len in
     subst (λ columns. (k : ℕ) → k < length columns → length (shifted_entries (encoded_at columns k)) ≡ c.len-rows.result) (sym c.deref-columns.ensures.value)
     (λ k within. (invariant.each k (omega (arith, within, invariant.long))).rows ∙ rows)
 
@@ -28,16 +28,16 @@ returns-in-Count-clause-answer c =
     let row_feeders = c.self.inside.origins.rows in
     let encoded = c.self.inside.columns.items in
     let invariant = c.self.invariant.0.columns_are in
-    let long = c.len-rows.ensures.len ∙ ap (λ t. length t.rows) (sym c.self.view_is) ∙ length-fed_rows row_feeders encoded in
-    let all = map (λ row. holds pred row.1) (fed_rows row_feeders encoded) in
+    let long = c.len-rows.ensures.len ∙ ap (λ t. length t.rows) (sym c.self.view_is) ∙ length-sourced_rows row_feeders encoded in
+    let all = map (λ row. holds pred row.1) (sourced_rows row_feeders encoded) in
     let selected = c.in_ok-count_selected.field-0 in
     let counted : selected ≡ count_by (λ b. b) all =
     c.in_ok-count_selected.ensures.counted
     ∙ ap₂ (λ columns n. count_by (λ b. b) (map (holds pred) (rows_in columns n))) c.deref-columns.ensures.value long
-    ∙ ap (count_by (λ b. b)) (sym (map-fed_rows row_feeders encoded (holds pred))) in
-    let selection = sym (length-places (0, []) (λ row. holds pred row.1) (fed_rows row_feeders encoded)) in
+    ∙ ap (count_by (λ b. b)) (sym (map-sourced_rows row_feeders encoded (holds pred))) in
+    let selection = sym (length-places (0, []) (λ row. holds pred row.1) (sourced_rows row_feeders encoded)) in
     subst (λ rows. IsTotal c.args.query.now.total pred rows (Count selected)) (ap (λ t. t.rows) c.self.view_is)
-    (subst (λ t. IsTotal t pred (fed_rows row_feeders encoded) (Count selected)) (sym c.in-Count.is) (ap Count (counted ∙ selection)))
+    (subst (λ t. IsTotal t pred (sourced_rows row_feeders encoded) (Count selected)) (sym c.in-Count.is) (ap Count (counted ∙ selection)))
 
 -- a selection of the rows that the predicate selects has a bit for each row
 pub total-requires-clause-bits : goal.total-requires-clause-bits

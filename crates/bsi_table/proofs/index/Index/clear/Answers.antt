@@ -5,7 +5,7 @@ use Rattle.bsi_schema.specs.Columns.{column_at}
 use Rattle.bsi_table.specs.Encoded.{encoded_at, AreEncoded}
 use Rattle.bsi_rows.specs.Table.{no_rows, table}
 use Rattle.bsi_table.proofs.Keeping.{encodes_none}
-use Rattle.bsi_table.proofs.TableRows.{fed_rows-none, length-fed_rows}
+use Rattle.bsi_table.proofs.TableRows.{sourced_rows-none, length-sourced_rows}
 use Rattle.bsi_table.proofs.index.Index.clear.Goals as goal
 
 -- the columns are kept as they were, with no row
@@ -13,7 +13,7 @@ pub invariant_of-self : goal.invariant_of-self
 invariant_of-self c =
     let i = c.self.inside in
     let was = c.self.invariant.0 in
-    let lens = ap (λ t. length t.rows) (sym c.self.view_is) ∙ length-fed_rows i.origins.rows i.columns.items in
+    let lens = ap (λ t. length t.rows) (sym c.self.view_is) ∙ length-sourced_rows i.origins.rows i.columns.items in
     let e = c.clear_rows.ensures in
     let columns = i.schema.value.columns in
     let new = c.clear_rows.new.columns.items in
@@ -42,5 +42,5 @@ invariant_of-self c =
 pub returns-clause-table : goal.returns-clause-table
 returns-clause-table c =
     let i = c.self.inside in
-    ap₂ (λ feeders rows. table i.schema.value feeders i.limit rows) c.clear_rows.ensures.feeders (fed_rows-none c.clear_rows.new.origins.rows c.clear_rows.new.columns.items c.clear_rows.ensures.rows)
+    ap₂ (λ feeders rows. table i.schema.value feeders i.limit rows) c.clear_rows.ensures.feeders (sourced_rows-none c.clear_rows.new.origins.rows c.clear_rows.new.columns.items c.clear_rows.ensures.rows)
     ∙ ap (λ t. no_rows t.schema t.feeders t.limit) c.self.view_is

@@ -1,12 +1,12 @@
 use Rattle.std.proofs.Common.{◌<◌, ℕ, List, length, ap, ap₂, sym, subst, arith, ◌∙◌}
 use Rattle.bsi_shift.specs.Shifted.{OffsetColumn}
 use Rattle.bsi_schema.specs.Columns.{Declared}
-use Rattle.bsi_rows.specs.Rows.{FedRow}
+use Rattle.bsi_rows.specs.Rows.{SourcedRow}
 use Rattle.bsi_table.specs.Index.{table_of}
-use Rattle.bsi_table.specs.Encoded.{encoded_at, fed_rows, IsSameColumn, IsTable}
+use Rattle.bsi_table.specs.Encoded.{sourced_rows, encoded_at, IsSameColumn, IsTable}
 use Rattle.bsi_rows.specs.Table.{Table}
 use Rattle.bsi_table.proofs.Keeping.{are_encoded_same}
-use Rattle.bsi_table.proofs.TableRows.{fed_rows-same}
+use Rattle.bsi_table.proofs.TableRows.{sourced_rows-same}
 use Rattle.bsi_table.proofs.index.Index.copy.Goals as goal
 
 pub invariant_of-result : goal.invariant_of-result
@@ -45,6 +45,6 @@ returns c =
     let long = c.in_ok-columns.ensures.long ∙ ap length c.deref.ensures.value in
     let same : (k : ℕ) → k < length old → IsSameColumn (encoded_at old k) (encoded_at new k) =
     subst (λ (columns : List OffsetColumn). (k : ℕ) → k < length columns → IsSameColumn (encoded_at columns k) (encoded_at new k)) c.deref.ensures.value c.in_ok-columns.ensures.same in
-    let rows = ap (λ xs. fed_rows xs new) row_feeders ∙ fed_rows-same i.origins.rows old new long (λ k within. (same k within).entries) in
-    let table : Declared → ℕ → List FedRow → Table = λ schema n rows. record { schema = schema; feeders = n; limit = i.limit; rows = rows } in
-    ap (λ n. table c.in_ok-schema.schema.value n (fed_rows c.in_ok-origins.origins.rows new)) feeders ∙ ap₂ (λ schema rows. table schema i.origins.feeders rows) c.in_ok-schema.ensures rows ∙ ap table_of c.self.view_is
+    let rows = ap (λ xs. sourced_rows xs new) row_feeders ∙ sourced_rows-same i.origins.rows old new long (λ k within. (same k within).entries) in
+    let table : Declared → ℕ → List SourcedRow → Table = λ schema n rows. record { schema = schema; feeders = n; limit = i.limit; rows = rows } in
+    ap (λ n. table c.in_ok-schema.schema.value n (sourced_rows c.in_ok-origins.origins.rows new)) feeders ∙ ap₂ (λ schema rows. table schema i.origins.feeders rows) c.in_ok-schema.ensures rows ∙ ap table_of c.self.view_is

@@ -6,7 +6,7 @@ use Rattle.bsi_rows.specs.Table.{encoded_as, with_rows}
 use Rattle.bsi_table.specs.Encoded.{encoded_at, AreAlikeColumns, HasMore}
 use Rattle.bsi_table.proofs.Growing.{grown_room, grown_rows, grown_table}
 use Rattle.bsi_table.proofs.Joining.{alike_others, even_others, feeders-joined, joined, joined_fit, joined_from, joined_more, length-joined, long_others}
-use Rattle.bsi_table.proofs.TableRows.{length-fed_rows}
+use Rattle.bsi_table.proofs.TableRows.{length-sourced_rows}
 use Rattle.bsi_table.proofs.index.Index.push_index.Goals as goal
 
 -- the other index keeps its columns alike
@@ -37,12 +37,12 @@ push_all-requires-clause-even c = λ k within.
 -- there is room for its rows
 pub push_all-requires-clause-room : goal.push_all-requires-clause-room
 push_all-requires-clause-room c = λ k within.
-    let rows = ap (λ t. length t.rows) (sym c.other.view_is) ∙ length-fed_rows c.other.inside.origins.rows c.other.inside.columns.items in
+    let rows = ap (λ t. length t.rows) (sym c.other.view_is) ∙ length-sourced_rows c.other.inside.origins.rows c.other.inside.columns.items in
     omega (arith, c.self.invariant.1.columns k within, c.requires.room, ap (λ t. t.room) c.self.view_is, rows)
 
 pub push_all-requires-clause-reserved : goal.push_all-requires-clause-reserved
 push_all-requires-clause-reserved c =
-    let rows = ap (λ t. length t.rows) (sym c.other.view_is) ∙ length-fed_rows c.other.inside.origins.rows c.other.inside.columns.items in
+    let rows = ap (λ t. length t.rows) (sym c.other.view_is) ∙ length-sourced_rows c.other.inside.origins.rows c.other.inside.columns.items in
     omega (arith, c.self.invariant.1.origins, c.requires.room, ap (λ t. t.room) c.self.view_is, rows)
 
 pub push_all-requires-clause-feeders : goal.push_all-requires-clause-feeders
@@ -70,8 +70,8 @@ invariant_of-self c =
     let many = length-joined i.schema.value o.schema.value i.limit o.limit i.origins o.origins encoded others c.self.invariant.0 c.other.invariant.0 alike f enough in
     let row_feeders = c.push_all.ensures.rows
     ∙ ap (λ ys. i.origins.rows ++ ys) (feeders-joined i.schema.value o.schema.value i.limit o.limit i.origins o.origins encoded others c.self.invariant.0 c.other.invariant.0 alike f enough) in
-    let before = ap (λ t. length t.rows) (sym c.self.view_is) ∙ length-fed_rows i.origins.rows encoded in
-    let counted = ap (λ t. length t.rows) (sym c.other.view_is) ∙ length-fed_rows o.origins.rows others in
+    let before = ap (λ t. length t.rows) (sym c.self.view_is) ∙ length-sourced_rows i.origins.rows encoded in
+    let counted = ap (λ t. length t.rows) (sym c.other.view_is) ∙ length-sourced_rows o.origins.rows others in
     let room : length rows ≤ i.room = omega (arith, many, counted, c.requires.room, ap (λ t. t.room) c.self.view_is) in (
       grown_table i.schema.value i.limit i.origins encoded c.self.invariant.0 rows fit from pushed c.push_all.ensures.long more
           c.push_all.new.origins row_feeders c.push_all.ensures.feeders (omega (arith, many, counted, before, c.requires.within, ap (λ t. t.limit) c.self.view_is)),
