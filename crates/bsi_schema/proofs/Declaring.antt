@@ -1,5 +1,5 @@
 -- Each column of a schema may follow those before it, and a column that may is not refused.
-use Rattle.std.proofs.Common.{◌≡◌, ℕ, ◌<◌, ◌≤◌, Bool, true, false, ◌||◌, List, [], ◌∷◌, ◌++◌, length, take, refl, sym, ap, ap₂, ◌∙◌, subst, arith, inl, inr, ℤ, pos, ◌+ℤ◌, ◌≤ℤ◌, Option, Some, None, IsTrue, is_some, option_map, nat_eq, nat_lt, nat_le, if◌then◌else◌, length-append}
+use Rattle.std.proofs.Common.{◌≡◌, ℕ, ◌<◌, ◌≤◌, Bool, true, false, ◌||◌, List, [], ◌∷◌, ◌++◌, length, take, refl, sym, ap, ap₂, ◌∙◌, subst, arith, inl, inr, ℤ, pos, ◌+ℤ◌, ◌≤ℤ◌, Option, Some, None, IsTrue, is_some, not, option_map, nat_eq, nat_lt, nat_le, if◌then◌else◌, length-append}
 use Rattle.std.specs.Prelude.{int_lt}
 use Rattle.std.specs.Option.{option_or}
 use Rattle.std.proofs.lemmas.Bool.Decides.{nat_tests}
@@ -16,7 +16,7 @@ use Rattle.bsi_schema.specs.Refusals.{column_refusal, form_refusal, name_refusal
 use Rattle.bsi_schema.specs.declared.form.ColumnSpec.{ColumnSpec}
 use Rattle.bsi_schema.specs.declared.form.ColumnSpec.TheVariants.{Slices, Equality, Range}
 use Rattle.bsi_schema.specs.declared.schema_error.SchemaError.{SchemaError}
-use Rattle.bsi_schema.specs.declared.schema_error.SchemaError.TheVariants.{BadBases, BadOffset}
+use Rattle.bsi_schema.specs.declared.schema_error.SchemaError.TheVariants.{BadBases, BadName, BadOffset, NameTaken, TooManyColumns}
 
 -- an offset more or less
 signed_before : (a b : Bool) → a || b ≡ false → (a ≡ false) × (b ≡ false)
@@ -50,6 +50,27 @@ module _ (schema : Declared) (column : NamedColumn) (signed : Bool) where
 
       more : List NamedColumn
       more = schema.columns ++ column ∷ []
+
+-- a name that is not refused: it is valid and free, and there is room for a column
+pub free_name : (schema : Declared) (name : List ℕ) → name_refusal schema name ≡ None
+    → IsTrue (is_name name) × (position_of schema.columns name ≡ None) × (length schema.columns < max_columns)
+free_name schema name none =
+    let tests = by (is_name name) (is_some (position_of schema.columns name)) (nat_le max_columns (length schema.columns)) none in
+    (tests.0, no_position (position_of schema.columns name) tests.1, few tests.2)
+  where
+    by : (a b c : Bool) → (if not a then Some BadName else (if b then Some NameTaken else (if c then Some TooManyColumns else None))) ≡ None
+        → (a ≡ true) × (b ≡ false) × (c ≡ false)
+    by false b c e = absurd (cc (e))
+    by true true c e = absurd (cc (e))
+    by true false true e = absurd (cc (e))
+    by true false false e = (refl, refl, refl)
+
+    no_position : (o : Option ℕ) → is_some o ≡ false → o ≡ None
+    no_position None e = refl
+    no_position (Some at) e = absurd (cc (e))
+
+    few : nat_le max_columns (length schema.columns) ≡ false → length schema.columns < max_columns
+    few e = grind (arith, nat_tests)
 
 -- ---- a column that may follow is not refused
 

@@ -1,4 +1,5 @@
 use Rattle.std.proofs.Common.{rules}
+use Rattle.bsi_schema.proofs.Declaring.{free_name}
 use Rattle.bsi_schema.proofs.schema.Schema.add_signed.Goals as goal
 
 pub returns-in_err-form-clause-added : goal.returns-in_err-form-clause-added
@@ -27,6 +28,15 @@ returns-then-from-gt-MAX_END-clause-refused c = search rules
 
 pub returns-then-from-gt-MAX_END-clause-unchanged : goal.returns-then-from-gt-MAX_END-clause-unchanged
 returns-then-from-gt-MAX_END-clause-unchanged c = search rules
+
+pub push-requires-clause-fresh : goal.push-requires-clause-fresh
+push-requires-clause-fresh c = (free_name c.args.self.now c.args.name.now c.in_ok-form.ensures.free).1
+
+pub push-requires-clause-name : goal.push-requires-clause-name
+push-requires-clause-name c = (free_name c.args.self.now c.args.name.now c.in_ok-form.ensures.free).0
+
+pub push-requires-clause-few : goal.push-requires-clause-few
+push-requires-clause-few c = (free_name c.args.self.now c.args.name.now c.in_ok-form.ensures.free).2
 
 pub push-requires-clause-form : goal.push-requires-clause-form
 push-requires-clause-form c = search rules
