@@ -103,34 +103,27 @@ abbrev pub LeavesAnswers : {S : Type 0} → (S → KnownBytes) → Bool → Know
 LeavesAnswers rem so_far asks before after fault =
     LeavesWhole rem so_far asks before after fault ⊎ LeavesNamed rem so_far asks before after fault
 
--- A text that says what `Is` has of a saved table was written to the output.
-pub record HasSaid {S : Type 0} (Is : TableSchema → Table → Bytes → Type 0) (rem : S → KnownBytes) (before after : KnownBytes) : Type 0 where
+-- A text says what `Is` has of a saved table.
+pub record IsSaidOf {S : Type 0} (Is : TableSchema → Table → Bytes → Type 0) (rem : S → KnownBytes) (text : Bytes) : Type 0 where
   -- The saved table.
   pub table : Table
   -- The schema of its columns.
   pub schema : TableSchema
   -- They were opened from a file, which was read to its end.
   pub opened : IsOpenedAs rem false table schema
-  -- The text.
-  pub text : Bytes
-  -- It says this of the table.
+  -- The text says this of the table.
   pub is : Is schema table text
-  -- The text was appended to the output.
+
+-- Such a text was written to the output.
+pub record HasSaid {S : Type 0} (Is : TableSchema → Table → Bytes → Type 0) (rem : S → KnownBytes) (before after : KnownBytes) : Type 0 where
+  pub text : Bytes
+  pub said : IsSaidOf Is rem text
   pub written : Appends before after text
 
 -- A prefix of such a text was written to the output.
 pub record HasSaidPrefix {S : Type 0} (Is : TableSchema → Table → Bytes → Type 0) (rem : S → KnownBytes) (before after : KnownBytes) : Type 0 where
-  -- The saved table.
-  pub table : Table
-  -- The schema of its columns.
-  pub schema : TableSchema
-  -- They were opened from a file, which was read to its end.
-  pub opened : IsOpenedAs rem false table schema
-  -- The text.
   pub text : Bytes
-  -- It says this of the table.
-  pub is : Is schema table text
-  -- A prefix of the text was appended to the output.
+  pub said : IsSaidOf Is rem text
   pub cut : AppendsPrefix before after text
 
 -- What a fault leaves of such a text: nothing or, if the output can't be written, a prefix.

@@ -2,7 +2,7 @@
 
 ghost use Rattle.std.specs.Prelude.{◌≡◌, ◌<◌, ◌++◌, IfErr, IfOk, length, OnOk};
 ghost use Rattle.bsi_schema.specs.Columns.{column_at};
-ghost use Rattle.bsi_store.specs.Asked.{HasReadWhole, HasShown, LeavesRowCount, LeavesShown};
+ghost use Rattle.bsi_store.specs.Asked.{HasReadWhole, HasShown, IsSaidOf, LeavesRowCount, LeavesShown};
 ghost use Rattle.bsi_store.specs.Faults.{IsOfFile, NamesPath};
 ghost use Rattle.bsi_store.specs.Lines.{bitmap_bytes, size_lines, AreRecordsOf, IsShownText};
 ghost use Rattle.bsi_table.specs.Index.{table_of};
@@ -32,10 +32,22 @@ pub fn show_index<'a, R: AllocGlobal + Files<File = S>, S: Read + LockFile + Dro
     ensures prefix { IfErr result (λ fault. LeavesShown S.remaining fault
         (O.contents output.old) (O.contents output.new)) }
 {
-    let opened = open_index(rt, path, false)?;
-    let text = describe_index(rt.alloc(), &opened.saved.index, &opened.schema)?;
+    let text = describe_saved(rt, path)?;
     write_bytes(output, text.as_slice())?;
     Ok(())
+}
+
+/// Reads a saved index, and makes its description.
+fn describe_saved<'a, R: AllocGlobal + Files<File = S>, S: Read + LockFile + Drop>(
+    rt: &R,
+    path: &'a str,
+) -> Result<Vec<u8>, StoreFault<'a>>
+    ensures described { IfOk result (λ text. IsSaidOf IsShownText S.remaining text.items) }
+    ensures named { IfErr result (NamesPath (λ named. named ≡ path.entry)) }
+    ensures fault { IfErr result (IsOfFile S.remaining) }
+{
+    let opened = open_index(rt, path, false)?;
+    Ok(describe_index(rt.alloc(), &opened.saved.index, &opened.schema)?)
 }
 
 /// Reads all of a saved index, and writes how many rows it has.
