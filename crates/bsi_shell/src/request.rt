@@ -221,16 +221,30 @@ fn parse_words<'a>(alloc: Global, words: &'a [String]) -> Result<Request<'a>, Er
 {
     let matches = commands(alloc)?.try_get_matches_from(words)?;
     // The first word names a command, since no option stands before it.
-    match (matches.subcommand(), subcommand_of(words)) {
-        (Some(("script", _)), Subcommand::Script) => Ok(Request::Script),
-        (Some(("files", given)), Subcommand::Files) => Ok(read_paths(alloc, given)?),
-        (Some(("check", given)), Subcommand::Check) => Ok(read_check_paths(alloc, given)?),
-        (Some(("save", given)), Subcommand::Save) => Ok(read_save_paths(alloc, given)?),
-        (Some(("schema", given)), Subcommand::Schema) => Ok(read_schema_paths(alloc, given)?),
-        (Some(("add", given)), Subcommand::Add) => Ok(read_add_paths(alloc, given)?),
-        (Some(("ask", given)), Subcommand::Ask) => Ok(read_ask_paths(given)),
-        (Some(("show", given)), Subcommand::Show) => Ok(read_show_path(given)),
-        _ => Ok(Request::Wrong),
+    match matches.subcommand() {
+        Some((_, given)) => Ok(read_arguments(alloc, subcommand_of(words), given)?),
+        None => Ok(Request::Wrong),
+    }
+}
+
+/// Reads what a command is to do from its matches.
+fn read_arguments<'a>(
+    alloc: Global,
+    command: Subcommand,
+    given: &ArgMatches<'a>,
+) -> Result<Request<'a>, AllocError>
+    ensures { IfOk result (IsRequestOf command) }
+{
+    match command {
+        Subcommand::Script => Ok(Request::Script),
+        Subcommand::Files => read_paths(alloc, given),
+        Subcommand::Check => read_check_paths(alloc, given),
+        Subcommand::Save => read_save_paths(alloc, given),
+        Subcommand::Schema => read_schema_paths(alloc, given),
+        Subcommand::Add => read_add_paths(alloc, given),
+        Subcommand::Ask => Ok(read_ask_paths(given)),
+        Subcommand::Show => Ok(read_show_path(given)),
+        Subcommand::Help => Ok(Request::Wrong),
     }
 }
 

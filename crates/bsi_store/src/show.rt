@@ -4,7 +4,7 @@ ghost use Rattle.std.specs.Prelude.{◌≡◌, ◌<◌, ◌++◌, IfErr, IfOk, l
 ghost use Rattle.bsi_schema.specs.Columns.{column_at};
 ghost use Rattle.bsi_store.specs.Asked.{HasReadWhole, HasShown, IsSaidOf, LeavesRowCount, LeavesShown};
 ghost use Rattle.bsi_store.specs.Faults.{IsOfFile, NamesPath};
-ghost use Rattle.bsi_store.specs.Lines.{bitmap_bytes, size_lines, AreRecordsOf, IsShownText};
+ghost use Rattle.bsi_store.specs.Lines.{bitmap_bytes, size_lines, AreRecordsOf, IsRowCount, IsShownText};
 ghost use Rattle.bsi_table.specs.Index.{table_of};
 
 use crate::StoreFault;
@@ -63,11 +63,24 @@ pub fn check_index<'a, R: AllocGlobal + Files<File = S>, S: Read + LockFile + Dr
     ensures prefix { IfErr result (λ fault. LeavesRowCount S.remaining fault
         (O.contents output.old) (O.contents output.new)) }
 {
+    let line = count_rows(rt, path)?;
+    write_bytes(output, line.as_slice())?;
+    Ok(())
+}
+
+/// Reads all of a saved index, and makes the line of how many rows it has.
+fn count_rows<'a, R: AllocGlobal + Files<File = S>, S: Read + LockFile + Drop>(
+    rt: &R,
+    path: &'a str,
+) -> Result<Vec<u8>, StoreFault<'a>>
+    ensures counted { IfOk result (λ line. IsSaidOf IsRowCount S.remaining line.items) }
+    ensures named { IfErr result (NamesPath (λ named. named ≡ path.entry)) }
+    ensures fault { IfErr result (IsOfFile S.remaining) }
+{
     let opened = open_index(rt, path, false)?;
     let mut line = Vec::new(rt.alloc());
     push_count_line("rows", opened.saved.index.len(), &mut line)?;
-    write_bytes(output, line.as_slice())?;
-    Ok(())
+    Ok(line)
 }
 
 /// Makes the description of an index.

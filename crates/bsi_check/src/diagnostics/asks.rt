@@ -25,13 +25,22 @@ pub fn why_no_ask(
     line: u64,
 ) -> Result<String, NoMemory> {
     let lent = lend_fields(alloc, fields)?;
-    let mut why = match read_question(alloc, schema, Grammar::Index, &lent) {
-        Ok(_) => why_of_ask_alone(alloc, schema, &lent)?,
-        Err(QuestionError::Stopped(stop)) => why_stopped(alloc, schema, &lent, stop)?,
-        Err(QuestionError::NoMemory) => return Err(NoMemory),
-    };
+    let mut why = why_fields_ask_nothing(alloc, schema, &lent)?;
     add_line_ends(fields, line, &mut why)?;
     Ok(why)
+}
+
+/// Returns why fields are none of the asks, as `why_no_ask` does, but for line ends.
+fn why_fields_ask_nothing(
+    alloc: Global,
+    schema: &TableSchema,
+    fields: &[&[u8]],
+) -> Result<String, NoMemory> {
+    match read_question(alloc, schema, Grammar::Index, fields) {
+        Ok(_) => why_of_ask_alone(alloc, schema, fields),
+        Err(QuestionError::Stopped(stop)) => why_stopped(alloc, schema, fields, stop),
+        Err(QuestionError::NoMemory) => Err(NoMemory),
+    }
 }
 
 /// Returns why no question goes on from a stop.
